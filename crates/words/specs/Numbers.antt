@@ -1,0 +1,41 @@
+-- Numbers of k bytes, low byte first ("two-byte numbers in files are low byte first"), and adjusting one.
+-- Everything is said over the width k: a byte is k = 1, a word k = 2, a number of the answer k = 4.
+-- Assumes nothing.
+use mathlib.Core.List.{List, [], _∷_, _++_}
+use Prim.Native.Nat.{ℕ, zero, suc, _+_, _-_, _*_, _/_, _%_, _^_}
+use Rattle.words.specs.Runs.{part, put}
+
+-- the number that a run of bytes holds
+unfoldable pub number : List ℕ → ℕ
+number [] = 0
+number (b ∷ bs) = b + 256 * number bs
+
+-- the k low bytes of v
+unfoldable pub digits : ℕ → ℕ → List ℕ
+digits zero v = []
+digits (suc k) v = v % 256 ∷ digits k (v / 256)
+
+-- the number in the k bytes of l from i on
+unfoldable pub value : ℕ → List ℕ → ℕ → ℕ
+value k l i = number (part l i k)
+
+-- l with v in those k bytes
+unfoldable pub store : ℕ → List ℕ → ℕ → ℕ → List ℕ
+store k l i v = put l i (digits k v)
+
+-- v with the amount a on, "modulo 65,536 for words, 256 for bytes"
+unfoldable pub on : ℕ → ℕ → ℕ → ℕ
+on k a v = (v + a) % 256 ^ k
+
+-- v with the amount a off: what comes to v modulo 256 ^ k with a on (`on-off`)
+unfoldable pub off : ℕ → ℕ → ℕ → ℕ
+off k a v = (v + (256 ^ k - a % 256 ^ k)) % 256 ^ k
+
+-- l with g of it in place of the number in the k bytes from i on
+unfoldable pub change : ℕ → (ℕ → ℕ) → List ℕ → ℕ → List ℕ
+change k g l i = store k l i (g (value k l i))
+
+-- the numbers vs, k bytes each
+unfoldable pub encoded : ℕ → List ℕ → List ℕ
+encoded k [] = []
+encoded k (v ∷ vs) = digits k v ++ encoded k vs

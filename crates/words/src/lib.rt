@@ -1,0 +1,116 @@
+// Bytes and words in a buffer, low byte first: reading, storing, filling, copying, adjusting.
+// A leaf: it knows no file format. Each `requires` is a bound that the caller has looked at; the crates above know these functions only by
+// what they promise, in the terms of specs/.
+ghost use mathlib.Core.Path.{_≡_};
+ghost use Prim.Native.Nat.{_+_, _<_, _≤_};
+ghost use lib.ListN.{length, replicate};
+ghost use Rattle.words.specs.Runs.{allZero};
+ghost use Rattle.words.specs.Numbers.{value, store, on, off, change};
+
+// A byte as a wider number: a call asks for no bound on the byte, and gives one.
+pub fn wide(byte: u8) -> usize
+    ensures { λ r. ⌜ (r ≡ byte) × (r < 256) ⌝ }
+{
+    byte as usize
+}
+
+// The word at `at`.
+pub fn word_at(bytes: &[u8], at: usize) -> u16
+    requires { ⌜ at + 2 ≤ length (now bytes) ⌝ }
+    ensures { λ r. ⌜ r ≡ value 2 (now (bytes .entry)) at ⌝ }
+{
+    let low = wide(bytes[at]);
+    let high = wide(bytes[at + 1]);
+    (low + 256 * high) as u16
+}
+
+// Whether every byte is zero.
+pub fn is_zero(bytes: &[u8]) -> bool
+    ensures { λ r. ⌜ r ≡ allZero (now (bytes .entry)) ⌝ }
+{
+    let mut i = 0;
+    while i < bytes.len() {
+        if bytes[i] != 0 {
+            return false;
+        }
+        i += 1;
+    }
+    true
+}
+
+// The word in the two bytes at `at`.
+pub fn put_word(bytes: &mut [u8], at: usize, word: u16)
+    requires { ⌜ at + 2 ≤ length (now bytes) ⌝ }
+    ensures { λ _. ⌜ now (bytes .exit) ≡ store 2 (now (bytes .entry)) at word ⌝ }
+{
+    bytes[at] = (word % 256) as u8;
+    bytes[at + 1] = (word / 256 % 256) as u8;
+}
+
+// The number in the four bytes at `at`.
+pub fn put_number(bytes: &mut [u8], at: usize, number: u32)
+    requires { ⌜ at + 4 ≤ length (now bytes) ⌝ }
+    ensures { λ _. ⌜ now (bytes .exit) ≡ store 4 (now (bytes .entry)) at number ⌝ }
+{
+    bytes[at] = (number % 256) as u8;
+    bytes[at + 1] = (number / 256 % 256) as u8;
+    bytes[at + 2] = (number / 256 / 256 % 256) as u8;
+    bytes[at + 3] = (number / 256 / 256 / 256 % 256) as u8;
+}
+
+// The same byte everywhere.
+pub fn fill(bytes: &mut [u8], byte: u8)
+    ensures { λ _. ⌜ now (bytes .exit) ≡ replicate (length (now (bytes .entry))) byte ⌝ }
+{
+    let mut i = 0;
+    while i < bytes.len() {
+        bytes[i] = byte;
+        i += 1;
+    }
+}
+
+// All of `from`, into a run as long.
+pub fn copy(to: &mut [u8], from: &[u8])
+    requires { ⌜ length (now from) ≡ length (now to) ⌝ }
+    ensures { λ _. ⌜ now (to .exit) ≡ now (from .entry) ⌝ }
+{
+    let mut i = 0;
+    while i < from.len() {
+        to[i] = from[i];
+        i += 1;
+    }
+}
+
+// The amount on the byte at `at`, modulo 256.
+pub fn add_to_byte(bytes: &mut [u8], at: usize, amount: u16)
+    requires { ⌜ at + 1 ≤ length (now bytes) ⌝ }
+    ensures { λ _. ⌜ now (bytes .exit) ≡ change 1 (on 1 amount) (now (bytes .entry)) at ⌝ }
+{
+    bytes[at] = std::num::wrapping_add_u8(bytes[at], (amount % 256) as u8);
+}
+
+// The amount on the word at `at`, modulo 65,536.
+pub fn add_to_word(bytes: &mut [u8], at: usize, amount: u16)
+    requires { ⌜ at + 2 ≤ length (now bytes) ⌝ }
+    ensures { λ _. ⌜ now (bytes .exit) ≡ change 2 (on 2 amount) (now (bytes .entry)) at ⌝ }
+{
+    let word = word_at(bytes, at);
+    put_word(bytes, at, std::num::wrapping_add_u16(word, amount));
+}
+
+// The amount off the byte at `at`, modulo 256.
+pub fn take_off_byte(bytes: &mut [u8], at: usize, amount: u16)
+    requires { ⌜ at + 1 ≤ length (now bytes) ⌝ }
+    ensures { λ _. ⌜ now (bytes .exit) ≡ change 1 (off 1 amount) (now (bytes .entry)) at ⌝ }
+{
+    bytes[at] = std::num::wrapping_sub_u8(bytes[at], (amount % 256) as u8);
+}
+
+// The amount off the word at `at`, modulo 65,536.
+pub fn take_off_word(bytes: &mut [u8], at: usize, amount: u16)
+    requires { ⌜ at + 2 ≤ length (now bytes) ⌝ }
+    ensures { λ _. ⌜ now (bytes .exit) ≡ change 2 (off 2 amount) (now (bytes .entry)) at ⌝ }
+{
+    let word = word_at(bytes, at);
+    put_word(bytes, at, std::num::wrapping_sub_u16(word, amount));
+}
