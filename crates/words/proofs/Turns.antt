@@ -65,3 +65,6 @@ encode-more k vs d i h f =
     put-behind (encoded k (take i vs)) (digits k v) d (k * i) l room
     ∙ ap (λ (m : ℕ). encoded k (take i vs) ++ digits k v ++ drop (k * i + m) d) n
     ∙ rw (add-one, mul-suc, take-suc vs i 0 h, encoded-snoc)
+
+pub encode-all : (k : ℕ) (vs d : List ℕ) → length d ≡ k * length vs → encoded k (take (length vs) vs) ++ drop (k * length vs) d ≡ encoded k vs
+encode-all k vs d e = rw (take-length vs, ← e, drop-length d) (append-nil (encoded k vs))

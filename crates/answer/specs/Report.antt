@@ -1,0 +1,63 @@
+-- What a call reports, in numbers (document 01, "What the bench lends" and "Numbers a bench can show").
+-- Assumes nothing.
+use mathlib.Core.List.{List, [], _∷_}
+use Prim.Native.Nat.{ℕ}
+use lib.ListN.{getD}
+use Rattle.words.specs.Numbers.{encoded}
+use Rattle.answer.specs.declared.Fault.{Fault}
+use Rattle.answer.specs.declared.Fault.the-variants.{WrongBuffer, SettingOutOfRange, FileTooLong, WrongOpening, CutShort, NotKnown, BlockTaken, BlockMissing, LengthNotAllowed, DoesNotFit, CounterUnusable, FieldNotLoaded, AdjustedTwice, NameUnknown, TooManyNames, NameOutsideBlock, PiecesOverlap, FixupUnsuited, BytesAfterEnd, StartTooHigh}
+use Rattle.answer.specs.declared.Start.{Start}
+use Rattle.answer.specs.declared.Start.the-variants.{Absent, At}
+use Rattle.answer.specs.declared.Outcome.{Outcome}
+use Rattle.answer.specs.declared.Outcome.the-variants.{Accepted, Refused}
+
+-- the table "Numbers a bench can show"
+abbrev pub numberOf : Fault → ℕ
+numberOf WrongBuffer = 1  -- a lent buffer of another length; known names not eight bytes per address, or over 256
+numberOf SettingOutOfRange = 2  -- a setting outside its range
+numberOf FileTooLong = 3  -- file longer than 65,536
+numberOf WrongOpening = 4  -- wrong opening
+numberOf CutShort = 5  -- cut short
+numberOf NotKnown = 6  -- unknown type, flag, block number or memory kind
+numberOf BlockTaken = 7  -- block number used before, or an eighth relocatable block
+numberOf BlockMissing = 8  -- block not there yet
+numberOf LengthNotAllowed = 9  -- end below start, or a record length not allowed
+numberOf DoesNotFit = 10  -- doesn't fit
+numberOf CounterUnusable = 11  -- place not set, or counter too high
+numberOf FieldNotLoaded = 12  -- field not loaded
+numberOf AdjustedTwice = 13  -- byte adjusted twice
+numberOf NameUnknown = 14  -- name unknown
+numberOf TooManyNames = 15  -- a 33rd new name
+numberOf NameOutsideBlock = 16  -- new name outside its block
+numberOf PiecesOverlap = 17  -- two ACX pieces share an address
+numberOf FixupUnsuited = 18  -- fixup kind doesn't suit the code before it
+numberOf BytesAfterEnd = 19  -- bytes after the end record
+numberOf StartTooHigh = 20  -- start above 65,535
+
+-- "start present (1 or 0), start address", and "an absent number is zero wherever it is reported or written"
+abbrev pub present : Start → ℕ
+present Absent = 0
+present (At a) = 1
+
+abbrev pub address : Start → ℕ
+address Absent = 0
+address (At a) = a
+
+-- "nine four-byte numbers, .. in the order number, offset, side, start present, start address, placed, adjusted, new names, low".
+-- "An acceptance reports number 0"; "a refusal reports its number and the offset .., all else zero"
+abbrev pub numbersOf : Outcome → List ℕ
+numbersOf (Accepted start placed adjusted names low) =
+    0 ∷ 0 ∷ 0 ∷ present start ∷ address start ∷ placed ∷ adjusted ∷ names ∷ low ∷ []
+numbersOf (Refused fault offset side) = numberOf fault ∷ offset ∷ side ∷ 0 ∷ 0 ∷ 0 ∷ 0 ∷ 0 ∷ 0 ∷ []
+
+-- "the number is also returned"
+abbrev pub reported : Outcome → ℕ
+reported outcome = getD (numbersOf outcome) 0 0
+
+-- "an answer of 36 bytes"
+abbrev pub answerLength : ℕ
+answerLength = 36
+
+-- each number in four bytes, "low byte first"
+unfoldable pub answerBytes : Outcome → List ℕ
+answerBytes outcome = encoded 4 (numbersOf outcome)
