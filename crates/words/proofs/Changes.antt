@@ -1,6 +1,5 @@
 -- A number in a list replaced: over its width k and its index i. Adjusting one field after another, in any order, rests on these.
 -- Assumes nothing.
--- ---- a number read and stored
 use mathlib.Core.List.{List}
 use mathlib.Core.Path.{_≡_, sym, ap, _∙_}
 use Prim.Native.Nat.{ℕ, _+_, _%_, _^_, _≤_, _<_}
@@ -10,6 +9,8 @@ use Rattle.words.proofs.Numbers.{length-digits, bytes-digits, number-di
 use Rattle.words.proofs.Runs.{length-put, put-outside, put-comm, put-put, put-part, put-in-put, length-part, part-agrees, part-put, part-put-apart, part-part, put-inside, bytes-put, bytes-part}
 use Rattle.words.specs.Numbers.{number, digits, value, store, change}
 use Rattle.words.specs.Runs.{Bytes, Within, Apart, part, put}
+
+-- ---- a number read and stored
 
 pub value-lt : (k : ℕ) (l : List ℕ) (i : ℕ) → i + k ≤ length l → Bytes l → value k l i < 256 ^ k
 unfolding value

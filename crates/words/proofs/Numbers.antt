@@ -1,6 +1,5 @@
 -- Numbers and their bytes are one another's inverse, and so are an amount on and off. Each law once, over the width.
 -- Assumes nothing.
--- ---- a number and its bytes
 use mathlib.Core.List.{List, [], _∷_}
 use mathlib.Core.Path.{_≡_, refl, sym, ap, ap₂, _∙_}
 use Prim.Native.Nat.{ℕ, zero, suc, _+_, _-_, _*_, _/_, _%_, _^_, _≤_, _<_}
@@ -12,6 +11,8 @@ use lib.ListN.{length, getD, drop-of-length-le, length-append, List·getD-eq-def
 use lib.Seq.{drop-cons, take-nil}
 use Rattle.words.specs.Numbers.{number, digits, value, on, off, encoded}
 use Rattle.words.specs.Runs.{Bytes, part}
+
+-- ---- a number and its bytes
 
 pub length-digits : (k v : ℕ) → length (digits k v) ≡ k
 unfolding digits

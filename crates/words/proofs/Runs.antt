@@ -1,6 +1,5 @@
 -- Runs of bytes: lengths, what was written is read back, and what lies apart stays.
 -- Assumes nothing.
--- an address is in a run or not
 use mathlib.Core.Bool.{Bool, true, false, _&&_, false≢true}
 use mathlib.Core.List.{List, [], _∷_}
 use mathlib.Core.Path.{_≡_, refl, sym, ap, _∙_}
@@ -14,6 +13,7 @@ use lib.ListN.{length, getD, take, drop, set, length-set, length-take, length-dr
 use lib.Seq.{length-sets, ext-getD, getD-set-same, getD-set-other, set-set, set-comm, getD-take, getD-drop}
 use Rattle.words.specs.Runs.{Bytes, Within, Apart, part, put, allZero}
 
+-- an address is in a run or not
 pub within? : (a n x : ℕ) → Dec (Within a n x)
 within? a n x = both (decLe a x) (decLt x (a + n))
   where

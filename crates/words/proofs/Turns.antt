@@ -1,6 +1,5 @@
 -- One turn, and the end, of the loops that copy, that look for a byte other than zero and that write numbers in a row.
 -- Assumes nothing.
--- ---- copying
 use mathlib.Core.Bool.{false}
 use mathlib.Core.List.{List, [], _∷_, _++_, append-nil, append-assoc}
 use mathlib.Core.Path.{_≡_, refl, ap, _∙_}
@@ -14,6 +13,8 @@ use lib.Seq.{take-length, drop-length, take-at, drop-append-add, drop-drop, leng
 use Rattle.words.proofs.Numbers.{length-digits, length-encoded}
 use Rattle.words.specs.Numbers.{digits, store, encoded}
 use Rattle.words.specs.Runs.{put, allZero}
+
+-- ---- copying
 
 one-copied : (s d : List ℕ) (i : ℕ) → i < length s → i < length d → set (take i s ++ drop i d) i (getD s i 0) ≡ take (suc i) s ++ drop (suc i) d
 one-copied [] d i h k = absurd (not-suc-le-zero h)
