@@ -74,11 +74,11 @@ size-pos k = one-le-pow k 256 (omega arith)
 module _ (k a v : ℕ) where
   pub on-lt : on k a v < 256 ^ k
   unfolding on
-  on-lt = mod-lt (v + a) (size-pos k)
+  on-lt = mod-lt _ (size-pos k)
 
   pub off-lt : off k a v < 256 ^ k
   unfolding off
-  off-lt = mod-lt (v + (256 ^ k - a % 256 ^ k)) (size-pos k)
+  off-lt = mod-lt _ (size-pos k)
 
   -- v and a whole number of times the size
   round : v < 256 ^ k → (x : ℕ) → x ≡ v + 256 ^ k * suc (a / 256 ^ k) → x % 256 ^ k ≡ v
