@@ -13,7 +13,7 @@ use Rattle.answer.specs.declared.Outcome.the-variants.{Accepted, Refused
 
 -- the table "Numbers a bench can show"
 abbrev pub numberOf : Fault → ℕ
-numberOf WrongBuffer = 1  -- a lent buffer of another length; known names not eight bytes per address, or over 256
+numberOf WrongBuffer = 1  -- memory, map, scratch, new-name buffers or C answer of another length; known names not eight bytes per address, or over 256
 numberOf SettingOutOfRange = 2  -- a setting outside its range
 numberOf FileTooLong = 3  -- file longer than 65,536
 numberOf WrongOpening = 4  -- wrong opening

@@ -53,9 +53,6 @@ pub enum Outcome {
 // The numbers of an answer: number, offset, side, start present, start address, placed, adjusted, new names, low.
 pub type Numbers = [u32; 9];
 
-// The length of an answer in bytes.
-pub const ANSWER_LENGTH: usize = 36;
-
 // The number of a fault.
 pub fn fault_number(fault: Fault) -> u32
     ensures { λ r. ⌜ r ≡ numberOf fault ⌝ }

@@ -27,11 +27,11 @@ store k l i v = put l i (digits k v)
 unfoldable pub on : ℕ → ℕ → ℕ → ℕ
 on k a v = (v + a) % 256 ^ k
 
--- v with the amount a off: what comes to v modulo 256 ^ k with a on (`on-off`)
+-- v with the amount a off: the number that a on brings back to v (`on-off`)
 unfoldable pub off : ℕ → ℕ → ℕ → ℕ
 off k a v = (v + (256 ^ k - a % 256 ^ k)) % 256 ^ k
 
--- l with g of it in place of the number in the k bytes from i on
+-- l with the number v in its k bytes from i on replaced by g v
 unfoldable pub change : ℕ → (ℕ → ℕ) → List ℕ → ℕ → List ℕ
 change k g l i = store k l i (g (value k l i))
 
