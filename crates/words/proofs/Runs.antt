@@ -1,6 +1,6 @@
 -- Runs of bytes: lengths, what was written is read back, and what lies apart stays.
 -- Assumes nothing.
-use mathlib.Core.Bool.{Bool, true, false, _&&_, false≢true}
+use mathlib.Core.Bool.{Bool, true, false, _&&_, _||_, false≢true}
 use mathlib.Core.List.{List, [], _∷_}
 use mathlib.Core.Path.{_≡_, refl, sym, ap, _∙_}
 use Prim.Native.Nat.{ℕ, zero, suc, _+_, _-_, _≤_, _<_}
@@ -11,7 +11,7 @@ use borrow.Author.Tests.{eqb-true, eq-eqb}
 use lib.Dec.{eqb}
 use lib.ListN.{length, getD, take, drop, set, length-set, length-take, length-drop, List·getD-eq-default}
 use lib.Seq.{length-sets, ext-getD, getD-set-same, getD-set-other, set-set, set-comm, getD-take, getD-drop}
-use Rattle.words.specs.Runs.{Bytes, Within, Apart, part, put, allZero}
+use Rattle.words.specs.Runs.{Bytes, Within, Apart, part, put, allZero, contains}
 
 -- an address is in a run or not
 pub within? : (a n x : ℕ) → Dec (Within a n x)
@@ -197,3 +197,17 @@ pub all-zero : (l : List ℕ) → ((x : ℕ) → x < length l → getD l x 0 ≡
 unfolding allZero
 all-zero [] h = refl
 all-zero (b ∷ l) h = rw (eq-eqb b 0 (h 0 (omega arith)), all-zero l (λ x lt. h (suc x) (omega arith)))
+
+-- ---- looking for a byte
+
+-- a run that does not contain v holds it nowhere
+pub contains-not : (v : ℕ) (l : List ℕ) → contains v l ≡ false → (x : ℕ) → x < length l → getD l x 0 ≡ v → ⊥
+unfolding contains
+contains-not v [] e x h f = not-suc-le-zero h
+contains-not v (b ∷ l) e x h f = by (eqb b v) refl (λ g y. contains-not v l g y) e x h f
+  where
+    by : (t : Bool) → eqb b v ≡ t → (contains v l ≡ false → (y : ℕ) → y < length l → getD l y 0 ≡ v → ⊥) → t || contains v l ≡ false → (x : ℕ)
+        → x < length (b ∷ l) → getD (b ∷ l) x 0 ≡ v → ⊥
+    by true g rest e x h f = false≢true (sym e)
+    by false g rest e zero h f = false≢true (sym g ∙ eq-eqb b v f)
+    by false g rest e (suc x) h f = rest e x (le-of-suc-le-suc h) f

@@ -1,6 +1,6 @@
--- One turn, and the end, of the loops that copy, that look for a byte other than zero and that write numbers in a row.
+-- One turn, and the end, of the loops that copy, that look for a byte and that write numbers in a row.
 -- Assumes nothing.
-use mathlib.Core.Bool.{false}
+use mathlib.Core.Bool.{true, false}
 use mathlib.Core.List.{List, [], _∷_, _++_, append-nil, append-assoc}
 use mathlib.Core.Path.{_≡_, refl, ap, _∙_}
 use Prim.Native.Nat.{ℕ, zero, suc, _+_, _*_, _≤_, _<_}
@@ -12,7 +12,7 @@ use lib.ListN.{length, take, drop, getD, set, length-append, length-drop}
 use lib.Seq.{take-length, drop-length, take-at, drop-append-add, drop-drop, length-take-le, take-suc, drop-cons, sets-eq}
 use Rattle.words.proofs.Numbers.{length-digits, length-encoded}
 use Rattle.words.specs.Numbers.{digits, store, encoded}
-use Rattle.words.specs.Runs.{put, allZero}
+use Rattle.words.specs.Runs.{put, allZero, contains}
 
 -- ---- copying
 
@@ -37,6 +37,16 @@ zero-more l i h e = rw (add-one, drop-cons l i 0 h, eq-eqb _ 0 e)
 pub zero-not : (l : List ℕ) (i : ℕ) → i < length l → (getD l i 0 ≡ 0 → ⊥) → allZero (drop i l) ≡ false
 unfolding allZero
 zero-not l i h e = rw (drop-cons l i 0 h, ne-eqb _ 0 e)
+
+-- ---- looking for a byte
+
+pub contains-more : (v : ℕ) (l : List ℕ) (i : ℕ) → i < length l → (getD l i 0 ≡ v → ⊥) → contains v (drop i l) ≡ contains v (drop (i + 1) l)
+unfolding contains
+contains-more v l i h e = rw (add-one, drop-cons l i 0 h, ne-eqb _ v e)
+
+pub contains-found : (v : ℕ) (l : List ℕ) (i : ℕ) → i < length l → getD l i 0 ≡ v → contains v (drop i l) ≡ true
+unfolding contains
+contains-found v l i h e = rw (drop-cons l i 0 h, eq-eqb _ v e)
 
 -- ---- writing numbers of k bytes in a row
 

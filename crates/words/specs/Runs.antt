@@ -1,6 +1,6 @@
 -- Runs of bytes in a buffer, which is a list of numbers: what stands at a place, and what is written there.
 -- Assumes nothing.
-use mathlib.Core.Bool.{Bool, true, false, _&&_}
+use mathlib.Core.Bool.{Bool, true, false, _&&_, _||_}
 use mathlib.Core.List.{List, [], _∷_}
 use Prim.Native.Nat.{ℕ, _+_, _≤_, _<_}
 use lib.Dec.{eqb}
@@ -31,3 +31,8 @@ put l a bs = sets l a bs
 unfoldable pub allZero : List ℕ → Bool
 allZero [] = true
 allZero (b ∷ bs) = eqb b 0 && allZero bs
+
+-- whether one of the bytes is v
+unfoldable pub contains : ℕ → List ℕ → Bool
+contains v [] = false
+contains v (b ∷ bs) = eqb b v || contains v bs

@@ -4,7 +4,7 @@
 ghost use mathlib.Core.Path.{_≡_};
 ghost use Prim.Native.Nat.{_+_, _<_, _≤_};
 ghost use lib.ListN.{length, replicate};
-ghost use Rattle.words.specs.Runs.{allZero};
+ghost use Rattle.words.specs.Runs.{allZero, contains as containsOf};
 ghost use Rattle.words.specs.Numbers.{value, store, on, off, change};
 
 // A byte as a wider number: a call asks for no bound on the byte, and gives one.
@@ -36,6 +36,20 @@ pub fn is_zero(bytes: &[u8]) -> bool
         i += 1;
     }
     true
+}
+
+// Whether one of the bytes is `byte`.
+pub fn contains(bytes: &[u8], byte: u8) -> bool
+    ensures { λ r. ⌜ r ≡ containsOf byte (now (bytes .entry)) ⌝ }
+{
+    let mut i = 0;
+    while i < bytes.len() {
+        if bytes[i] == byte {
+            return true;
+        }
+        i += 1;
+    }
+    false
 }
 
 // The word in the two bytes at `at`.

@@ -1,0 +1,148 @@
+-- The checks of one record, over plain values: what each comes to where it holds and where it fails. The functions' proofs cite these.
+-- Assumes nothing.
+use mathlib.Core.Bool.{Bool, true, false, not, false≢true}
+use mathlib.Core.List.{List, [], _∷_, _++_}
+use mathlib.Core.Path.{_≡_, refl, sym, ap, _∙_}
+use Prim.Native.Nat.{ℕ, _+_, _-_, _<_, _≤_}
+use native.Mathlib.Omega.{arith}
+use borrow.Author.Tests.{le-leb, lt-leb, leb-true}
+use borrow.Rule.Slice.PartMut.{midOf, putMid}
+use lib.ListN.{length, replicate, length-replicate}
+use Rattle.words.proofs.Lent.{lent-is, back-is, back-changed}
+use Rattle.words.proofs.Runs.{length-part}
+use Rattle.words.specs.Numbers.{on, change}
+use Rattle.words.specs.Runs.{part, put, allZero, contains}
+use Rattle.answer.specs.declared.Fault.{Fault}
+use Rattle.answer.specs.declared.Fault.the-variants.{DoesNotFit, PiecesOverlap, FieldNotLoaded, AdjustedTwice}
+use Rattle.records.specs.Fields.{widthOf}
+use Rattle.records.specs.declared.Field.{Field}
+use Rattle.records.specs.declared.Fixup.{Fixup}
+use Rattle.records.specs.declared.Fixup.the-variants.{Low, Page, Word, High}
+use Rattle.acx.proofs.Events.{did-none}
+use Rattle.acx.specs.Events.{Event, place, markOne, marks, play, Ran, playIf, Did}
+use Rattle.acx.specs.Pieces.{width, amountOf, adjustment, adjustments}
+use Rattle.acx.specs.Records.{need, passed, placing, first, adjusting}
+use Rattle.acx.specs.declared.Bases.{Bases}
+use Rattle.acx.specs.declared.Check.{Check}
+use Rattle.acx.specs.declared.Check.the-variants.{Passed, Failed}
+
+-- ---- one check
+
+abbrev isPassed : Check → Bool
+isPassed Passed = true
+isPassed (Failed fault) = false
+
+pub failed-passed : (fault : Fault) → Failed fault ≡ Passed → ⊥
+failed-passed fault e = false≢true (ap isPassed e)
+
+-- what passes a check holds it, and is what the rest came to
+pub need-passed : (c : Bool) (fault : Fault) (o : Ran Check) → need c fault o .answer ≡ Passed → (c ≡ true) × (need c fault o ≡ o)
+unfolding need
+need-passed true fault o e = (refl, refl)
+need-passed false fault o e = absurd (failed-passed fault e)
+
+-- ---- parts that were lent
+
+-- a part of the map that was filled with a mark
+pub filled : (a n v : ℕ) (p w : List ℕ) → a + n ≤ length p → w ≡ replicate (length (midOf a (a + n - a) p)) v → putMid a (a + n - a) p w ≡ put p a (replicate n v)
+filled a n v p w h e =
+    let l : length (midOf a (a + n - a) p) ≡ n = ap length (lent-is a n p) ∙ length-part p a n h in
+    let e′ : w ≡ replicate n v = e ∙ ap (λ (k : ℕ). replicate k v) l in
+    rw e′ (back-is a n p (replicate n v) h (length-replicate n v))
+
+-- a part of memory that code was copied into
+pub copied : (a : ℕ) (code m w : List ℕ) (wet : Bool) → wet ≡ true → a + length code ≤ length m → w ≡ code
+    → putMid a (a + length code - a) m w ≡ playIf wet (place a code ∷ []) m
+unfolding play
+copied a code m w wet t h e = rw (t, e) (back-is a (length code) m code h refl)
+
+-- a part of memory that a field was adjusted in
+pub added : (b : Bases) (a n : ℕ) (f : Field) (x : ℕ) (m w : List ℕ) (wet : Bool) → wet ≡ true → x ≡ amountOf b f → a + n ≤ length m → f .index + width f ≤ n
+    → w ≡ change (width f) (on (width f) x) (midOf a (a + n - a) m) (f .index) → putMid a (a + n - a) m w ≡ playIf wet (adjustment b a f ∷ []) m
+unfolding play
+added b a n f x m w wet t ex h i e =
+    rw t
+    (back-changed (width f) (on (width f) x) a n m w (f .index) h i e
+    ∙ ap (λ (y : ℕ). change (width f) (on (width f) y) m (a + f .index)) ex)
+
+-- ---- code
+
+module _ (a limit : ℕ) (code : List ℕ) (wet : Bool) (m p : List ℕ) where
+  pub placing-high : limit < a + length code → Did Check (placing a limit code p) wet m p (Failed DoesNotFit) m p
+  unfolding placing need
+  placing-high h = rw (lt-leb _ _ h) (did-none _ wet m p)
+
+  pub placing-taken : a + length code ≤ limit → allZero (part p a (length code)) ≡ false → Did Check (placing a limit code p) wet m p (Failed PiecesOverlap) m p
+  unfolding placing need
+  placing-taken h z = rw (le-leb _ _ h, z) (did-none _ wet m p)
+
+  pub placing-done : (m′ p′ : List ℕ) → a + length code ≤ limit → allZero (part p a (length code)) ≡ true → m′ ≡ playIf wet (place a code ∷ []) m
+      → p′ ≡ put p a (replicate (length code) 1) → Did Check (placing a limit code p) wet m p Passed m′ p′
+  unfolding placing need marks
+  placing-done m′ p′ h z em ep = rw (le-leb _ _ h, z) (record { answer = refl; memory = em; map = ep })
+
+-- code that passed has room below its limit, found nothing placed there, and is placed
+pub placing-passed : (a limit : ℕ) (code p : List ℕ) → placing a limit code p .answer ≡ Passed
+    → (a + length code ≤ limit) × (allZero (part p a (length code)) ≡ true) × (placing a limit code p .events ≡ place a code ∷ [])
+unfolding placing
+placing-passed a limit code p e =
+    let x = need-passed _ _ _ e in
+    let y = need-passed _ _ _ (ap (λ (o : Ran Check). o .answer) (sym (x .1)) ∙ e) in
+    (leb-true _ _ (x .0), y .0, ap (λ (o : Ran Check). o .events) (x .1 ∙ y .1))
+
+-- ---- fields
+
+-- a field has two bytes at most
+pub width-le : (fixup : Fixup) → widthOf fixup ≤ 2
+width-le Low = omega arith
+width-le Page = omega arith
+width-le Word = omega arith
+width-le High = omega arith
+
+-- (the program has the field's width as a number k)
+module _ (b : Bases) (a n : ℕ) (f : Field) (wet : Bool) (m p : List ℕ) (k : ℕ) (ek : k ≡ width f) where
+  pub adjusting-outside : n < f .index + k → Did Check (adjusting b a n (f ∷ []) p) wet m p (Failed FieldNotLoaded) m p
+  unfolding adjusting need
+  adjusting-outside h = let g : n < f .index + width f = rw (← ek) h in rw (lt-leb _ _ g) (did-none _ wet m p)
+
+  pub adjusting-twice : f .index + k ≤ n → contains 3 (part p (a + f .index) k) ≡ true → Did Check (adjusting b a n (f ∷ []) p) wet m p (Failed AdjustedTwice) m p
+  unfolding adjusting need
+  adjusting-twice h t =
+      let g : f .index + width f ≤ n = rw (← ek) h in
+      let u : contains 3 (part p (a + f .index) (width f)) ≡ true = rw (← ek) t in
+      rw (le-leb _ _ g, u) (did-none _ wet m p)
+
+  pub adjusting-done : (m′ p′ : List ℕ) → f .index + k ≤ n → contains 3 (part p (a + f .index) k) ≡ false → m′ ≡ playIf wet (adjustment b a f ∷ []) m
+      → p′ ≡ put p (a + f .index) (replicate k 3) → Did Check (adjusting b a n (f ∷ []) p) wet m p Passed m′ p′
+  unfolding adjusting need marks
+  adjusting-done m′ p′ h t em ep =
+      let g : f .index + width f ≤ n = rw (← ek) h in
+      let u : contains 3 (part p (a + f .index) (width f)) ≡ false = rw (← ek) t in
+      rw (le-leb _ _ g, u) (record { answer = refl; memory = em; map = ep ∙ ap (λ (j : ℕ). put p (a + f .index) (replicate j 3)) ek })
+
+-- a field that passed lies in the code, has no byte that was adjusted before, and is adjusted before the others
+pub adjusting-passed : (b : Bases) (a n : ℕ) (f : Field) (fs : List Field) (p : List ℕ) → adjusting b a n (f ∷ fs) p .answer ≡ Passed
+    → (f .index + width f ≤ n) × (contains 3 (part p (a + f .index) (width f)) ≡ false) × (adjusting b a n fs (markOne (adjustment b a f) p) .answer ≡ Passed)
+    × (adjusting b a n (f ∷ fs) p .events ≡ adjustment b a f ∷ adjusting b a n fs (markOne (adjustment b a f) p) .events)
+unfolding adjusting
+adjusting-passed b a n f fs p e =
+    let x = need-passed _ _ _ e in
+    let e₁ = ap (λ (o : Ran Check). o .answer) (sym (x .1)) ∙ e in
+    let y = need-passed _ _ _ e₁ in
+    let e₂ = ap (λ (o : Ran Check). o .answer) (sym (y .1)) ∙ e₁ in
+    (leb-true _ _ (x .0), not-true (contains 3 (part p (a + f .index) (width f))) (y .0), e₂, ap (λ (o : Ran Check). o .events) (x .1 ∙ y .1))
+  where
+    not-true : (t : Bool) → not t ≡ true → t ≡ false
+    not-true true h = sym h
+    not-true false h = refl
+
+-- all fields that passed are adjusted, in their order
+pub adjusting-all : (b : Bases) (a n : ℕ) (fs : List Field) (p : List ℕ) → adjusting b a n fs p .answer ≡ Passed → adjusting b a n fs p .events ≡ adjustments b a fs
+unfolding adjustments
+adjusting-all b a n [] p e = none
+  where
+    none : adjusting b a n [] p .events ≡ []
+    none = unfold adjusting in refl
+adjusting-all b a n (f ∷ fs) p e =
+    let x = adjusting-passed b a n f fs p e in
+    x .3 ∙ ap (λ (es : List Event). adjustment b a f ∷ es) (adjusting-all b a n fs (markOne (adjustment b a f) p) (x .2))

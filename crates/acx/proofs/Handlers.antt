@@ -1,0 +1,91 @@
+-- The pieces of a file so far make a handler: every record that passes keeps it so.
+-- Assumes nothing.
+use mathlib.Core.List.{List, [], _∷_}
+use mathlib.Core.Path.{_≡_, sym, ap}
+use Prim.Native.Nat.{ℕ, _+_, _≤_}
+use native.Mathlib.Omega.{arith}
+use lib.ListN.{length}
+use Rattle.words.proofs.Runs.{length-part}
+use Rattle.words.specs.Runs.{part}
+use Rattle.answer.specs.declared.Start.{Start}
+use Rattle.records.proofs.Reading.{Moving, lies-as, fixups-after}
+use Rattle.records.specs.Fields.{fieldsOf}
+use Rattle.records.specs.declared.Field.{Field}
+use Rattle.records.specs.declared.Kind.{Kind}
+use Rattle.records.specs.declared.Record.{Record}
+use Rattle.records.specs.declared.Record.the-variants.{Code, Fixups, End, Faulty}
+use Rattle.acx.proofs.Checks.{placing-passed}
+use Rattle.acx.proofs.Events.{length-marks}
+use Rattle.acx.proofs.Lists.{each-map, each-append, pairwise-append}
+use Rattle.acx.proofs.Loads.{Inside, Fits}
+use Rattle.acx.proofs.Marks.{length-blank, marks-fields, marks-some, code-apart, fields-fresh}
+use Rattle.acx.proofs.Standing.{limit-le, code-passed, fixups-passed, Stands, stands-first, stands-on}
+use Rattle.acx.proofs.Walking.{piecesAfter, Onward, accepted-keeps}
+use Rattle.acx.specs.Demand2.{Each, FieldsApart, Handler}
+use Rattle.acx.specs.Events.{marks, blank}
+use Rattle.acx.specs.Pieces.{Piece, size, placeOf, limitOf, events}
+use Rattle.acx.specs.Records.{adjusting}
+use Rattle.acx.specs.Walk.{accepted, lastOf, lastPlace, lastSize, recordAt, checked, list, openingSize, judged}
+use Rattle.acx.specs.declared.Bases.{Bases}
+use Rattle.acx.specs.declared.Check.the-variants.{Passed}
+use Rattle.acx.specs.declared.Form.{Form}
+
+-- pieces below their limits lie in memory
+pub fits-memory : (b : Bases) (n : ℕ) (ps : List Piece) → n ≡ 65536 → Each (λ p. placeOf b p + size p ≤ limitOf (p .kind)) ps → Each (Fits b n) ps
+fits-memory b n ps e h = each-map (λ p i. omega (arith, i, e, limit-le (p .kind))) ps h
+
+module _ (file : List ℕ) (b : Bases) where
+  -- before the first record
+  handler-first : Handler file b []
+  handler-first = record { fits = tt; apart = tt; inside = tt; distinct = tt; from-file = tt }
+
+  -- a code record: its piece found room and nothing placed there
+  handler-code : (at : ℕ) (ps : List Piece) (kind : Kind) (address from n : ℕ) → Handler file b ps → recordAt file at ps ≡ Code kind address from n
+      → checked file b at ps .answer ≡ Passed → Handler file b (piecesAfter file (Code kind address from n) ps)
+  handler-code at ps kind address from n h e c =
+      let p : Piece = record { kind = kind; address = address; code = part file from n; fields = [] } in
+      let w = lies-as file at (lastOf ps) _ e in
+      let l : length (part file from n) ≡ n = length-part file from n (w .1) in
+      let x = placing-passed _ _ _ _ (code-passed file b at ps kind address from n e c) in
+      let some = marks-some b ps blank (h .inside) (fits-memory b (length blank) ps length-blank (h .fits)) (h .apart) in
+      record {
+        fits = (x .0, h .fits);
+        apart = (code-apart b p ps (marks (events b ps) blank) some (x .1), h .apart);
+        inside = (tt, h .inside);
+        distinct = (tt, h .distinct);
+        from-file = ((from, omega (arith, l, w .1), ap (part file from) (sym l)), h .from-file);
+      }
+
+  -- fields more: each lay in the last code and met none before it
+  handler-list : (fs : List Field) (ps : List Piece) → Handler file b ps → Moving (lastOf ps)
+      → adjusting b (lastPlace b ps) (lastSize ps) fs (marks (events b ps) blank) .answer ≡ Passed → Handler file b (list fs ps)
+  handler-list fs [] h m c = absurd m
+  handler-list fs (p ∷ ps) h m c =
+      let fits = fits-memory b (length blank) (p ∷ ps) length-blank (h .fits) in
+      let threes = marks-fields b (p ∷ ps) blank (h .inside) fits (h .apart) in
+      let room : placeOf b p + size p ≤ length (marks (events b (p ∷ ps)) blank) = rw (length-marks (events b (p ∷ ps)) blank) (fits .0) in
+      let x = fields-fresh b (placeOf b p) (size p) fs (p .fields) (marks (events b (p ∷ ps)) blank) room (threes .0) c in
+      record {
+        fits = h .fits;
+        apart = h .apart;
+        inside = (each-append (Inside (size p)) (p .fields) fs (h .inside .0) (x .inside), h .inside .1);
+        distinct = (pairwise-append FieldsApart (p .fields) fs (h .distinct .0) (x .distinct) (x .cross), h .distinct .1);
+        from-file = h .from-file;
+      }
+
+  -- every record that passes
+  handler-on : (at : ℕ) (ps : List Piece) (r : Record) → Handler file b ps → recordAt file at ps ≡ r → Onward r → checked file b at ps .answer ≡ Passed
+      → Handler file b (piecesAfter file r ps)
+  handler-on at ps (Code kind address from n) h e o c = handler-code at ps kind address from n h e c
+  handler-on at ps (Fixups fixup from n) h e o c =
+      handler-list (fieldsOf fixup (part file from n)) ps h (fixups-after file at (lastOf ps) fixup from n e) (fixups-passed file b at ps fixup from n e c)
+  handler-on at ps (End entry next) h e o c = absurd o
+  handler-on at ps (Faulty fault) h e o c = absurd o
+
+  -- an accepted file: its pieces make a handler, what was placed and adjusted is in its bytes, and its events are those of the pieces
+  pub handled : (form : Form) (ps : List Piece) (start : Start) → judged form file b .answer ≡ accepted ps start
+      → (at : ℕ) × (at ≤ length file) × (Handler file b ps × Stands b at ps) × (judged form file b .events ≡ events b ps)
+  handled form ps start e =
+      accepted-keeps file b (λ at ps. Handler file b ps × Stands b at ps)
+      (λ at ps r l h q o c. (handler-on at ps r (h .0) q o c, stands-on file b at ps r l (h .1) q o c))
+      form ps start (handler-first, stands-first b (openingSize form)) e

@@ -1,0 +1,15 @@
+pub mod Events
+pub mod Checks
+pub mod Fields
+pub mod Applying
+pub mod Walking
+pub mod Standing
+pub mod Going
+pub mod Calling
+pub mod Lists
+pub mod Loads
+pub mod Marks
+pub mod Handlers
+pub mod Demand2
+pub mod Same
+pub mod Bench

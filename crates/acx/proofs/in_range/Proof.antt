@@ -1,0 +1,20 @@
+use borrow.Author.Tests.{le-leb, lt-leb}
+use Rattle.acx.proofs.in_range.Statement.{statement}
+use Rattle.acx.proofs.in_range.Tie as tie
+use Rattle.acx.proofs.in_range.Reads as reads
+use Rattle.acx.proofs.in_range.Lts as lts
+
+-- src/lib.rt:377:9
+returns : tie.Need-returns
+returns c = simp (lt-leb _ _ (c .if1 .taken))
+
+-- src/lib.rt:380:9
+returns-2 : tie.Need-returns-2
+returns-2 c = simp (le-leb _ _ (c .before .if1 .left), lt-leb _ _ (c .if2 .taken))
+
+-- src/lib.rt:373:1
+returns-3 : tie.Need-returns-3
+returns-3 c = simp (le-leb _ _ (c .before .if1 .left), le-leb _ _ (c .if2 .left))
+
+pub in-range-spec : {M : Type 1} → statement M
+in-range-spec = tie.close (tie.spec returns returns-2 returns-3)

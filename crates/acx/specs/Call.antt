@@ -1,0 +1,99 @@
+-- A call of the loader, whatever comes in: "1, 2, 3 come in that order, then the file from its front".
+-- Assumes nothing.
+use mathlib.Core.Bool.{Bool, true, false, _&&_}
+use mathlib.Core.List.{List, [], _∷_}
+use mathlib.Core.Path.{_≡_}
+use Prim.Native.Nat.{ℕ, zero, suc, _≤_}
+use lib.Dec.{leb, eqb}
+use lib.ListN.{length}
+use Rattle.answer.specs.declared.Fault.{Fault}
+use Rattle.answer.specs.declared.Fault.the-variants.{WrongBuffer, SettingOutOfRange, FileTooLong}
+use Rattle.answer.specs.declared.Outcome.{Outcome}
+use Rattle.answer.specs.declared.Outcome.the-variants.{Accepted, Refused}
+use Rattle.acx.specs.Events.{play, marks, blank, Ran}
+use Rattle.acx.specs.Walk.{Verdict, accepted, refused, judged, reported}
+use Rattle.acx.specs.declared.Bases.{Bases}
+use Rattle.acx.specs.declared.Form.{Form}
+use Rattle.acx.specs.declared.Form.the-variants.{Disk, Device}
+
+-- "form (0 disk, 1 device)"
+abbrev pub formOf : ℕ → Form
+formOf zero = Disk
+formOf (suc n) = Device
+
+-- the settings of a call, as they come in
+pub record Settings : Type 0 where
+  pub form : ℕ
+  pub main : ℕ
+  pub zero : ℕ
+
+abbrev pub settings : ℕ → ℕ → ℕ → Settings
+settings form main zp = record { form = form; main = main; zero = zp }
+
+-- "Short calls of the two loaders .. take .. main base 8,192 and zero-page base 128"
+abbrev pub usual : ℕ → Settings
+usual form = settings form 8192 128
+
+-- "form (0 disk, 1 device), main base 0 to 65,535, zero-page base 0 to 255"
+abbrev pub inRange : Settings → Bool
+inRange s = leb (s .form) 1 && leb (s .main) 65535 && leb (s .zero) 255
+
+abbrev pub basesOf : Settings → Bases
+basesOf s = record { main = s .main; zero = s .zero }
+
+-- "Program memory is a lent run of 65,536 bytes"; "A map of 65,536 bytes"
+abbrev pub sized : List ℕ → List ℕ → Bool
+sized memory map = eqb (length memory) 65536 && eqb (length map) 65536
+
+unfoldable pub need : Bool → Fault → Ran Verdict → Ran Verdict
+need true fault rest = rest
+need false fault rest = record { answer = refused fault 0; events = [] }
+
+-- a load with the right buffers: 2, then 3, then the file
+unfoldable pub load : Settings → List ℕ → Ran Verdict
+load s file =
+    need (inRange s) SettingOutOfRange
+    (need (leb (length file) 65536) FileTooLong
+    (judged (formOf (s .form)) file (basesOf s)))
+
+-- and whatever the buffers: 1 first
+unfoldable pub call : Settings → List ℕ → List ℕ → List ℕ → Ran Verdict
+call s file memory map = need (sized memory map) WrongBuffer (load s file)
+
+-- memory after a load: an acceptance plays its events, "A refusal leaves program memory untouched"
+abbrev pub memoryAfter : Verdict → Ran Verdict → List ℕ → List ℕ
+memoryAfter (accepted ps start) o memory = play (o .events) memory
+memoryAfter (refused fault at) o memory = memory
+
+-- the map after a load: "The map holds the marks"; "Every other refusal leaves .. the map all zero"
+abbrev pub mapAfter : Verdict → Ran Verdict → List ℕ
+mapAfter (accepted ps start) o = marks (o .events) blank
+mapAfter (refused fault at) o = blank
+
+-- What a load with the right buffers does: it found memory m, and answers r and leaves m′ and the map p′, as o says.
+pub record Carried (o : Ran Verdict) (m : List ℕ) (r : Outcome) (m′ p′ : List ℕ) : Type 0 where
+  pub outcome : r ≡ reported o .answer
+  pub memory : m′ ≡ memoryAfter (o .answer) o m
+  pub map : p′ ≡ mapAfter (o .answer) o
+
+-- "Refusal 1 changes nothing"
+abbrev pub ifSized : Bool → List ℕ → List ℕ → List ℕ
+ifSized true new old = new
+ifSized false new old = old
+
+abbrev pub placedOf : Outcome → ℕ
+placedOf (Accepted start placed adjusted names low) = placed
+placedOf (Refused fault offset side) = 0
+
+abbrev pub adjustedOf : Outcome → ℕ
+adjustedOf (Accepted start placed adjusted names low) = adjusted
+adjustedOf (Refused fault offset side) = 0
+
+-- What a call promises: it found memory m and the map p, and answers r and leaves m′ and p′.
+pub record Loaded (s : Settings) (file m p : List ℕ) (r : Outcome) (m′ p′ : List ℕ) : Type 0 where
+  pub outcome : r ≡ reported (call s file m p) .answer
+  pub memory : m′ ≡ memoryAfter (call s file m p .answer) (call s file m p) m
+  pub map : p′ ≡ ifSized (sized m p) (mapAfter (call s file m p .answer) (call s file m p)) p
+  -- "neither exceeds the file's length"
+  pub placed-fits : placedOf r ≤ length file
+  pub adjusted-fits : adjustedOf r ≤ length file

@@ -1,0 +1,68 @@
+-- Demand 2 for ACX files, sentence by sentence: what the definition of a load comes to where it accepts a file. Proved in
+-- proofs/Demand2.antt, of every file, every pair of bases and every memory.
+-- Assumes nothing.
+use mathlib.Core.List.{List, [], _∷_}
+use mathlib.Core.Path.{_≡_}
+use Prim.Native.Nat.{ℕ, _+_, _≤_, _<_}
+use lib.ListN.{length, getD}
+use Rattle.words.specs.Numbers.{value, on}
+use Rattle.words.specs.Runs.{Within, Apart, part}
+use Rattle.records.specs.declared.Field.{Field}
+use Rattle.acx.specs.Events.{Event, play, marks, blank, placedIn, adjustedIn}
+use Rattle.acx.specs.Pieces.{Piece, size, placeOf, limitOf, width, amountOf}
+use Rattle.acx.specs.declared.Bases.{Bases}
+
+-- of every element
+abbrev pub Each : {A : Type 0} → (A → Type 0) → List A → Type 0
+Each P [] = Unit {0}
+Each P (x ∷ xs) = P x × Each P xs
+
+-- of every two elements
+abbrev pub Pairwise : {A : Type 0} → (A → A → Type 0) → List A → Type 0
+Pairwise R [] = Unit {0}
+Pairwise R (x ∷ xs) = Each (R x) xs × Pairwise R xs
+
+-- the address is one of the piece's places: "a byte's place is its record's place plus its index among the code bytes"
+abbrev pub Placed : Bases → ℕ → Piece → Type 0
+Placed b x p = Within (placeOf b p) (size p) x
+
+-- byte j of the code is in the field
+abbrev pub In : ℕ → Field → Type 0
+In j f = Within (f .index) (width f) j
+
+abbrev pub PiecesApart : Bases → Piece → Piece → Type 0
+PiecesApart b p q = Apart (placeOf b p) (size p) (placeOf b q) (size q)
+
+abbrev pub FieldsApart : Field → Field → Type 0
+FieldsApart f g = Apart (f .index) (width f) (g .index) (width g)
+
+-- The pieces of an accepted file.
+pub record Handler (file : List ℕ) (b : Bases) (ps : List Piece) : Type 0 where
+  -- each lies in memory, in zero page if that is its kind
+  pub fits : Each (λ p. placeOf b p + size p ≤ limitOf (p .kind)) ps
+  -- no two share an address
+  pub apart : Pairwise (PiecesApart b) ps
+  -- fields lie inside their piece
+  pub inside : Each (λ p. Each (λ f. f .index + width f ≤ size p) (p .fields)) ps
+  -- no byte is in two of them
+  pub distinct : Each (λ p. Pairwise FieldsApart (p .fields)) ps
+  -- the code is the file's
+  pub from-file : Each (λ p. (from : ℕ) × (from + size p ≤ length file) × (p .code ≡ part file from (size p))) ps
+
+-- What its load makes of a memory m, and of a clear map.
+pub record Demand2 (file : List ℕ) (b : Bases) (ps : List Piece) (es : List Event) (m : List ℕ) : Type 0 where
+  pub handler : Handler file b ps
+  -- "each loaded byte as its last block put it"
+  pub loaded : Each (λ p. (j : ℕ) → j < size p → Each (λ f. ¬ In j f) (p .fields) → getD (play es m) (placeOf b p + j) 0 ≡ getD (p .code) j 0) ps
+  -- "fields listed after that adjusted as the rules say"
+  pub adjusted :
+      Each (λ p. Each (λ f. value (width f) (play es m) (placeOf b p + f .index) ≡ on (width f) (amountOf b f) (value (width f) (p .code) (f .index))) (p .fields)) ps
+  -- "and every other byte as before"
+  pub others : (x : ℕ) → Each (λ p. ¬ Placed b x p) ps → getD (play es m) x 0 ≡ getD m x 0
+  -- "0 untouched, 1 placed, .. 3 adjusted"
+  pub untouched-marks : (x : ℕ) → Each (λ p. ¬ Placed b x p) ps → getD (marks es blank) x 0 ≡ 0
+  pub placed-marks : Each (λ p. (j : ℕ) → j < size p → Each (λ f. ¬ In j f) (p .fields) → getD (marks es blank) (placeOf b p + j) 0 ≡ 1) ps
+  pub adjusted-marks : Each (λ p. Each (λ f. (j : ℕ) → In j f → getD (marks es blank) (placeOf b p + j) 0 ≡ 3) (p .fields)) ps
+  -- "neither exceeds the file's length"
+  pub placed-fits : placedIn es ≤ length file
+  pub adjusted-fits : adjustedIn es ≤ length file

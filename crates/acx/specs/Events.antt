@@ -1,0 +1,66 @@
+-- What a load does, as a list of events in their order; and what they leave in memory, in the map and in the counts.
+-- Assumes nothing.
+use mathlib.Core.Bool.{Bool, true, false}
+use mathlib.Core.List.{List, [], _∷_}
+use mathlib.Core.Path.{_≡_}
+use Prim.Native.Nat.{ℕ, _+_}
+use lib.ListN.{length, replicate}
+use Rattle.words.specs.Numbers.{on, change}
+use Rattle.words.specs.Runs.{put}
+
+-- "these events": bytes placed from an address on; a field of so many bytes at an address adjusted by an amount
+pub data Event : Type 0 where
+  place : ℕ → List ℕ → Event
+  adjust : ℕ → ℕ → ℕ → Event
+
+abbrev pub playOne : Event → List ℕ → List ℕ
+playOne (place a bytes) memory = put memory a bytes
+playOne (adjust width a amount) memory = change width (on width amount) memory a
+
+-- memory after the events: "each loaded byte as its last block put it, fields listed after that adjusted as the rules say"
+unfoldable pub play : List Event → List ℕ → List ℕ
+play [] memory = memory
+play (e ∷ es) memory = play es (playOne e memory)
+
+-- "1 placed, .. 3 adjusted"
+abbrev pub markOne : Event → List ℕ → List ℕ
+markOne (place a bytes) map = put map a (replicate (length bytes) 1)
+markOne (adjust width a amount) map = put map a (replicate width 3)
+
+-- the map after the events: "The last event at an address decides"
+unfoldable pub marks : List Event → List ℕ → List ℕ
+marks [] map = map
+marks (e ∷ es) map = marks es (markOne e map)
+
+-- "0 untouched"
+unfoldable pub blank : List ℕ
+blank = replicate 65536 0
+
+-- "Bytes placed is the sum of all data lengths"
+unfoldable pub placedIn : List Event → ℕ
+placedIn [] = 0
+placedIn (place a bytes ∷ es) = length bytes + placedIn es
+placedIn (adjust width a amount ∷ es) = placedIn es
+
+-- the number "of fields adjusted"
+unfoldable pub adjustedIn : List Event → ℕ
+adjustedIn [] = 0
+adjustedIn (place a bytes ∷ es) = adjustedIn es
+adjustedIn (adjust width a amount ∷ es) = 1 + adjustedIn es
+
+-- what a part of the work comes to: its answer, and the events up to it
+pub record Ran (A : Type 0) : Type 0 where
+  pub answer : A
+  pub events : List Event
+
+-- memory after the events where they are carried out (wet), and as it was where the file is only checked
+abbrev pub playIf : Bool → List Event → List ℕ → List ℕ
+playIf true es memory = play es memory
+playIf false es memory = memory
+
+-- The contract of every function that does a part of the work: where it found memory m and the map p, it answers r and leaves m′ and p′ as
+-- o says.
+pub record Did (A : Type 0) (o : Ran A) (wet : Bool) (m p : List ℕ) (r : A) (m′ p′ : List ℕ) : Type 0 where
+  pub answer : r ≡ o .answer
+  pub memory : m′ ≡ playIf wet (o .events) m
+  pub map : p′ ≡ marks (o .events) p

@@ -1,0 +1,64 @@
+-- The pieces of a handler, which name no base, and the document's formulas for where they go and what is put on their fields.
+-- Assumes nothing.
+use mathlib.Core.List.{List, [], _∷_, _++_}
+use Prim.Native.Nat.{ℕ, _+_, _/_}
+use lib.ListN.{length}
+use Rattle.records.specs.Fields.{widthOf}
+use Rattle.records.specs.declared.Field.{Field}
+use Rattle.records.specs.declared.Fixup.{Fixup}
+use Rattle.records.specs.declared.Fixup.the-variants.{Low, Page, Word, High}
+use Rattle.records.specs.declared.Kind.{Kind}
+use Rattle.records.specs.declared.Kind.the-variants.{Main, ZeroPage, Absolute}
+use Rattle.acx.specs.Events.{Event, place, adjust}
+use Rattle.acx.specs.declared.Bases.{Bases}
+
+-- a code record with the fields that the fixup records after it list, in file order
+pub record Piece : Type 0 where
+  pub kind : Kind
+  pub address : ℕ
+  pub code : List ℕ
+  pub fields : List Field
+
+abbrev pub size : Piece → ℕ
+size p = length (p .code)
+
+abbrev pub baseOf : Bases → Kind → ℕ
+baseOf b Main = b .main
+baseOf b ZeroPage = b .zero
+baseOf b Absolute = 0
+
+-- "Place: main base + address (00), zero-page base + address (0A), address (01)"
+abbrev pub placeOf : Bases → Piece → ℕ
+placeOf b p = baseOf b (p .kind) + p .address
+
+-- "Place + n ≤ 65,536, for 0A ≤ 256"
+abbrev pub limitOf : Kind → ℕ
+limitOf Main = 65536
+limitOf ZeroPage = 256
+limitOf Absolute = 65536
+
+abbrev pub width : Field → ℕ
+width f = widthOf (f .fixup)
+
+abbrev pub amountBy : Bases → ℕ → Fixup → ℕ
+amountBy b lsb Low = b .main
+amountBy b lsb Page = b .zero
+amountBy b lsb Word = b .main
+amountBy b lsb High = (lsb + b .main) / 256
+
+-- "The amount of a field is main base for 02, 03, 06 and 07, zero-page base for 04 and 05, floor((LSB + main base) / 256) for 08 and 09"
+unfoldable pub amountOf : Bases → Field → ℕ
+amountOf b f = amountBy b (f .lsb) (f .fixup)
+
+-- a field of the code at a place adjusted
+abbrev pub adjustment : Bases → ℕ → Field → Event
+adjustment b a f = adjust (width f) (a + f .index) (amountOf b f)
+
+unfoldable pub adjustments : Bases → ℕ → List Field → List Event
+adjustments b a [] = []
+adjustments b a (f ∷ fs) = adjustment b a f ∷ adjustments b a fs
+
+-- the events of a load of the pieces, which stand latest first: each is placed, then its fields are adjusted
+unfoldable pub events : Bases → List Piece → List Event
+events b [] = []
+events b (p ∷ ps) = events b ps ++ (place (placeOf b p) (p .code) ∷ adjustments b (placeOf b p) (p .fields))

@@ -1,0 +1,224 @@
+-- Where the record that is read lies in its file, what may come before it, and how long code is.
+-- Assumes nothing.
+use mathlib.Core.Bool.{Bool, true, false, false≢true}
+use mathlib.Core.List.{List}
+use mathlib.Core.Path.{_≡_, refl}
+use Prim.Native.Nat.{ℕ, _+_, _≤_}
+use native.Mathlib.Omega.{arith}
+use borrow.Author.Tests.{leb-true}
+use lib.ListN.{length, getD}
+use Rattle.answer.specs.declared.Fault.{Fault}
+use Rattle.records.specs.Records.{Type′, code, fixups, end, unknown, types, need, suits, readCode, readFixups, readEnd, readAs, read}
+use Rattle.records.specs.declared.Fixup.{Fixup}
+use Rattle.records.specs.declared.Kind.{Kind}
+use Rattle.records.specs.declared.Kind.the-variants.{Main, ZeroPage, Absolute}
+use Rattle.records.specs.declared.Last.{Last}
+use Rattle.records.specs.declared.Last.the-variants.{Nothing, Of}
+use Rattle.records.specs.declared.Record.{Record}
+use Rattle.records.specs.declared.Record.the-variants.{Code, Fixups, End, Faulty}
+use Rattle.words.specs.Runs.{Bytes}
+
+-- what holds of every fault, and of the rest where the check holds, holds of the checked record
+pub on-need : (P : Record → Type 0) → ((f : Fault) → P (Faulty f)) → (c : Bool) (f : Fault) (r : Record) → (c ≡ true → P r) → P (need c f r)
+unfolding need
+on-need P bad true f r h = h refl
+on-need P bad false f r h = bad f
+
+-- ---- a record lies in its file
+
+-- where a record that begins at `at` has its bytes, in a file of `len` bytes
+abbrev pub Where : ℕ → ℕ → Record → Type 0
+Where len at (Code kind address from size) = (from ≡ at + 4) × (from + size ≤ len)
+Where len at (Fixups fixup from size) = (from ≡ at + 2) × (from + size ≤ len)
+Where len at (End entry next) = (next ≡ at + 4) × (next ≤ len)
+Where len at (Faulty fault) = Unit {0}
+
+-- the same as a record, whose arguments antt finds by itself
+pub record Lies (len at : ℕ) (r : Record) : Type 0 where
+  pub lies : Where len at r
+
+-- a fault lies nowhere
+bad : (len at : ℕ) (f : Fault) → Lies len at (Faulty f)
+bad len at f = record { lies = tt }
+
+-- a code record's bytes
+code-lies : (file : List ℕ) (at : ℕ) (kind : Kind) → Lies (length file) at (readCode file at kind)
+unfolding readCode
+code-lies file at kind =
+    let P = Lies (length file) at in
+    on-need P (bad _ _) _ _ _
+    (λ h₁. on-need P (bad _ _) _ _ _
+    (λ h₂. on-need P (bad _ _) _ _ _
+    (λ h₃. record { lies = (refl, omega (arith, leb-true)) })))
+
+-- a fixup record's items
+fixups-lie : (file : List ℕ) (at : ℕ) (last : Last) (kind : Kind) (fixup : Fixup) → Lies (length file) at (readFixups file at last kind fixup)
+unfolding readFixups
+fixups-lie file at last kind fixup =
+    let P = Lies (length file) at in
+    on-need P (bad _ _) _ _ _
+    (λ h₁. on-need P (bad _ _) _ _ _
+    (λ h₂. on-need P (bad _ _) _ _ _
+    (λ h₃. on-need P (bad _ _) _ _ _
+    (λ h₄. record { lies = (refl, omega (arith, leb-true)) }))))
+
+-- the end record's bytes
+end-lies : (file : List ℕ) (at : ℕ) → Lies (length file) at (readEnd file at)
+unfolding readEnd
+end-lies file at =
+    let P = Lies (length file) at in
+    on-need P (bad _ _) _ _ _
+    (λ h₁. on-need P (bad _ _) _ _ _
+    (λ h₂. record { lies = (refl, leb-true _ _ h₁) }))
+
+-- the record at an offset lies in the file, whatever its type
+pub read-lies : (file : List ℕ) (at : ℕ) (last : Last) → Lies (length file) at (read file at last)
+unfolding read
+read-lies file at last = on-need (Lies (length file) at) (bad _ _) _ _ _ (λ _. typed (getD types (getD file at 0) unknown))
+  where
+    typed : (t : Type′) → Lies (length file) at (readAs file at last t)
+    typed (code kind) = code-lies file at kind
+    typed (fixups kind fixup) = fixups-lie file at last kind fixup
+    typed end = end-lies file at
+    typed unknown = bad _ _ _
+
+-- the same of a record known to be what is read
+pub lies-as : (file : List ℕ) (at : ℕ) (last : Last) (r : Record) → read file at last ≡ r → Where (length file) at r
+lies-as file at last r e =
+    let h : Lies (length file) at r = rw (← e) (read-lies file at last) in
+    h .lies
+
+-- ---- a fixup record stands only after relocatable code
+
+-- the last code record is one that moves with a base
+abbrev pub Moving : Last → Type 0
+Moving Nothing = ⊥
+Moving (Of Main) = Unit {0}
+Moving (Of ZeroPage) = Unit {0}
+Moving (Of Absolute) = ⊥
+
+-- what a record asks of the last code record before it: a fixup record alone asks for anything
+abbrev After : Last → Record → Type 0
+After last (Code kind address from size) = Unit {0}
+After last (Fixups fixup from size) = Moving last
+After last (End entry next) = Unit {0}
+After last (Faulty fault) = Unit {0}
+
+-- the same as a record
+record Follows (last : Last) (r : Record) : Type 0 where
+  follows : After last r
+
+-- a fault asks for nothing
+free : (last : Last) (f : Fault) → Follows last (Faulty f)
+free last f = record { follows = tt }
+
+-- what suits some kind moves
+suits-moving : (kind : Kind) (last : Last) → suits kind last ≡ true → Moving last
+suits-moving Main Nothing e = false≢true e
+suits-moving Main (Of Main) e = tt
+suits-moving Main (Of ZeroPage) e = tt
+suits-moving Main (Of Absolute) e = false≢true e
+suits-moving ZeroPage Nothing e = false≢true e
+suits-moving ZeroPage (Of Main) e = tt
+suits-moving ZeroPage (Of ZeroPage) e = tt
+suits-moving ZeroPage (Of Absolute) e = false≢true e
+suits-moving Absolute last e = absurd (false≢true e)
+
+-- a code record asks for nothing before it
+code-follows : (file : List ℕ) (at : ℕ) (last : Last) (kind : Kind) → Follows last (readCode file at kind)
+unfolding readCode
+code-follows file at last kind =
+    let P = Follows last in
+    on-need P (free _) _ _ _ (λ _. on-need P (free _) _ _ _ (λ _. on-need P (free _) _ _ _ (λ _. record { follows = tt })))
+
+-- a fixup record asks for code that moves
+fixups-follow : (file : List ℕ) (at : ℕ) (last : Last) (kind : Kind) (fixup : Fixup) → Follows last (readFixups file at last kind fixup)
+unfolding readFixups
+fixups-follow file at last kind fixup =
+    let P = Follows last in
+    on-need P (free _) _ _ _
+    (λ _. on-need P (free _) _ _ _
+    (λ h. on-need P (free _) _ _ _
+    (λ _. on-need P (free _) _ _ _
+    (λ _. record { follows = suits-moving kind last h }))))
+
+-- the end record asks for nothing
+end-follows : (file : List ℕ) (at : ℕ) (last : Last) → Follows last (readEnd file at)
+unfolding readEnd
+end-follows file at last =
+    let P = Follows last in
+    on-need P (free _) _ _ _ (λ _. on-need P (free _) _ _ _ (λ _. record { follows = tt }))
+
+-- the record at an offset has what it asks for before it
+read-follows : (file : List ℕ) (at : ℕ) (last : Last) → Follows last (read file at last)
+unfolding read
+read-follows file at last = on-need (Follows last) (free _) _ _ _ (λ _. typed (getD types (getD file at 0) unknown))
+  where
+    typed : (t : Type′) → Follows last (readAs file at last t)
+    typed (code kind) = code-follows file at last kind
+    typed (fixups kind fixup) = fixups-follow file at last kind fixup
+    typed end = end-follows file at last
+    typed unknown = free _ _
+
+-- where a fixup record is read, the last code record moves with a base
+pub fixups-after : (file : List ℕ) (at : ℕ) (last : Last) (fixup : Fixup) (from size : ℕ) → read file at last ≡ Fixups fixup from size → Moving last
+fixups-after file at last fixup from size e =
+    let h : Follows last (Fixups fixup from size) = rw (← e) (read-follows file at last) in
+    h .follows
+
+-- ---- a code record is short
+
+-- the bytes of a code record are few, and nothing is said of others
+abbrev Few : Record → Type 0
+Few (Code kind address from size) = size ≤ 253
+Few (Fixups fixup from size) = Unit {0}
+Few (End entry next) = Unit {0}
+Few (Faulty fault) = Unit {0}
+
+-- the same as a record
+record Short (r : Record) : Type 0 where
+  few : Few r
+
+-- a fault holds nothing
+none : (f : Fault) → Short (Faulty f)
+none f = record { few = tt }
+
+-- what is left of a length byte after the address
+code-short : (file : List ℕ) (at : ℕ) (kind : Kind) → Bytes file → Short (readCode file at kind)
+unfolding readCode
+code-short file at kind b =
+    let n = b (at + 1) in
+    on-need Short none _ _ _ (λ _. on-need Short none _ _ _ (λ _. on-need Short none _ _ _ (λ _. record { few = omega arith })))
+
+-- a fixup record is no code
+fixups-short : (file : List ℕ) (at : ℕ) (last : Last) (kind : Kind) (fixup : Fixup) → Short (readFixups file at last kind fixup)
+unfolding readFixups
+fixups-short file at last kind fixup =
+    on-need Short none _ _ _
+    (λ _. on-need Short none _ _ _
+    (λ _. on-need Short none _ _ _
+    (λ _. on-need Short none _ _ _
+    (λ _. record { few = tt }))))
+
+-- nor is the end record
+end-short : (file : List ℕ) (at : ℕ) → Short (readEnd file at)
+unfolding readEnd
+end-short file at = on-need Short none _ _ _ (λ _. on-need Short none _ _ _ (λ _. record { few = tt }))
+
+-- the record at an offset, whatever its type
+read-short : (file : List ℕ) (at : ℕ) (last : Last) → Bytes file → Short (read file at last)
+unfolding read
+read-short file at last b = on-need Short none _ _ _ (λ _. typed (getD types (getD file at 0) unknown))
+  where
+    typed : (t : Type′) → Short (readAs file at last t)
+    typed (code kind) = code-short file at kind b
+    typed (fixups kind fixup) = fixups-short file at last kind fixup
+    typed end = end-short file at
+    typed unknown = none _
+
+-- a code record of a file of bytes holds 253 bytes at most
+pub code-few : (file : List ℕ) (at : ℕ) (last : Last) (kind : Kind) (address from size : ℕ) → Bytes file
+    → read file at last ≡ Code kind address from size → size ≤ 253
+code-few file at last kind address from size b e =
+    let h : Short (Code kind address from size) = rw (← e) (read-short file at last b) in
+    h .few

@@ -1,0 +1,178 @@
+-- `records::read` meets its contract: each arm reads what its type byte says in the list of types, and a byte past the list is no type.
+-- Assumes nothing.
+use mathlib.Core.Logic.{_≢_}
+use mathlib.Core.Path.{_≡_}
+use Prim.Native.Nat.{ℕ, _+_, _≤_}
+use native.Mathlib.Omega.{arith}
+use borrow.Author.Needs.{needs}
+use borrow.Author.Tests.{lt-ltb, le-ltb}
+use lib.ListN.{getD, List·getD-eq-default}
+use Rattle.records.proofs.read.Statement.{statement}
+use Rattle.records.proofs.read.Tie as tie
+use Rattle.records.specs.Records.{unknown, types, need, read as readOf}
+
+-- a number from n on that is none of six is beyond them
+none-of-six : (t n : ℕ) → n ≤ t → t ≢ n → t ≢ n + 1 → t ≢ n + 2 → t ≢ n + 3 → t ≢ n + 4 → t ≢ n + 5 → n + 6 ≤ t
+none-of-six t n h h₀ h₁ h₂ h₃ h₄ h₅ = omega arith
+
+-- there are twelve types
+past : (t : ℕ) → 12 ≤ t → getD types t unknown ≡ unknown
+past t h = List·getD-eq-default types unknown h
+
+returns : tie.Need-returns
+unfolding readOf need
+returns c = simp (le-ltb _ _ (c .if1 .taken))
+
+shared-slice-read-kind : tie.Need-shared-slice-read-kind
+shared-slice-read-kind c = search needs
+
+read-code-requires : tie.Need-read-code-requires
+read-code-requires c κs = search needs
+
+read-code-requires-2 : tie.Need-read-code-requires-2
+read-code-requires-2 c κs = search needs
+
+read-fixups-requires : tie.Need-read-fixups-requires
+read-fixups-requires c κs = search needs
+
+read-fixups-requires-2 : tie.Need-read-fixups-requires-2
+read-fixups-requires-2 c κs = search needs
+
+read-fixups-requires-3 : tie.Need-read-fixups-requires-3
+read-fixups-requires-3 c κs = search needs
+
+read-fixups-requires-4 : tie.Need-read-fixups-requires-4
+read-fixups-requires-4 c κs = search needs
+
+read-fixups-requires-5 : tie.Need-read-fixups-requires-5
+read-fixups-requires-5 c κs = search needs
+
+read-fixups-requires-6 : tie.Need-read-fixups-requires-6
+read-fixups-requires-6 c κs = search needs
+
+read-fixups-requires-7 : tie.Need-read-fixups-requires-7
+read-fixups-requires-7 c κs = search needs
+
+read-fixups-requires-8 : tie.Need-read-fixups-requires-8
+read-fixups-requires-8 c κs = search needs
+
+read-code-requires-3 : tie.Need-read-code-requires-3
+read-code-requires-3 c κs = search needs
+
+read-end-requires : tie.Need-read-end-requires
+read-end-requires c κs = search needs
+
+returns-2 : tie.Need-returns-2
+unfolding readOf need
+returns-2 c =
+    let m = c .before in
+    simp (lt-ltb _ _ (m .before .before .if1 .left), m .match .keys1) (c .read-code .ensures)
+
+returns-3 : tie.Need-returns-3
+unfolding readOf need
+returns-3 c =
+    let m = c .before in
+    simp (lt-ltb _ _ (m .before .before .if1 .left), m .match .keys2) (c .read-code2 .ensures)
+
+returns-4 : tie.Need-returns-4
+unfolding readOf need
+returns-4 c =
+    let m = c .before in
+    simp (lt-ltb _ _ (m .before .before .if1 .left), m .match .keys3) (c .read-fixups .ensures)
+
+returns-5 : tie.Need-returns-5
+unfolding readOf need
+returns-5 c =
+    let m = c .before in
+    simp (lt-ltb _ _ (m .before .before .if1 .left), m .match .keys4) (c .read-fixups2 .ensures)
+
+returns-6 : tie.Need-returns-6
+unfolding readOf need
+returns-6 c =
+    let m = c .before in
+    simp (lt-ltb _ _ (m .before .before .if1 .left), m .match .keys5) (c .read-fixups3 .ensures)
+
+returns-7 : tie.Need-returns-7
+unfolding readOf need
+returns-7 c =
+    let m = c .before in
+    simp (lt-ltb _ _ (m .before .before .if1 .left), m .match .keys6) (c .read-fixups4 .ensures)
+
+returns-8 : tie.Need-returns-8
+unfolding readOf need
+returns-8 c =
+    let m = c .before in
+    simp (lt-ltb _ _ (m .before .before .if1 .left), m .match .keys7) (c .read-fixups5 .ensures)
+
+returns-9 : tie.Need-returns-9
+unfolding readOf need
+returns-9 c =
+    let m = c .before in
+    simp (lt-ltb _ _ (m .before .before .if1 .left), m .match .keys8) (c .read-fixups6 .ensures)
+
+returns-10 : tie.Need-returns-10
+unfolding readOf need
+returns-10 c =
+    let m = c .before in
+    simp (lt-ltb _ _ (m .before .before .if1 .left), m .match .keys9) (c .read-fixups7 .ensures)
+
+returns-11 : tie.Need-returns-11
+unfolding readOf need
+returns-11 c =
+    let m = c .before in
+    simp (lt-ltb _ _ (m .before .before .if1 .left), m .match .keys10) (c .read-fixups8 .ensures)
+
+returns-12 : tie.Need-returns-12
+unfolding readOf need
+returns-12 c =
+    let m = c .before in
+    simp (lt-ltb _ _ (m .before .before .if1 .left), m .match .keys11) (c .read-code3 .ensures)
+
+returns-13 : tie.Need-returns-13
+unfolding readOf need
+returns-13 c =
+    let m = c .before in
+    simp (lt-ltb _ _ (m .before .before .if1 .left), m .match .keys12) (c .read-end .ensures)
+
+returns-14 : tie.Need-returns-14
+unfolding readOf need
+returns-14 c =
+    let s = c .before .before .before .before in
+    let t = getD (s .args .file .now) (s .args .at) 0 in
+    let r = c .match .rest in
+    let q = r .0 .0 .0 .0 .0 .0 in
+    let low : 6 ≤ t = none-of-six t 0 (omega arith) (q .0 .0 .0 .0 .0 .1) (q .0 .0 .0 .0 .1) (q .0 .0 .0 .1) (q .0 .0 .1) (q .0 .1) (q .1) in
+    let high : 12 ≤ t = none-of-six t 6 low (r .0 .0 .0 .0 .0 .1) (r .0 .0 .0 .0 .1) (r .0 .0 .0 .1) (r .0 .0 .1) (r .0 .1) (r .1) in
+    simp (lt-ltb _ _ (c .before .before .if1 .left), past t high)
+
+pub read-spec : {M : Type 1} → statement M
+read-spec =
+    tie.close
+    (tie.spec
+    returns
+    shared-slice-read-kind
+    read-code-requires
+    read-code-requires-2
+    read-fixups-requires
+    read-fixups-requires-2
+    read-fixups-requires-3
+    read-fixups-requires-4
+    read-fixups-requires-5
+    read-fixups-requires-6
+    read-fixups-requires-7
+    read-fixups-requires-8
+    read-code-requires-3
+    read-end-requires
+    returns-2
+    returns-3
+    returns-4
+    returns-5
+    returns-6
+    returns-7
+    returns-8
+    returns-9
+    returns-10
+    returns-11
+    returns-12
+    returns-13
+    returns-14)

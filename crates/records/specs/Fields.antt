@@ -1,0 +1,49 @@
+-- The address fields that a fixup record lists ("Its address fields are the bytes and words that its fixups list").
+-- Assumes nothing.
+use mathlib.Core.List.{List, [], _∷_}
+use Prim.Native.Nat.{ℕ, _+_}
+use lib.ListN.{getD}
+use Rattle.records.specs.declared.Fixup.{Fixup}
+use Rattle.records.specs.declared.Fixup.the-variants.{Low, Page, Word, High}
+use Rattle.records.specs.declared.Field.{Field}
+
+-- how many bytes a field has: 06 and 07 list words, all others bytes
+abbrev pub widthOf : Fixup → ℕ
+widthOf Low = 1
+widthOf Page = 1
+widthOf Word = 2
+widthOf High = 1
+
+-- how many bytes list one field: "08, 09 take (index, LSB)", all others the index alone
+abbrev pub itemSize : Fixup → ℕ
+itemSize Low = 1
+itemSize Page = 1
+itemSize Word = 1
+itemSize High = 2
+
+abbrev pub lsbAt : Fixup → List ℕ → ℕ → ℕ
+lsbAt Low items at = 0
+lsbAt Page items at = 0
+lsbAt Word items at = 0
+lsbAt High items at = getD items (at + 1) 0
+
+-- the field that the item at an offset lists
+unfoldable pub fieldAt : Fixup → List ℕ → ℕ → Field
+fieldAt fixup items at = record { fixup = fixup; index = getD items at 0; lsb = lsbAt fixup items at }
+
+-- the fields of a list of indices, and of a list of pairs of index and LSB
+abbrev pub singles : Fixup → List ℕ → List Field
+singles fixup [] = []
+singles fixup (index ∷ items) = record { fixup = fixup; index = index; lsb = 0 } ∷ singles fixup items
+
+abbrev pub pairs : List ℕ → List Field
+pairs [] = []
+pairs (index ∷ []) = []
+pairs (index ∷ lsb ∷ items) = record { fixup = High; index = index; lsb = lsb } ∷ pairs items
+
+-- the fields that a fixup record's bytes list, in their order
+unfoldable pub fieldsOf : Fixup → List ℕ → List Field
+fieldsOf Low items = singles Low items
+fieldsOf Page items = singles Page items
+fieldsOf Word items = singles Word items
+fieldsOf High items = pairs items

@@ -1,0 +1,110 @@
+-- ACX records as document 01 reads them, "ACX records, checks in order": what stands at an offset of a file, with no base in mind.
+-- Cited by `records::read`; what is left to check, at the bases and against the map, stands in `acx`.
+-- Assumes nothing.
+use mathlib.Core.Bool.{Bool, true, false, _&&_}
+use mathlib.Core.List.{List, [], _∷_}
+use Prim.Native.Nat.{ℕ, _+_, _-_, _%_}
+use lib.Dec.{ltb, leb, eqb}
+use lib.ListN.{length, getD}
+use Rattle.words.specs.Numbers.{value}
+use Rattle.answer.specs.declared.Fault.{Fault}
+use Rattle.answer.specs.declared.Fault.the-variants.{CutShort, NotKnown, LengthNotAllowed, FixupUnsuited}
+use Rattle.records.specs.declared.Kind.{Kind}
+use Rattle.records.specs.declared.Kind.the-variants.{Main, ZeroPage, Absolute}
+use Rattle.records.specs.declared.Fixup.{Fixup}
+use Rattle.records.specs.declared.Fixup.the-variants.{Low, Page, Word, High}
+use Rattle.records.specs.declared.Last.{Last}
+use Rattle.records.specs.declared.Last.the-variants.{Nothing, Of}
+use Rattle.records.specs.declared.Entry.{Entry}
+use Rattle.records.specs.declared.Entry.the-variants.{Nowhere, Fixed, Relative}
+use Rattle.records.specs.declared.Record.{Record}
+use Rattle.records.specs.declared.Record.the-variants.{Code, Fixups, End, Faulty}
+
+-- a check: where it holds, the rest decides; where it does not, that is the record's fault
+unfoldable pub need : Bool → Fault → Record → Record
+need true fault rest = rest
+need false fault rest = Faulty fault
+
+-- what a record's type byte says
+pub data Type′ : Type 0 where
+  code : Kind → Type′
+  fixups : Kind → Fixup → Type′
+  end : Type′
+  unknown : Type′
+
+-- the types 00 to 0B. "02, 04, 06, 08 after 00; 03, 05, 07, 09 after 0A"
+abbrev pub types : List Type′
+types =
+    code Main
+    ∷ code Absolute
+    ∷ fixups Main Low
+    ∷ fixups ZeroPage Low
+    ∷ fixups Main Page
+    ∷ fixups ZeroPage Page
+    ∷ fixups Main Word
+    ∷ fixups ZeroPage Word
+    ∷ fixups Main High
+    ∷ fixups ZeroPage High
+    ∷ code ZeroPage
+    ∷ end
+    ∷ []
+
+-- "Code 00, 0A, 01: length byte present (5); 2 to 255 (9); that many bytes present (5), the first two the address, the rest n code bytes"
+unfoldable pub readCode : List ℕ → ℕ → Kind → Record
+readCode file at kind =
+    let n = getD file (at + 1) 0 in
+    need (leb (at + 2) (length file)) CutShort
+    (need (leb 2 n) LengthNotAllowed
+    (need (leb (at + 2 + n) (length file)) CutShort
+    (Code kind (value 2 file (at + 2)) (at + 4) (n - 2))))
+
+-- "the last code record before it of the right kind (18) ..; none after 01 or before any code record"
+abbrev pub suits : Kind → Last → Bool
+suits Main Nothing = false
+suits Main (Of Main) = true
+suits Main (Of ZeroPage) = false
+suits Main (Of Absolute) = false
+suits ZeroPage Nothing = false
+suits ZeroPage (Of Main) = false
+suits ZeroPage (Of ZeroPage) = true
+suits ZeroPage (Of Absolute) = false
+suits Absolute last = false
+
+-- "Length 1 to 253; for 08 and 09 even, 0 to 254 (9)"
+abbrev pub lengthAllowed : Fixup → ℕ → Bool
+lengthAllowed Low n = leb 1 n && leb n 253
+lengthAllowed Page n = leb 1 n && leb n 253
+lengthAllowed Word n = leb 1 n && leb n 253
+lengthAllowed High n = eqb (n % 2) 0 && leb n 254
+
+-- "Fixups: length byte present (5); the last code record before it of the right kind (18) .. Length .. (9). Bytes present (5)."
+unfoldable pub readFixups : List ℕ → ℕ → Last → Kind → Fixup → Record
+readFixups file at last kind fixup =
+    let n = getD file (at + 1) 0 in
+    need (leb (at + 2) (length file)) CutShort
+    (need (suits kind last) FixupUnsuited
+    (need (lengthAllowed fixup n) LengthNotAllowed
+    (need (leb (at + 2 + n) (length file)) CutShort
+    (Fixups fixup (at + 2) n))))
+
+-- "flag 0 none, 1 absolute, 2 plus main base (6)"
+abbrev pub entries : ℕ → List Entry
+entries address = Nowhere ∷ Fixed address ∷ Relative address ∷ []
+
+-- "0B: flag and address present (5); flag .. (6)"
+unfoldable pub readEnd : List ℕ → ℕ → Record
+readEnd file at =
+    let flag = getD file (at + 1) 0 in
+    need (leb (at + 4) (length file)) CutShort
+    (need (leb flag 2) NotKnown
+    (End (getD (entries (value 2 file (at + 2))) flag Nowhere) (at + 4)))
+
+abbrev pub readAs : List ℕ → ℕ → Last → Type′ → Record
+readAs file at last (code kind) = readCode file at kind
+readAs file at last (fixups kind fixup) = readFixups file at last kind fixup
+readAs file at last end = readEnd file at
+readAs file at last unknown = Faulty NotKnown
+
+-- the record at an offset: "Type known (5, 6)", and then as the type says
+unfoldable pub read : List ℕ → ℕ → Last → Record
+read file at last = need (ltb at (length file)) CutShort (readAs file at last (getD types (getD file at 0) unknown))

@@ -1,0 +1,256 @@
+// ACX records, read with no base in mind: what stands at an offset of a file, and the fields that a fixup record lists.
+// Where a record goes and whether it fits is the business of the crate `acx`.
+use answer::Fault;
+ghost use mathlib.Core.Path.{_≡_};
+ghost use Prim.Native.Nat.{_+_, _<_, _≤_};
+ghost use lib.ListN.{length};
+ghost use Rattle.records.specs.Records.{suits as suitsOf, lengthAllowed, readCode, readFixups, readEnd, read as readOf};
+ghost use Rattle.records.specs.Fields.{itemSize, widthOf, fieldAt};
+
+// What a code record's address counts from: the main base, the zero-page base, or nothing.
+pub enum Kind {
+    Main,
+    ZeroPage,
+    Absolute,
+}
+
+// What a fixup puts on its field: the main base on a byte, the zero-page base on a byte, the main base on a word, and on a high byte what
+// the main base carries over from the low one.
+pub enum Fixup {
+    Low,
+    Page,
+    Word,
+    High,
+}
+
+// The last code record before a record: there is none, or its kind.
+pub enum Last {
+    Nothing,
+    Of(Kind),
+}
+
+// Where an end record lets the program start.
+pub enum Entry {
+    Nowhere,
+    Fixed(u16),
+    Relative(u16),
+}
+
+// A record: its code bytes or its items are the `size` bytes of the file from `from` on, and the next record begins after them.
+pub enum Record {
+    Code {
+        kind: Kind,
+        address: u16,
+        from: usize,
+        size: usize,
+    },
+    Fixups {
+        fixup: Fixup,
+        from: usize,
+        size: usize,
+    },
+    End {
+        entry: Entry,
+        next: usize,
+    },
+    Faulty(Fault),
+}
+
+// An address field: what is put on it, its index among the code bytes, and the low byte beside a high one (else zero).
+pub struct Field {
+    pub fixup: Fixup,
+    pub index: usize,
+    pub lsb: usize,
+}
+
+// The record at `at`.
+pub fn read(file: &[u8], at: usize, last: Last) -> Record
+    requires { ⌜ length (now file) ≤ 65536 ⌝ }
+    ensures { λ r. ⌜ r ≡ readOf (now (file .entry)) at last ⌝ }
+{
+    if file.len() <= at {
+        return Record::Faulty(Fault::CutShort);
+    }
+    let kind = file[at];
+    match kind {
+        0 => read_code(file, at, Kind::Main),
+        1 => read_code(file, at, Kind::Absolute),
+        2 => read_fixups(file, at, last, Kind::Main, Fixup::Low),
+        3 => read_fixups(file, at, last, Kind::ZeroPage, Fixup::Low),
+        4 => read_fixups(file, at, last, Kind::Main, Fixup::Page),
+        5 => read_fixups(file, at, last, Kind::ZeroPage, Fixup::Page),
+        6 => read_fixups(file, at, last, Kind::Main, Fixup::Word),
+        7 => read_fixups(file, at, last, Kind::ZeroPage, Fixup::Word),
+        8 => read_fixups(file, at, last, Kind::Main, Fixup::High),
+        9 => read_fixups(file, at, last, Kind::ZeroPage, Fixup::High),
+        10 => read_code(file, at, Kind::ZeroPage),
+        11 => read_end(file, at),
+        _ => Record::Faulty(Fault::NotKnown),
+    }
+}
+
+// A code record.
+fn read_code(file: &[u8], at: usize, kind: Kind) -> Record
+    requires { ⌜ (at < length (now file)) × (length (now file) ≤ 65536) ⌝ }
+    ensures { λ r. ⌜ r ≡ readCode (now (file .entry)) at kind ⌝ }
+{
+    if file.len() < at + 2 {
+        return Record::Faulty(Fault::CutShort);
+    }
+    let length = words::wide(file[at + 1]);
+    if length < 2 {
+        return Record::Faulty(Fault::LengthNotAllowed);
+    }
+    if file.len() < at + 2 + length {
+        return Record::Faulty(Fault::CutShort);
+    }
+    Record::Code {
+        kind,
+        address: words::word_at(file, at + 2),
+        from: at + 4,
+        size: length - 2,
+    }
+}
+
+// A fixup record for the code records of a kind.
+fn read_fixups(file: &[u8], at: usize, last: Last, kind: Kind, fixup: Fixup) -> Record
+    requires { ⌜ (at < length (now file)) × (length (now file) ≤ 65536) ⌝ }
+    ensures { λ r. ⌜ r ≡ readFixups (now (file .entry)) at last kind fixup ⌝ }
+{
+    if file.len() < at + 2 {
+        return Record::Faulty(Fault::CutShort);
+    }
+    let suited = suits(kind, last);
+    if !suited {
+        return Record::Faulty(Fault::FixupUnsuited);
+    }
+    let length = words::wide(file[at + 1]);
+    let allowed = length_allowed(fixup, length);
+    if !allowed {
+        return Record::Faulty(Fault::LengthNotAllowed);
+    }
+    if file.len() < at + 2 + length {
+        return Record::Faulty(Fault::CutShort);
+    }
+    Record::Fixups {
+        fixup,
+        from: at + 2,
+        size: length,
+    }
+}
+
+// Whether a fixup record for code of a kind may follow the last code record.
+fn suits(kind: Kind, last: Last) -> bool
+    ensures { λ r. ⌜ r ≡ suitsOf kind last ⌝ }
+{
+    match last {
+        Last::Nothing => false,
+        Last::Of(before) => match kind {
+            Kind::Main => match before {
+                Kind::Main => true,
+                Kind::ZeroPage => false,
+                Kind::Absolute => false,
+            },
+            Kind::ZeroPage => match before {
+                Kind::Main => false,
+                Kind::ZeroPage => true,
+                Kind::Absolute => false,
+            },
+            Kind::Absolute => false,
+        },
+    }
+}
+
+// Whether a fixup record may have this length.
+fn length_allowed(fixup: Fixup, length: usize) -> bool
+    ensures { λ r. ⌜ r ≡ lengthAllowed fixup length ⌝ }
+{
+    match fixup {
+        Fixup::High => length % 2 == 0 && length <= 254,
+        Fixup::Low => 1 <= length && length <= 253,
+        Fixup::Page => 1 <= length && length <= 253,
+        Fixup::Word => 1 <= length && length <= 253,
+    }
+}
+
+// The end record.
+fn read_end(file: &[u8], at: usize) -> Record
+    requires { ⌜ (at < length (now file)) × (length (now file) ≤ 65536) ⌝ }
+    ensures { λ r. ⌜ r ≡ readEnd (now (file .entry)) at ⌝ }
+{
+    if file.len() < at + 4 {
+        return Record::Faulty(Fault::CutShort);
+    }
+    let flag = file[at + 1];
+    let address = words::word_at(file, at + 2);
+    let next = at + 4;
+    match flag {
+        0 => Record::End {
+            entry: Entry::Nowhere,
+            next,
+        },
+        1 => Record::End {
+            entry: Entry::Fixed(address),
+            next,
+        },
+        2 => Record::End {
+            entry: Entry::Relative(address),
+            next,
+        },
+        _ => Record::Faulty(Fault::NotKnown),
+    }
+}
+
+// How many bytes list one field.
+pub fn item_size(fixup: Fixup) -> usize
+    ensures { λ r. ⌜ r ≡ itemSize fixup ⌝ }
+{
+    match fixup {
+        Fixup::Low => 1,
+        Fixup::Page => 1,
+        Fixup::Word => 1,
+        Fixup::High => 2,
+    }
+}
+
+// How many bytes a field has.
+pub fn width(fixup: Fixup) -> usize
+    ensures { λ r. ⌜ r ≡ widthOf fixup ⌝ }
+{
+    match fixup {
+        Fixup::Low => 1,
+        Fixup::Page => 1,
+        Fixup::Word => 2,
+        Fixup::High => 1,
+    }
+}
+
+// The field that the item at `at` of a fixup record's items lists.
+pub fn field_at(items: &[u8], at: usize, fixup: Fixup) -> Field
+    requires { ⌜ at + itemSize fixup ≤ length (now items) ⌝ }
+    ensures { λ r. ⌜ (r ≡ fieldAt fixup (now (items .entry)) at) × (r .index < 256) × (r .lsb < 256) ⌝ }
+{
+    let index = words::wide(items[at]);
+    match fixup {
+        Fixup::High => Field {
+            fixup: Fixup::High,
+            index,
+            lsb: words::wide(items[at + 1]),
+        },
+        Fixup::Low => Field {
+            fixup: Fixup::Low,
+            index,
+            lsb: 0,
+        },
+        Fixup::Page => Field {
+            fixup: Fixup::Page,
+            index,
+            lsb: 0,
+        },
+        Fixup::Word => Field {
+            fixup: Fixup::Word,
+            index,
+            lsb: 0,
+        },
+    }
+}
