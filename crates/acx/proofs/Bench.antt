@@ -3,20 +3,20 @@
 use mathlib.Core.List.{List, [], _∷_}
 use mathlib.Core.Path.{_≡_, refl}
 use Prim.Native.Nat.{ℕ}
-use lib.ListN.{replicate}
-use Rattle.words.specs.Numbers.{number, value, digits, store, on, change}
-use Rattle.words.specs.Runs.{part, put, allZero, contains}
+use Rattle.answer.specs.Checks.{need}
 use Rattle.answer.specs.declared.Fault.the-variants.{FieldNotLoaded, AdjustedTwice}
 use Rattle.answer.specs.declared.Outcome.{Outcome}
 use Rattle.answer.specs.declared.Outcome.the-variants.{Accepted, Refused}
 use Rattle.answer.specs.declared.Start.the-variants.{Absent, At}
 use Rattle.records.specs.Fields.{fieldsOf}
-use Rattle.records.specs.Records.{need as needRecord, readCode, readFixups, readEnd, read}
-use Rattle.acx.specs.Events.{play, marks, blank, placedIn, adjustedIn, Ran}
+use Rattle.records.specs.Records.{readCode, readFixups, readEnd, read}
+use Rattle.words.specs.Numbers.{number, value, digits, store, on, change}
+use Rattle.words.specs.Runs.{part, put, allZero, contains}
+use Rattle.acx.specs.AtBases.{placing, adjusting, ending, applied}
+use Rattle.acx.specs.Call.{load, memoryAfter, mapAfter}
+use Rattle.acx.specs.Events.{play, marks, blank, placedIn, adjustedIn}
 use Rattle.acx.specs.Pieces.{adjustments, events, amountOf}
-use Rattle.acx.specs.Records.{need as needCheck, placing, adjusting, ending, applied}
-use Rattle.acx.specs.Walk.{Verdict, checked, walk, from, judged, reported, opening}
-use Rattle.acx.specs.Call.{Settings, need, load, call, memoryAfter, mapAfter}
+use Rattle.acx.specs.Walk.{checked, walk, from, judged, reported, opening}
 
 -- a file in device form, the main base, and what a load into a memory of zeros gives: the outcome, and runs of bytes in memory and in the map
 pub record Row : Type 0 where
@@ -87,5 +87,5 @@ rows =
     ∷ []
 
 pub bench : gots rows ≡ wants rows
-unfolding rows number value digits store on change part put allZero contains fieldsOf needRecord readCode readFixups readEnd read play marks blank placedIn adjustedIn adjustments events amountOf needCheck placing adjusting ending applied checked walk from judged opening need load
+unfolding rows number value digits store on change part put allZero contains fieldsOf need readCode readFixups readEnd read play marks blank placedIn adjustedIn adjustments events amountOf placing adjusting ending applied checked walk from judged opening load
 bench = refl

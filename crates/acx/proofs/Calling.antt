@@ -6,8 +6,9 @@ use mathlib.Core.Path.{_≡_, refl, sym, ap, _∙_}
 use Prim.Native.Nat.{ℕ, zero, suc, _≤_, _<_}
 use native.Mathlib.Omega.{arith}
 use borrow.Author.Tests.{le-leb, lt-leb, leb-true, eq-eqb, ne-eqb}
-use lib.Dec.{leb, eqb}
+use lib.Dec.{leb}
 use lib.ListN.{length, replicate}
+use Rattle.answer.specs.Checks.{need}
 use Rattle.answer.specs.declared.Fault.{Fault}
 use Rattle.answer.specs.declared.Fault.the-variants.{WrongBuffer, SettingOutOfRange, FileTooLong}
 use Rattle.answer.specs.declared.Outcome.{Outcome}
@@ -16,14 +17,14 @@ use Rattle.answer.specs.declared.Start.{Start}
 use Rattle.acx.proofs.Events.{did-none}
 use Rattle.acx.proofs.Standing.{Stands, stands-first, stands-on}
 use Rattle.acx.proofs.Walking.{accepted-keeps}
-use Rattle.acx.specs.Call.{formOf, Settings, inRange, basesOf, sized, need, load, call, memoryAfter, mapAfter, Carried, ifSized, placedOf, adjustedOf, Loaded}
-use Rattle.acx.specs.Events.{Event, play, marks, blank, placedIn, adjustedIn, Ran, Did}
-use Rattle.acx.specs.Walk.{Verdict, accepted, refused, from, opening, openingSize, opened, judged, report, reported}
+use Rattle.acx.specs.Call.{formOf, Settings, inRange, basesOf, sized, load, call, Carried, placedOf, adjustedOf, Loaded}
+use Rattle.acx.specs.Events.{play, blank, Ran, Did}
+use Rattle.acx.specs.Walk.{Verdict, accepted, refused, atOnce, from, opening, openingSize, judged, report, reported}
 use Rattle.acx.specs.declared.Bases.{Bases}
 use Rattle.acx.specs.declared.Check.{Check}
 use Rattle.acx.specs.declared.Check.the-variants.{Passed, Failed}
 use Rattle.acx.specs.declared.Form.{Form}
-use Rattle.acx.specs.declared.Form.the-variants.{Disk, Device}
+use Rattle.acx.specs.declared.Form.the-variants.{Device}
 
 pub form-device : (n : ℕ) → (n ≡ 0 → ⊥) → Device ≡ formOf n
 form-device zero h = absurd (h refl)
@@ -36,24 +37,24 @@ cleared n p l e = e ∙ ap (λ (k : ℕ). replicate k 0) l
 
 -- ---- the opening and the records
 
-module _ (form : Form) (file : List ℕ) (b : Bases) (wet : Bool) (m : List ℕ) (c : Check) (o : c ≡ opening form file) where
-  pub run-refused : (fault : Fault) (r : Outcome) (p′ : List ℕ) → c ≡ Failed fault → r ≡ Refused fault 0 0 → p′ ≡ blank
-      → Did Outcome (reported (judged form file b)) wet m blank r m p′
+module _ (form : Form) (file : List ℕ) (b : Bases) (write : Bool) (m : List ℕ) (c : Check) (o : c ≡ opening form file) where
+  pub file-refused : (fault : Fault) (r : Outcome) (p′ : List ℕ) → c ≡ Failed fault → r ≡ Refused fault 0 0 → p′ ≡ blank
+      → Did Outcome (reported (judged form file b)) write m blank r m p′
   unfolding judged
-  run-refused fault r p′ e er ep =
+  file-refused fault r p′ e er ep =
       let f : opening form file ≡ Failed fault = sym o ∙ e in
-      rw (f, er, ep) (did-none _ wet m blank)
+      rw (f, er, ep) (did-none _ write m blank)
 
-  pub run-walked : (n : ℕ) (r : Outcome) (m′ p′ : List ℕ) → c ≡ Passed → n ≡ openingSize form → Did Outcome (reported (from file b n [])) wet m blank r m′ p′
-      → Did Outcome (reported (judged form file b)) wet m blank r m′ p′
+  pub file-walked : (n : ℕ) (r : Outcome) (m′ p′ : List ℕ) → c ≡ Passed → n ≡ openingSize form → Did Outcome (reported (from file b n [])) write m blank r m′ p′
+      → Did Outcome (reported (judged form file b)) write m blank r m′ p′
   unfolding judged
-  run-walked n r m′ p′ e en d =
+  file-walked n r m′ p′ e en d =
       let f : opening form file ≡ Passed = sym o ∙ e in
       rw (f, ← en) d
 
 -- ---- first checked, then carried out
 
-abbrev isRefused : Outcome → Bool
+abbrev pub isRefused : Outcome → Bool
 isRefused (Accepted start placed adjusted names low) = false
 isRefused (Refused fault offset side) = true
 
@@ -81,7 +82,8 @@ module _ (m m₁ p₁ : List ℕ) (r : Outcome) where
 
 -- ---- the settings and the file's length
 
-and-true : (a b : Bool) → a && b ≡ true → (a ≡ true) × (b ≡ true)
+-- both of two tests hold
+pub and-true : (a b : Bool) → a && b ≡ true → (a ≡ true) × (b ≡ true)
 and-true true b e = (refl, e)
 and-true false b e = absurd (false≢true e)
 
@@ -126,7 +128,7 @@ record Few (n : ℕ) (o : Ran Verdict) : Type 0 where
   placed : placedOf (reported o .answer) ≤ n
   adjusted : adjustedOf (reported o .answer) ≤ n
 
-few-need : (n : ℕ) (c : Bool) (fault : Fault) (o : Ran Verdict) → Few n o → Few n (need c fault o)
+few-need : (n : ℕ) (c : Bool) (fault : Fault) (o : Ran Verdict) → Few n o → Few n (need atOnce c fault o)
 unfolding need
 few-need n true fault o h = h
 few-need n false fault o h = record { placed = omega arith; adjusted = omega arith }

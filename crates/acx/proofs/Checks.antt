@@ -1,27 +1,28 @@
 -- The checks of one record, over plain values: what each comes to where it holds and where it fails. The functions' proofs cite these.
 -- Assumes nothing.
 use mathlib.Core.Bool.{Bool, true, false, not, false≢true}
-use mathlib.Core.List.{List, [], _∷_, _++_}
+use mathlib.Core.List.{List, [], _∷_}
 use mathlib.Core.Path.{_≡_, refl, sym, ap, _∙_}
 use Prim.Native.Nat.{ℕ, _+_, _-_, _<_, _≤_}
 use native.Mathlib.Omega.{arith}
 use borrow.Author.Tests.{le-leb, lt-leb, leb-true}
 use borrow.Rule.Slice.PartMut.{midOf, putMid}
 use lib.ListN.{length, replicate, length-replicate}
-use Rattle.words.proofs.Lent.{lent-is, back-is, back-changed}
-use Rattle.words.proofs.Runs.{length-part}
-use Rattle.words.specs.Numbers.{on, change}
-use Rattle.words.specs.Runs.{part, put, allZero, contains}
+use Rattle.answer.specs.Checks.{need}
 use Rattle.answer.specs.declared.Fault.{Fault}
 use Rattle.answer.specs.declared.Fault.the-variants.{DoesNotFit, PiecesOverlap, FieldNotLoaded, AdjustedTwice}
 use Rattle.records.specs.Fields.{widthOf}
 use Rattle.records.specs.declared.Field.{Field}
 use Rattle.records.specs.declared.Fixup.{Fixup}
 use Rattle.records.specs.declared.Fixup.the-variants.{Low, Page, Word, High}
+use Rattle.words.proofs.Lent.{lent-is, back-is, back-changed}
+use Rattle.words.proofs.Runs.{length-part}
+use Rattle.words.specs.Numbers.{on, change}
+use Rattle.words.specs.Runs.{part, put, allZero, contains}
 use Rattle.acx.proofs.Events.{did-none}
+use Rattle.acx.specs.AtBases.{failed, passed, placing, adjusting}
 use Rattle.acx.specs.Events.{Event, place, markOne, marks, play, Ran, playIf, Did}
 use Rattle.acx.specs.Pieces.{width, amountOf, adjustment, adjustments}
-use Rattle.acx.specs.Records.{need, passed, placing, first, adjusting}
 use Rattle.acx.specs.declared.Bases.{Bases}
 use Rattle.acx.specs.declared.Check.{Check}
 use Rattle.acx.specs.declared.Check.the-variants.{Passed, Failed}
@@ -36,7 +37,7 @@ pub failed-passed : (fault : Fault) → Failed fault ≡ Passed → ⊥
 failed-passed fault e = false≢true (ap isPassed e)
 
 -- what passes a check holds it, and is what the rest came to
-pub need-passed : (c : Bool) (fault : Fault) (o : Ran Check) → need c fault o .answer ≡ Passed → (c ≡ true) × (need c fault o ≡ o)
+pub need-passed : (c : Bool) (fault : Fault) (o : Ran Check) → need failed c fault o .answer ≡ Passed → (c ≡ true) × (need failed c fault o ≡ o)
 unfolding need
 need-passed true fault o e = (refl, refl)
 need-passed false fault o e = absurd (failed-passed fault e)
@@ -51,33 +52,33 @@ filled a n v p w h e =
     rw e′ (back-is a n p (replicate n v) h (length-replicate n v))
 
 -- a part of memory that code was copied into
-pub copied : (a : ℕ) (code m w : List ℕ) (wet : Bool) → wet ≡ true → a + length code ≤ length m → w ≡ code
-    → putMid a (a + length code - a) m w ≡ playIf wet (place a code ∷ []) m
+pub copied : (a : ℕ) (code m w : List ℕ) (write : Bool) → write ≡ true → a + length code ≤ length m → w ≡ code
+    → putMid a (a + length code - a) m w ≡ playIf write (place a code ∷ []) m
 unfolding play
-copied a code m w wet t h e = rw (t, e) (back-is a (length code) m code h refl)
+copied a code m w write t h e = rw (t, e) (back-is a (length code) m code h refl)
 
 -- a part of memory that a field was adjusted in
-pub added : (b : Bases) (a n : ℕ) (f : Field) (x : ℕ) (m w : List ℕ) (wet : Bool) → wet ≡ true → x ≡ amountOf b f → a + n ≤ length m → f .index + width f ≤ n
-    → w ≡ change (width f) (on (width f) x) (midOf a (a + n - a) m) (f .index) → putMid a (a + n - a) m w ≡ playIf wet (adjustment b a f ∷ []) m
+pub added : (b : Bases) (a n : ℕ) (f : Field) (x : ℕ) (m w : List ℕ) (write : Bool) → write ≡ true → x ≡ amountOf b f → a + n ≤ length m → f .index + width f ≤ n
+    → w ≡ change (width f) (on (width f) x) (midOf a (a + n - a) m) (f .index) → putMid a (a + n - a) m w ≡ playIf write (adjustment b a f ∷ []) m
 unfolding play
-added b a n f x m w wet t ex h i e =
+added b a n f x m w write t ex h i e =
     rw t
     (back-changed (width f) (on (width f) x) a n m w (f .index) h i e
     ∙ ap (λ (y : ℕ). change (width f) (on (width f) y) m (a + f .index)) ex)
 
 -- ---- code
 
-module _ (a limit : ℕ) (code : List ℕ) (wet : Bool) (m p : List ℕ) where
-  pub placing-high : limit < a + length code → Did Check (placing a limit code p) wet m p (Failed DoesNotFit) m p
+module _ (a limit : ℕ) (code : List ℕ) (write : Bool) (m p : List ℕ) where
+  pub placing-high : limit < a + length code → Did Check (placing a limit code p) write m p (Failed DoesNotFit) m p
   unfolding placing need
-  placing-high h = rw (lt-leb _ _ h) (did-none _ wet m p)
+  placing-high h = rw (lt-leb _ _ h) (did-none _ write m p)
 
-  pub placing-taken : a + length code ≤ limit → allZero (part p a (length code)) ≡ false → Did Check (placing a limit code p) wet m p (Failed PiecesOverlap) m p
+  pub placing-taken : a + length code ≤ limit → allZero (part p a (length code)) ≡ false → Did Check (placing a limit code p) write m p (Failed PiecesOverlap) m p
   unfolding placing need
-  placing-taken h z = rw (le-leb _ _ h, z) (did-none _ wet m p)
+  placing-taken h z = rw (le-leb _ _ h, z) (did-none _ write m p)
 
-  pub placing-done : (m′ p′ : List ℕ) → a + length code ≤ limit → allZero (part p a (length code)) ≡ true → m′ ≡ playIf wet (place a code ∷ []) m
-      → p′ ≡ put p a (replicate (length code) 1) → Did Check (placing a limit code p) wet m p Passed m′ p′
+  pub placing-done : (m′ p′ : List ℕ) → a + length code ≤ limit → allZero (part p a (length code)) ≡ true → m′ ≡ playIf write (place a code ∷ []) m
+      → p′ ≡ put p a (replicate (length code) 1) → Did Check (placing a limit code p) write m p Passed m′ p′
   unfolding placing need marks
   placing-done m′ p′ h z em ep = rw (le-leb _ _ h, z) (record { answer = refl; memory = em; map = ep })
 
@@ -100,20 +101,20 @@ width-le Word = omega arith
 width-le High = omega arith
 
 -- (the program has the field's width as a number k)
-module _ (b : Bases) (a n : ℕ) (f : Field) (wet : Bool) (m p : List ℕ) (k : ℕ) (ek : k ≡ width f) where
-  pub adjusting-outside : n < f .index + k → Did Check (adjusting b a n (f ∷ []) p) wet m p (Failed FieldNotLoaded) m p
+module _ (b : Bases) (a n : ℕ) (f : Field) (write : Bool) (m p : List ℕ) (k : ℕ) (ek : k ≡ width f) where
+  pub adjusting-outside : n < f .index + k → Did Check (adjusting b a n (f ∷ []) p) write m p (Failed FieldNotLoaded) m p
   unfolding adjusting need
-  adjusting-outside h = let g : n < f .index + width f = rw (← ek) h in rw (lt-leb _ _ g) (did-none _ wet m p)
+  adjusting-outside h = let g : n < f .index + width f = rw (← ek) h in rw (lt-leb _ _ g) (did-none _ write m p)
 
-  pub adjusting-twice : f .index + k ≤ n → contains 3 (part p (a + f .index) k) ≡ true → Did Check (adjusting b a n (f ∷ []) p) wet m p (Failed AdjustedTwice) m p
+  pub adjusting-twice : f .index + k ≤ n → contains 3 (part p (a + f .index) k) ≡ true → Did Check (adjusting b a n (f ∷ []) p) write m p (Failed AdjustedTwice) m p
   unfolding adjusting need
   adjusting-twice h t =
       let g : f .index + width f ≤ n = rw (← ek) h in
       let u : contains 3 (part p (a + f .index) (width f)) ≡ true = rw (← ek) t in
-      rw (le-leb _ _ g, u) (did-none _ wet m p)
+      rw (le-leb _ _ g, u) (did-none _ write m p)
 
-  pub adjusting-done : (m′ p′ : List ℕ) → f .index + k ≤ n → contains 3 (part p (a + f .index) k) ≡ false → m′ ≡ playIf wet (adjustment b a f ∷ []) m
-      → p′ ≡ put p (a + f .index) (replicate k 3) → Did Check (adjusting b a n (f ∷ []) p) wet m p Passed m′ p′
+  pub adjusting-done : (m′ p′ : List ℕ) → f .index + k ≤ n → contains 3 (part p (a + f .index) k) ≡ false → m′ ≡ playIf write (adjustment b a f ∷ []) m
+      → p′ ≡ put p (a + f .index) (replicate k 3) → Did Check (adjusting b a n (f ∷ []) p) write m p Passed m′ p′
   unfolding adjusting need marks
   adjusting-done m′ p′ h t em ep =
       let g : f .index + width f ≤ n = rw (← ek) h in

@@ -1,18 +1,18 @@
 -- Events one after the other: what they leave in memory and in the map, their counts, and those of a piece more or of fields more.
 -- Assumes nothing.
 use mathlib.Core.Bool.{Bool, true, false}
-use mathlib.Core.List.{List, [], _∷_, _++_, append-assoc, append-nil}
+use mathlib.Core.List.{List, [], _∷_, _++_, append-assoc}
 use mathlib.Core.Path.{_≡_, refl, sym, ap, _∙_}
 use Prim.Native.Nat.{ℕ, _+_}
 use native.Mathlib.Omega.{arith}
 use lib.ListN.{length, replicate}
+use Rattle.records.specs.declared.Field.{Field}
 use Rattle.words.proofs.Changes.{length-change}
 use Rattle.words.proofs.Runs.{length-put}
 use Rattle.words.specs.Numbers.{on}
-use Rattle.records.specs.declared.Field.{Field}
-use Rattle.acx.specs.Events.{Event, place, adjust, playOne, play, markOne, marks, blank, placedIn, adjustedIn, Ran, playIf, Did}
-use Rattle.acx.specs.Pieces.{Piece, placeOf, width, amountOf, adjustment, adjustments, events}
-use Rattle.acx.specs.Walk.{list}
+use Rattle.acx.specs.Events.{Event, place, adjust, playOne, play, markOne, marks, placedIn, adjustedIn, Ran, playIf, Did}
+use Rattle.acx.specs.Pieces.{Piece, placeOf, width, adjustment, adjustments, events}
+use Rattle.acx.specs.Walk.{withFields}
 use Rattle.acx.specs.declared.Bases.{Bases}
 
 -- ---- one list after another
@@ -27,7 +27,7 @@ unfolding marks
 marks-append [] fs p = refl
 marks-append (e ∷ es) fs p = marks-append es fs (markOne e p)
 
-pub play-if-append : (wet : Bool) (es fs : List Event) (m : List ℕ) → playIf wet (es ++ fs) m ≡ playIf wet fs (playIf wet es m)
+pub play-if-append : (write : Bool) (es fs : List Event) (m : List ℕ) → playIf write (es ++ fs) m ≡ playIf write fs (playIf write es m)
 play-if-append true es fs m = play-append es fs m
 play-if-append false es fs m = refl
 
@@ -66,33 +66,33 @@ length-marks (e ∷ es) p = length-marks es (markOne e p) ∙ length-markOne e p
 -- ---- a part of the work
 
 -- nothing done
-pub did-none : {A : Type 0} (a : A) (wet : Bool) (m p : List ℕ) → Did A (record { answer = a; events = [] }) wet m p a m p
+pub did-none : {A : Type 0} (a : A) (write : Bool) (m p : List ℕ) → Did A (record { answer = a; events = [] }) write m p a m p
 unfolding play marks
 did-none a true m p = record { answer = refl; memory = refl; map = refl }
 did-none a false m p = record { answer = refl; memory = refl; map = refl }
 
--- memory is written where wet is true, and stays where it is false
-pub played : (wet : Bool) (es : List Event) (m m′ : List ℕ) → wet ≡ true → m′ ≡ play es m → m′ ≡ playIf wet es m
-played wet es m m′ w e = rw w e
+-- memory is written where write is true, and stays where it is false
+pub played : (write : Bool) (es : List Event) (m m′ : List ℕ) → write ≡ true → m′ ≡ play es m → m′ ≡ playIf write es m
+played write es m m′ w e = rw w e
 
-pub stayed : (wet : Bool) (es : List Event) (m : List ℕ) → wet ≡ false → m ≡ playIf wet es m
-stayed wet es m w = rw w
+pub stayed : (write : Bool) (es : List Event) (m : List ℕ) → write ≡ false → m ≡ playIf write es m
+stayed write es m w = rw w
 
 -- where work stands after the events es: from memory m₀ and the map p₀ it has come to m and p
-pub record Reached (es : List Event) (wet : Bool) (m₀ p₀ m p : List ℕ) : Type 0 where
-  pub memory : m ≡ playIf wet es m₀
+pub record Reached (es : List Event) (write : Bool) (m₀ p₀ m p : List ℕ) : Type 0 where
+  pub memory : m ≡ playIf write es m₀
   pub map : p ≡ marks es p₀
 
-pub reached-none : (wet : Bool) (m p : List ℕ) → Reached [] wet m p m p
+pub reached-none : (write : Bool) (m p : List ℕ) → Reached [] write m p m p
 unfolding play marks
 reached-none true m p = record { memory = refl; map = refl }
 reached-none false m p = record { memory = refl; map = refl }
 
-pub reached-more : {A : Type 0} (es : List Event) (wet : Bool) (m₀ p₀ m p m′ p′ : List ℕ) (o : Ran A) (r : A) → Reached es wet m₀ p₀ m p
-    → Did A o wet m p r m′ p′ → Reached (es ++ o .events) wet m₀ p₀ m′ p′
-reached-more es wet m₀ p₀ m p m′ p′ o r h d =
+pub reached-more : {A : Type 0} (es : List Event) (write : Bool) (m₀ p₀ m p m′ p′ : List ℕ) (o : Ran A) (r : A) → Reached es write m₀ p₀ m p
+    → Did A o write m p r m′ p′ → Reached (es ++ o .events) write m₀ p₀ m′ p′
+reached-more es write m₀ p₀ m p m′ p′ o r h d =
     record {
-      memory = d .memory ∙ ap (λ (t : List ℕ). playIf wet (o .events) t) (h .memory) ∙ sym (play-if-append wet es (o .events) m₀);
+      memory = d .memory ∙ ap (λ (t : List ℕ). playIf write (o .events) t) (h .memory) ∙ sym (play-if-append write es (o .events) m₀);
       map = d .map ∙ ap (λ (t : List ℕ). marks (o .events) t) (h .map) ∙ sym (marks-append es (o .events) p₀);
     }
 
@@ -109,10 +109,10 @@ unfolding events adjustments
 events-code b p ps e = rw e refl
 
 -- fields more: they are adjusted
-pub events-list : (b : Bases) (fs : List Field) (p : Piece) (ps : List Piece)
-    → events b (list fs (p ∷ ps)) ≡ events b (p ∷ ps) ++ adjustments b (placeOf b p) fs
+pub events-fields : (b : Bases) (fs : List Field) (p : Piece) (ps : List Piece)
+    → events b (withFields fs (p ∷ ps)) ≡ events b (p ∷ ps) ++ adjustments b (placeOf b p) fs
 unfolding events
-events-list b fs p ps =
+events-fields b fs p ps =
     ap (λ (es : List Event). events b ps ++ (place (placeOf b p) (p .code) ∷ es)) (adjustments-append b (placeOf b p) (p .fields) fs)
     ∙ sym (append-assoc (events b ps) (place (placeOf b p) (p .code) ∷ adjustments b (placeOf b p) (p .fields)) (adjustments b (placeOf b p) fs))
 

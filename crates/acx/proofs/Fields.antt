@@ -7,7 +7,7 @@ use Prim.Native.Nat.{ℕ, _+_, _≤_, _<_}
 use native.Mathlib.Omega.{arith}
 use lib.Dec.{leb}
 use lib.ListN.{length, drop}
-use Rattle.words.specs.Runs.{part, contains}
+use Rattle.answer.specs.Checks.{need}
 use Rattle.answer.specs.declared.Fault.{Fault}
 use Rattle.answer.specs.declared.Fault.the-variants.{FieldNotLoaded, AdjustedTwice}
 use Rattle.records.proofs.Listing.{fields-more, fields-none}
@@ -15,11 +15,12 @@ use Rattle.records.specs.Fields.{itemSize, fieldAt, fieldsOf}
 use Rattle.records.specs.declared.Field.{Field}
 use Rattle.records.specs.declared.Fixup.{Fixup}
 use Rattle.records.specs.declared.Fixup.the-variants.{Low, Page, Word, High}
-use Rattle.acx.proofs.Checks.{adjusting-passed, adjusting-all}
+use Rattle.words.specs.Runs.{part, contains}
+use Rattle.acx.proofs.Checks.{adjusting-all}
 use Rattle.acx.proofs.Events.{Reached, reached-none, reached-more}
+use Rattle.acx.specs.AtBases.{failed, passed, first, adjusting}
 use Rattle.acx.specs.Events.{Event, markOne, marks, Ran, Did}
 use Rattle.acx.specs.Pieces.{width, adjustment, adjustments}
-use Rattle.acx.specs.Records.{need, passed, first, adjusting}
 use Rattle.acx.specs.declared.Bases.{Bases}
 use Rattle.acx.specs.declared.Check.{Check}
 use Rattle.acx.specs.declared.Check.the-variants.{Passed, Failed}
@@ -34,22 +35,22 @@ chain Passed es rest = behind es rest
 chain (Failed fault) es rest = record { answer = Failed fault; events = es }
 
 chain-needs : (c d : Bool) (e : Event) (rest : Ran Check)
-    → need c FieldNotLoaded (need d AdjustedTwice (first e rest))
-    ≡ chain (need c FieldNotLoaded (need d AdjustedTwice (passed (e ∷ []))) .answer) (need c FieldNotLoaded (need d AdjustedTwice (passed (e ∷ []))) .events) rest
+    → need failed c FieldNotLoaded (need failed d AdjustedTwice (first e rest))
+    ≡ chain (need failed c FieldNotLoaded (need failed d AdjustedTwice (passed (e ∷ []))) .answer) (need failed c FieldNotLoaded (need failed d AdjustedTwice (passed (e ∷ []))) .events) rest
 unfolding need
 chain-needs true true e rest = refl
 chain-needs true false e rest = refl
 chain-needs false d e rest = refl
 
 -- where the loop stands: it began with the fields all, memory m₀ and the map p₀, and rest are left
-pub record Adjusting (b : Bases) (a n : ℕ) (wet : Bool) (all : List Field) (m₀ p₀ : List ℕ) (rest : List Field) (m p : List ℕ) : Type 0 where
+pub record Adjusting (b : Bases) (a n : ℕ) (write : Bool) (all : List Field) (m₀ p₀ : List ℕ) (rest : List Field) (m p : List ℕ) : Type 0 where
   pub es : List Event
-  pub reached : Reached es wet m₀ p₀ m p
+  pub reached : Reached es write m₀ p₀ m p
   pub same : adjusting b a n all p₀ ≡ behind es (adjusting b a n rest p)
 
-module _ (b : Bases) (a n : ℕ) (wet : Bool) (all : List Field) (m₀ p₀ : List ℕ) where
-  pub adjusting-none : Adjusting b a n wet all m₀ p₀ all m₀ p₀
-  adjusting-none = record { es = []; reached = reached-none wet m₀ p₀; same = refl }
+module _ (b : Bases) (a n : ℕ) (write : Bool) (all : List Field) (m₀ p₀ : List ℕ) where
+  pub adjusting-none : Adjusting b a n write all m₀ p₀ all m₀ p₀
+  adjusting-none = record { es = []; reached = reached-none write m₀ p₀; same = refl }
 
   -- one field of the definition's list
   one-field : (f : Field) (fs : List Field) (p : List ℕ)
@@ -59,7 +60,7 @@ module _ (b : Bases) (a n : ℕ) (wet : Bool) (all : List Field) (m₀ p₀ : Li
       chain-needs (leb (f .index + width f) n) (not (contains 3 (part p (a + f .index) (width f)))) (adjustment b a f) (adjusting b a n fs (markOne (adjustment b a f) p))
 
   module _ (f : Field) (rest rest′ : List Field) (m p m′ p′ : List ℕ) (r : Check) (left : rest ≡ f ∷ rest′)
-      (x : Adjusting b a n wet all m₀ p₀ rest m p) (d : Did Check (adjusting b a n (f ∷ []) p) wet m p r m′ p′) where
+      (x : Adjusting b a n write all m₀ p₀ rest m p) (d : Did Check (adjusting b a n (f ∷ []) p) write m p r m′ p′) where
     one : adjusting b a n all p₀ ≡ behind (x .es) (chain r (adjusting b a n (f ∷ []) p .events) (adjusting b a n rest′ (markOne (adjustment b a f) p)))
     one =
         x .same
@@ -67,7 +68,7 @@ module _ (b : Bases) (a n : ℕ) (wet : Bool) (all : List Field) (m₀ p₀ : Li
         ∙ ap (behind (x .es)) (one-field f rest′ p)
         ∙ ap (λ (c : Check). behind (x .es) (chain c (adjusting b a n (f ∷ []) p .events) (adjusting b a n rest′ (markOne (adjustment b a f) p)))) (sym (d .answer))
 
-    pub adjusting-more : r ≡ Passed → Adjusting b a n wet all m₀ p₀ rest′ m′ p′
+    pub adjusting-more : r ≡ Passed → Adjusting b a n write all m₀ p₀ rest′ m′ p′
     unfolding marks adjustments
     adjusting-more e =
         let es = adjusting b a n (f ∷ []) p .events in
@@ -75,7 +76,7 @@ module _ (b : Bases) (a n : ℕ) (wet : Bool) (all : List Field) (m₀ p₀ : Li
         let here : markOne (adjustment b a f) p ≡ p′ = sym (d .map ∙ ap (λ (l : List Event). marks l p) only) in
         record {
           es = x .es ++ es;
-          reached = reached-more (x .es) wet m₀ p₀ m p m′ p′ _ r (x .reached) d;
+          reached = reached-more (x .es) write m₀ p₀ m p m′ p′ _ r (x .reached) d;
           same =
               one
               ∙ ap (λ (c : Check). behind (x .es) (chain c es (adjusting b a n rest′ (markOne (adjustment b a f) p)))) e
@@ -83,13 +84,13 @@ module _ (b : Bases) (a n : ℕ) (wet : Bool) (all : List Field) (m₀ p₀ : Li
               ∙ ap (λ (l : List Event). record { answer = adjusting b a n rest′ p′ .answer; events = l }) (sym (append-assoc (x .es) es (adjusting b a n rest′ p′ .events)));
         }
 
-    pub adjusting-fails : (fault : Fault) → r ≡ Failed fault → Did Check (adjusting b a n all p₀) wet m₀ p₀ (Failed fault) m′ p′
+    pub adjusting-fails : (fault : Fault) → r ≡ Failed fault → Did Check (adjusting b a n all p₀) write m₀ p₀ (Failed fault) m′ p′
     adjusting-fails fault e =
-        let y = reached-more (x .es) wet m₀ p₀ m p m′ p′ _ r (x .reached) d in
+        let y = reached-more (x .es) write m₀ p₀ m p m′ p′ _ r (x .reached) d in
         let z = one ∙ ap (λ (c : Check). behind (x .es) (chain c (adjusting b a n (f ∷ []) p .events) (adjusting b a n rest′ (markOne (adjustment b a f) p)))) e in
         rw z (record { answer = refl; memory = y .memory; map = y .map })
 
-  pub adjusting-end : (rest : List Field) (m p : List ℕ) → rest ≡ [] → Adjusting b a n wet all m₀ p₀ rest m p → Did Check (adjusting b a n all p₀) wet m₀ p₀ Passed m p
+  pub adjusting-end : (rest : List Field) (m p : List ℕ) → rest ≡ [] → Adjusting b a n write all m₀ p₀ rest m p → Did Check (adjusting b a n all p₀) write m₀ p₀ Passed m p
   unfolding adjusting
   adjusting-end rest m p e x =
       let z : adjusting b a n all p₀ ≡ record { answer = Passed; events = x .es } =

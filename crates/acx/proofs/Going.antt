@@ -1,39 +1,39 @@
 -- The program's walk: its cursor, memory and map at each turn are those of the definition's walk, which has come to the same place.
 -- Assumes nothing.
-use mathlib.Core.Bool.{Bool, true, false}
+use mathlib.Core.Bool.{Bool}
 use mathlib.Core.List.{List, [], _∷_, _++_, append-nil}
 use mathlib.Core.Path.{_≡_, refl, sym, ap, _∙_}
 use Prim.Native.Nat.{ℕ, _+_, _/_, _≤_}
+use native.Mathlib.Omega.{arith}
 use types.Run.{OneOf, miss}
 use denote.Enum.Declared.{tagOf}
-use native.Mathlib.Omega.{arith}
 use borrow.Author.Tests.{leb-true}
 use lib.ListN.{length}
-use Rattle.words.proofs.Runs.{length-part}
-use Rattle.words.specs.Runs.{part}
 use Rattle.answer.specs.Report.{address}
 use Rattle.answer.specs.declared.Fault.{Fault}
 use Rattle.answer.specs.declared.Outcome.{Outcome}
 use Rattle.answer.specs.declared.Outcome.the-variants.{Accepted, Refused}
 use Rattle.records.proofs.Listing.{length-fields}
-use Rattle.records.proofs.Record.{the-type}
 use Rattle.records.proofs.Reading.{Where, Moving, lies-as, fixups-after}
+use Rattle.records.proofs.Record.{the-type}
 use Rattle.records.specs.Fields.{fieldsOf, itemSize}
 use Rattle.records.specs.Records.{read}
 use Rattle.records.specs.declared.Entry.{Entry}
 use Rattle.records.specs.declared.Fixup.{Fixup}
 use Rattle.records.specs.declared.Last.{Last}
-use Rattle.records.specs.declared.Last.the-variants.{Nothing, Of}
+use Rattle.records.specs.declared.Last.the-variants.{Nothing}
 use Rattle.records.specs.declared.Record.{Record}
 use Rattle.records.specs.declared.Record.the-variants.{Code, Fixups, End, Faulty}
+use Rattle.words.proofs.Runs.{length-part}
+use Rattle.words.specs.Runs.{part}
 use Rattle.acx.proofs.Checks.{failed-passed, need-passed}
 use Rattle.acx.proofs.Events.{Reached, reached-none, reached-more}
 use Rattle.acx.proofs.Standing.{Stands, stands-first, stands-on, events-after, placed-after, adjusted-after}
 use Rattle.acx.proofs.Walking.{nextOf, piecesAfter, Onward, onward, from-step, from-onward, end-none}
+use Rattle.acx.specs.AtBases.{startOf, ending, applied}
 use Rattle.acx.specs.Events.{Event, marks, blank, placedIn, adjustedIn, Ran, Did}
 use Rattle.acx.specs.Pieces.{Piece, events}
-use Rattle.acx.specs.Records.{startOf, ending, applied}
-use Rattle.acx.specs.Walk.{Verdict, accepted, refused, lastOf, lastPlace, lastSize, recordAt, checked, list, judge, from, report, reported, cursorOf, EndsBy, advanced}
+use Rattle.acx.specs.Walk.{Verdict, accepted, lastOf, lastSize, recordAt, checked, withFields, judge, from, reported, cursorOf, EndsBy, advanced}
 use Rattle.acx.specs.declared.Bases.{Bases}
 use Rattle.acx.specs.declared.Check.{Check}
 use Rattle.acx.specs.declared.Check.the-variants.{Passed, Failed}
@@ -46,7 +46,7 @@ cursor-same : (at : ℕ) (last : Last) (place n k i j s t : ℕ) → n ≡ k →
 cursor-same at last place n k i j s t en ei es = rw (en, ei, es) refl
 
 fixups-advance : (file : List ℕ) (b : Bases) (at : ℕ) (ps : List Piece) (fixup : Fixup) (from n : ℕ) → from + n ≤ length file → Moving (lastOf ps)
-    → advanced b (cursorOf b at ps) (Fixups fixup from n) ≡ cursorOf b (from + n) (list (fieldsOf fixup (part file from n)) ps)
+    → advanced b (cursorOf b at ps) (Fixups fixup from n) ≡ cursorOf b (from + n) (withFields (fieldsOf fixup (part file from n)) ps)
 fixups-advance file b at [] fixup from n h m = absurd m
 fixups-advance file b at (p ∷ ps) fixup from n h m =
     let fs = fieldsOf fixup (part file from n) in
@@ -88,17 +88,17 @@ onward-by-tag (Faulty fault) t h = h fault refl
 -- ---- a turn of the loop
 
 -- the walk began at an offset with memory m₀ and a clear map, and stands at the cursor c with m and p
-pub record Going (file : List ℕ) (b : Bases) (first : ℕ) (wet : Bool) (m₀ : List ℕ) (c : Cursor) (m p : List ℕ) : Type 0 where
+pub record Going (file : List ℕ) (b : Bases) (first : ℕ) (write : Bool) (m₀ : List ℕ) (c : Cursor) (m p : List ℕ) : Type 0 where
   pub pieces : List Piece
   pub here : c ≡ cursorOf b (c .at) pieces
   pub in-file : c .at ≤ length file
   pub stands : Stands b (c .at) pieces
-  pub reached : Reached (events b pieces) wet m₀ blank m p
+  pub reached : Reached (events b pieces) write m₀ blank m p
   pub same : from file b first [] ≡ from file b (c .at) pieces
 
-module _ (file : List ℕ) (b : Bases) (first : ℕ) (wet : Bool) (m₀ : List ℕ) where
+module _ (file : List ℕ) (b : Bases) (first : ℕ) (write : Bool) (m₀ : List ℕ) where
   pub going-first : (p : List ℕ) → p ≡ blank → first ≤ length file
-      → Going file b first wet m₀ (record { at = first; last = Nothing; place = 0; size = 0; placed = 0; adjusted = 0 }) m₀ p
+      → Going file b first write m₀ (record { at = first; last = Nothing; place = 0; size = 0; placed = 0; adjusted = 0 }) m₀ p
   unfolding events placedIn adjustedIn
   going-first p e l =
       record {
@@ -106,11 +106,11 @@ module _ (file : List ℕ) (b : Bases) (first : ℕ) (wet : Bool) (m₀ : List �
         here = refl;
         in-file = l;
         stands = stands-first b first;
-        reached = rw e (reached-none wet m₀ blank);
+        reached = rw e (reached-none write m₀ blank);
         same = refl;
       }
 
-  module _ (c : Cursor) (m p : List ℕ) (x : Going file b first wet m₀ c m p) where
+  module _ (c : Cursor) (m p : List ℕ) (x : Going file b first write m₀ c m p) where
     -- the last code record lies in memory, and the counts in the bytes behind the cursor
     pub going-inside : c .place + c .size ≤ 65536
     going-inside = omega (arith, ap (λ (k : Cursor). k .place) (x .here), ap (λ (k : Cursor). k .size) (x .here), x .stands .inside)
@@ -119,7 +119,7 @@ module _ (file : List ℕ) (b : Bases) (first : ℕ) (wet : Bool) (m₀ : List �
     going-counts = omega (arith, ap (λ (k : Cursor). k .placed) (x .here), ap (λ (k : Cursor). k .adjusted) (x .here), x .stands .counts)
 
     module _ (found : Record) (r : Check) (m′ p′ : List ℕ) (is : found ≡ read file (c .at) (c .last))
-        (d : Did Check (applied file b (c .place) (c .size) found p) wet m p r m′ p′) where
+        (d : Did Check (applied file b (c .place) (c .size) found p) write m p r m′ p′) where
       found-is : recordAt file (c .at) (x .pieces) ≡ found
       found-is = ap (λ (l : Last). read file (c .at) l) (sym (ap (λ (k : Cursor). k .last) (x .here))) ∙ sym is
 
@@ -134,8 +134,8 @@ module _ (file : List ℕ) (b : Bases) (first : ℕ) (wet : Bool) (m₀ : List �
       answer-is : checked file b (c .at) (x .pieces) .answer ≡ r
       answer-is = ap (λ (o : Ran Check). o .answer) checked-is ∙ sym (d .answer)
 
-      now : Reached (events b (x .pieces) ++ checked file b (c .at) (x .pieces) .events) wet m₀ blank m′ p′
-      now = rw checked-is (reached-more (events b (x .pieces)) wet m₀ blank m p m′ p′ _ r (x .reached) d)
+      now : Reached (events b (x .pieces) ++ checked file b (c .at) (x .pieces) .events) write m₀ blank m′ p′
+      now = rw checked-is (reached-more (events b (x .pieces)) write m₀ blank m p m′ p′ _ r (x .reached) d)
 
       one : from file b first [] ≡ judge (λ e qs. from file b e qs) file b (c .at) (x .pieces) (checked file b (c .at) (x .pieces) .events) r found
       one =
@@ -146,7 +146,7 @@ module _ (file : List ℕ) (b : Bases) (first : ℕ) (wet : Bool) (m₀ : List �
           ∙ ap (λ (k : Check). judge go file b (c .at) (x .pieces) es k (recordAt file (c .at) (x .pieces))) answer-is
           ∙ ap (λ (q : Record). judge go file b (c .at) (x .pieces) es r q) found-is
 
-      pub going-fails : (fault : Fault) → r ≡ Failed fault → Did Outcome (reported (from file b first [])) wet m₀ blank (Refused fault (c .at) 0) m′ p′
+      pub going-fails : (fault : Fault) → r ≡ Failed fault → Did Outcome (reported (from file b first [])) write m₀ blank (Refused fault (c .at) 0) m′ p′
       going-fails fault e =
           let go : ℕ → List Piece → Ran Verdict = λ e qs. from file b e qs in
           let o = one ∙ ap (λ (k : Check). judge go file b (c .at) (x .pieces) (checked file b (c .at) (x .pieces) .events) k found) e in
@@ -161,7 +161,7 @@ module _ (file : List ℕ) (b : Bases) (first : ℕ) (wet : Bool) (m₀ : List �
           leb-true _ _ (need-passed _ _ _ a .0)
 
       pub going-ends : (entry : Entry) (next : ℕ) → r ≡ Passed → found ≡ End entry next
-          → Did Outcome (reported (from file b first [])) wet m₀ blank (Accepted (startOf b entry) (c .placed) (c .adjusted) 0 0) m′ p′
+          → Did Outcome (reported (from file b first [])) write m₀ blank (Accepted (startOf b entry) (c .placed) (c .adjusted) 0 0) m′ p′
       going-ends entry next e f =
           let go : ℕ → List Piece → Ran Verdict = λ e qs. from file b e qs in
           let ps = x .pieces in
@@ -175,7 +175,7 @@ module _ (file : List ℕ) (b : Bases) (first : ℕ) (wet : Bool) (m₀ : List �
           let ad : c .adjusted ≡ adjustedIn es = ap (λ (k : Cursor). k .adjusted) (x .here) ∙ ap adjustedIn (sym z) in
           rw (o, pl, ad) (record { answer = refl; memory = now .memory; map = now .map })
 
-      pub going-on : r ≡ Passed → Onward found → Going file b first wet m₀ (advanced b c found) m′ p′
+      pub going-on : r ≡ Passed → Onward found → Going file b first write m₀ (advanced b c found) m′ p′
       going-on e o =
           let ps = x .pieces in
           let ok : checked file b (c .at) ps .answer ≡ Passed = answer-is ∙ e in

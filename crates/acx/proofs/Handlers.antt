@@ -5,8 +5,6 @@ use mathlib.Core.Path.{_≡_, sym, ap}
 use Prim.Native.Nat.{ℕ, _+_, _≤_}
 use native.Mathlib.Omega.{arith}
 use lib.ListN.{length}
-use Rattle.words.proofs.Runs.{length-part}
-use Rattle.words.specs.Runs.{part}
 use Rattle.answer.specs.declared.Start.{Start}
 use Rattle.records.proofs.Reading.{Moving, lies-as, fixups-after}
 use Rattle.records.specs.Fields.{fieldsOf}
@@ -14,6 +12,8 @@ use Rattle.records.specs.declared.Field.{Field}
 use Rattle.records.specs.declared.Kind.{Kind}
 use Rattle.records.specs.declared.Record.{Record}
 use Rattle.records.specs.declared.Record.the-variants.{Code, Fixups, End, Faulty}
+use Rattle.words.proofs.Runs.{length-part}
+use Rattle.words.specs.Runs.{part}
 use Rattle.acx.proofs.Checks.{placing-passed}
 use Rattle.acx.proofs.Events.{length-marks}
 use Rattle.acx.proofs.Lists.{each-map, each-append, pairwise-append}
@@ -21,11 +21,11 @@ use Rattle.acx.proofs.Loads.{Inside, Fits}
 use Rattle.acx.proofs.Marks.{length-blank, marks-fields, marks-some, code-apart, fields-fresh}
 use Rattle.acx.proofs.Standing.{limit-le, code-passed, fixups-passed, Stands, stands-first, stands-on}
 use Rattle.acx.proofs.Walking.{piecesAfter, Onward, accepted-keeps}
+use Rattle.acx.specs.AtBases.{adjusting}
 use Rattle.acx.specs.Demand2.{Each, FieldsApart, Handler}
 use Rattle.acx.specs.Events.{marks, blank}
 use Rattle.acx.specs.Pieces.{Piece, size, placeOf, limitOf, events}
-use Rattle.acx.specs.Records.{adjusting}
-use Rattle.acx.specs.Walk.{accepted, lastOf, lastPlace, lastSize, recordAt, checked, list, openingSize, judged}
+use Rattle.acx.specs.Walk.{accepted, lastOf, lastPlace, lastSize, recordAt, checked, withFields, openingSize, judged}
 use Rattle.acx.specs.declared.Bases.{Bases}
 use Rattle.acx.specs.declared.Check.the-variants.{Passed}
 use Rattle.acx.specs.declared.Form.{Form}
@@ -57,10 +57,10 @@ module _ (file : List ℕ) (b : Bases) where
       }
 
   -- fields more: each lay in the last code and met none before it
-  handler-list : (fs : List Field) (ps : List Piece) → Handler file b ps → Moving (lastOf ps)
-      → adjusting b (lastPlace b ps) (lastSize ps) fs (marks (events b ps) blank) .answer ≡ Passed → Handler file b (list fs ps)
-  handler-list fs [] h m c = absurd m
-  handler-list fs (p ∷ ps) h m c =
+  handler-fields : (fs : List Field) (ps : List Piece) → Handler file b ps → Moving (lastOf ps)
+      → adjusting b (lastPlace b ps) (lastSize ps) fs (marks (events b ps) blank) .answer ≡ Passed → Handler file b (withFields fs ps)
+  handler-fields fs [] h m c = absurd m
+  handler-fields fs (p ∷ ps) h m c =
       let fits = fits-memory b (length blank) (p ∷ ps) length-blank (h .fits) in
       let threes = marks-fields b (p ∷ ps) blank (h .inside) fits (h .apart) in
       let room : placeOf b p + size p ≤ length (marks (events b (p ∷ ps)) blank) = rw (length-marks (events b (p ∷ ps)) blank) (fits .0) in
@@ -78,7 +78,7 @@ module _ (file : List ℕ) (b : Bases) where
       → Handler file b (piecesAfter file r ps)
   handler-on at ps (Code kind address from n) h e o c = handler-code at ps kind address from n h e c
   handler-on at ps (Fixups fixup from n) h e o c =
-      handler-list (fieldsOf fixup (part file from n)) ps h (fixups-after file at (lastOf ps) fixup from n e) (fixups-passed file b at ps fixup from n e c)
+      handler-fields (fieldsOf fixup (part file from n)) ps h (fixups-after file at (lastOf ps) fixup from n e) (fixups-passed file b at ps fixup from n e c)
   handler-on at ps (End entry next) h e o c = absurd o
   handler-on at ps (Faulty fault) h e o c = absurd o
 

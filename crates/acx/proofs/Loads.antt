@@ -4,12 +4,12 @@ use mathlib.Core.List.{List, [], _∷_}
 use mathlib.Core.Path.{_≡_, refl, sym, ap, _∙_}
 use Prim.Native.Nat.{ℕ, _+_, _≤_, _<_}
 use lib.ListN.{length, getD}
+use Rattle.records.specs.declared.Field.{Field}
 use Rattle.words.proofs.Changes.{length-change, bytes-change, change-outside, value-change, value-change-apart, change-in-put, value-part}
 use Rattle.words.proofs.Numbers.{on-lt}
 use Rattle.words.proofs.Runs.{length-put, put-outside, part-at, part-put, part-put-apart, bytes-put}
 use Rattle.words.specs.Numbers.{value, on, change}
 use Rattle.words.specs.Runs.{Bytes, part, put}
-use Rattle.records.specs.declared.Field.{Field}
 use Rattle.acx.proofs.Events.{play-append}
 use Rattle.acx.proofs.Lists.{each-map, each-zip, each-zip3}
 use Rattle.acx.specs.Demand2.{Each, Pairwise, Placed, In, PiecesApart, FieldsApart}

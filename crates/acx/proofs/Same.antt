@@ -4,7 +4,6 @@ use mathlib.Core.List.{List, [], _∷_, _++_}
 use mathlib.Core.Path.{_≡_, refl, subst}
 use Prim.Native.Nat.{ℕ, zero, suc, _-_}
 use lib.ListN.{length}
-use Rattle.words.specs.Runs.{part}
 use Rattle.answer.specs.declared.Fault.{Fault}
 use Rattle.answer.specs.declared.Start.{Start}
 use Rattle.records.proofs.Reading.{Moving, fixups-after}
@@ -15,11 +14,12 @@ use Rattle.records.specs.declared.Kind.the-variants.{Main, ZeroPage, Absolute}
 use Rattle.records.specs.declared.Last.the-variants.{Of}
 use Rattle.records.specs.declared.Record.{Record}
 use Rattle.records.specs.declared.Record.the-variants.{Code, Fixups, End, Faulty}
+use Rattle.words.specs.Runs.{part}
 use Rattle.acx.proofs.Walking.{piecesAfter, Onward, accepted-keeps}
 use Rattle.acx.specs.Demand2.{Each}
 use Rattle.acx.specs.Events.{Event, Ran}
 use Rattle.acx.specs.Pieces.{Piece}
-use Rattle.acx.specs.Walk.{Verdict, accepted, refused, lastOf, recordAt, checked, list, judge, walk, from, opening, openingSize, opened, judged}
+use Rattle.acx.specs.Walk.{Verdict, accepted, refused, lastOf, recordAt, checked, withFields, judge, walk, from, opening, openingSize, opened, judged}
 use Rattle.acx.specs.declared.Bases.{Bases}
 use Rattle.acx.specs.declared.Check.{Check}
 use Rattle.acx.specs.declared.Check.the-variants.{Passed, Failed}
@@ -94,16 +94,16 @@ bare-moving ZeroPage fs m = tt
 bare-moving Absolute fs m = absurd m
 
 -- fields more
-bare-list : (fs : List Field) (ps : List Piece) → Moving (lastOf ps) → Each (λ p. Bare (p .kind) (p .fields)) ps
-    → Each (λ p. Bare (p .kind) (p .fields)) (list fs ps)
-bare-list fs [] m h = absurd m
-bare-list fs (p ∷ ps) m h = (bare-moving (p .kind) (p .fields ++ fs) m, h .1)
+bare-fields : (fs : List Field) (ps : List Piece) → Moving (lastOf ps) → Each (λ p. Bare (p .kind) (p .fields)) ps
+    → Each (λ p. Bare (p .kind) (p .fields)) (withFields fs ps)
+bare-fields fs [] m h = absurd m
+bare-fields fs (p ∷ ps) m h = (bare-moving (p .kind) (p .fields ++ fs) m, h .1)
 
 -- every record that passes keeps it so
 bare-on : (file : List ℕ) (at : ℕ) (ps : List Piece) (r : Record) → Each (λ p. Bare (p .kind) (p .fields)) ps → recordAt file at ps ≡ r → Onward r
     → Each (λ p. Bare (p .kind) (p .fields)) (piecesAfter file r ps)
 bare-on file at ps (Code kind address from n) h e o = (bare-none kind, h)
-bare-on file at ps (Fixups fixup from n) h e o = bare-list (fieldsOf fixup (part file from n)) ps (fixups-after file at (lastOf ps) fixup from n e) h
+bare-on file at ps (Fixups fixup from n) h e o = bare-fields (fieldsOf fixup (part file from n)) ps (fixups-after file at (lastOf ps) fixup from n e) h
 bare-on file at ps (End entry next) h e o = absurd o
 bare-on file at ps (Faulty fault) h e o = absurd o
 

@@ -1,13 +1,10 @@
 -- Where a walk can stand: what was placed and adjusted is in the bytes behind it, and the last code record lies in memory.
 -- Assumes nothing.
-use mathlib.Core.Bool.{Bool, true, false}
 use mathlib.Core.List.{List, [], _∷_, _++_}
 use mathlib.Core.Path.{_≡_, refl, sym, ap, _∙_}
-use Prim.Native.Nat.{ℕ, _+_, _/_, _≤_}
+use Prim.Native.Nat.{ℕ, _+_, _≤_}
 use native.Mathlib.Omega.{arith}
 use lib.ListN.{length}
-use Rattle.words.proofs.Runs.{length-part}
-use Rattle.words.specs.Runs.{part}
 use Rattle.records.proofs.Listing.{fields-fit}
 use Rattle.records.proofs.Reading.{Moving, lies-as, fixups-after}
 use Rattle.records.specs.Fields.{fieldsOf}
@@ -17,15 +14,16 @@ use Rattle.records.specs.declared.Kind.{Kind}
 use Rattle.records.specs.declared.Kind.the-variants.{Main, ZeroPage, Absolute}
 use Rattle.records.specs.declared.Record.{Record}
 use Rattle.records.specs.declared.Record.the-variants.{Code, Fixups, End, Faulty}
+use Rattle.words.proofs.Runs.{length-part}
+use Rattle.words.specs.Runs.{part}
 use Rattle.acx.proofs.Checks.{placing-passed, adjusting-all}
-use Rattle.acx.proofs.Events.{events-code, events-list, placed-append, adjusted-append, placed-adjustments, adjusted-adjustments}
+use Rattle.acx.proofs.Events.{events-code, events-fields, placed-append, adjusted-append, placed-adjustments, adjusted-adjustments}
 use Rattle.acx.proofs.Walking.{nextOf, piecesAfter, Onward}
-use Rattle.acx.specs.Events.{Event, place, marks, blank, placedIn, adjustedIn, Ran}
-use Rattle.acx.specs.Pieces.{Piece, size, baseOf, placeOf, limitOf, adjustments, events}
-use Rattle.acx.specs.Records.{placing, adjusting, applied}
-use Rattle.acx.specs.Walk.{lastOf, lastPlace, lastSize, recordAt, checked, list}
+use Rattle.acx.specs.AtBases.{placing, adjusting, applied}
+use Rattle.acx.specs.Events.{Event, place, marks, blank, placedIn, adjustedIn}
+use Rattle.acx.specs.Pieces.{Piece, baseOf, placeOf, limitOf, adjustments, events}
+use Rattle.acx.specs.Walk.{lastOf, lastPlace, lastSize, recordAt, checked, withFields}
 use Rattle.acx.specs.declared.Bases.{Bases}
-use Rattle.acx.specs.declared.Check.{Check}
 use Rattle.acx.specs.declared.Check.the-variants.{Passed}
 
 pub limit-le : (kind : Kind) → limitOf kind ≤ 65536
@@ -59,9 +57,9 @@ module _ (file : List ℕ) (b : Bases) (at : ℕ) (ps : List Piece) where
   fixups-events fixup from n e = rw e refl
 
 -- fixups stand after a piece
-pub list-events : (b : Bases) (fs : List Field) (ps : List Piece) → Moving (lastOf ps) → events b (list fs ps) ≡ events b ps ++ adjustments b (lastPlace b ps) fs
-list-events b fs [] m = absurd m
-list-events b fs (p ∷ ps) m = events-list b fs p ps
+pub fields-events : (b : Bases) (fs : List Field) (ps : List Piece) → Moving (lastOf ps) → events b (withFields fs ps) ≡ events b ps ++ adjustments b (lastPlace b ps) fs
+fields-events b fs [] m = absurd m
+fields-events b fs (p ∷ ps) m = events-fields b fs p ps
 
 -- the events of the pieces after a record are those before it and the record's own
 pub events-after : (file : List ℕ) (b : Bases) (at : ℕ) (ps : List Piece) (r : Record) → recordAt file at ps ≡ r → Onward r → checked file b at ps .answer ≡ Passed
@@ -71,7 +69,7 @@ events-after file b at ps (Code kind address from n) e o c =
     events-code b p ps refl
     ∙ ap (λ (es : List Event). events b ps ++ es) (sym (code-events file b at ps kind address from n e ∙ placing-passed _ _ _ _ (code-passed file b at ps kind address from n e c) .2))
 events-after file b at ps (Fixups fixup from n) e o c =
-    list-events b (fieldsOf fixup (part file from n)) ps (fixups-after file at (lastOf ps) fixup from n e)
+    fields-events b (fieldsOf fixup (part file from n)) ps (fixups-after file at (lastOf ps) fixup from n e)
     ∙ ap (λ (es : List Event). events b ps ++ es) (sym (fixups-events file b at ps fixup from n e ∙ adjusting-all b _ _ _ _ (fixups-passed file b at ps fixup from n e c)))
 events-after file b at ps (End entry next) e o c = absurd o
 events-after file b at ps (Faulty fault) e o c = absurd o
@@ -100,17 +98,17 @@ placed-after file b at ps kind address from n h =
     )
 
 pub adjusted-after : (b : Bases) (fs : List Field) (ps : List Piece) → Moving (lastOf ps)
-    → (placedIn (events b (list fs ps)) ≡ placedIn (events b ps)) × (adjustedIn (events b (list fs ps)) ≡ adjustedIn (events b ps) + length fs)
+    → (placedIn (events b (withFields fs ps)) ≡ placedIn (events b ps)) × (adjustedIn (events b (withFields fs ps)) ≡ adjustedIn (events b ps) + length fs)
 adjusted-after b fs ps m =
-    let e = list-events b fs ps m in
+    let e = fields-events b fs ps m in
     let es = adjustments b (lastPlace b ps) fs in (
       ap placedIn e ∙ placed-append (events b ps) es ∙ omega (arith, placed-adjustments b (lastPlace b ps) fs),
       ap adjustedIn e ∙ adjusted-append (events b ps) es ∙ omega (arith, adjusted-adjustments b (lastPlace b ps) fs),
     )
 
-list-inside : (b : Bases) (fs : List Field) (ps : List Piece) → lastPlace b (list fs ps) + lastSize (list fs ps) ≡ lastPlace b ps + lastSize ps
-list-inside b fs [] = refl
-list-inside b fs (p ∷ ps) = refl
+fields-inside : (b : Bases) (fs : List Field) (ps : List Piece) → lastPlace b (withFields fs ps) + lastSize (withFields fs ps) ≡ lastPlace b ps + lastSize ps
+fields-inside b fs [] = refl
+fields-inside b fs (p ∷ ps) = refl
 
 -- every record that passes leads to where a walk can stand
 pub stands-on : (file : List ℕ) (b : Bases) (at : ℕ) (ps : List Piece) (r : Record) → at ≤ length file → Stands b at ps → recordAt file at ps ≡ r → Onward r
@@ -126,7 +124,7 @@ stands-on file b at ps (Fixups fixup from n) l h e o c =
     let k = adjusted-after b fs ps (fixups-after file at (lastOf ps) fixup from n e) in
     record {
       counts = omega (arith, k .0, k .1, h .counts, w .0, fields-fit fixup (part file from n), length-part file from n (w .1));
-      inside = omega (arith, list-inside b fs ps, h .inside);
+      inside = omega (arith, fields-inside b fs ps, h .inside);
     }
 stands-on file b at ps (End entry next) l h e o c = absurd o
 stands-on file b at ps (Faulty fault) l h e o c = absurd o

@@ -3,13 +3,13 @@
 -- Assumes nothing.
 use mathlib.Core.Bool.{Bool, true, false, false≢true}
 use mathlib.Core.List.{List, [], _∷_, _++_, append-nil}
-use mathlib.Core.Path.{_≡_, refl, sym, ap, _∙_, subst}
+use mathlib.Core.Path.{_≡_, refl, ap, _∙_, subst}
 use Prim.Native.Nat.{ℕ, zero, suc, _+_, _-_, _≤_, _<_}
 use native.Mathlib.Omega.{arith}
 use borrow.Author.Tests.{leb-true}
 use lib.Dec.{leb}
 use lib.ListN.{length}
-use Rattle.words.specs.Runs.{part}
+use Rattle.answer.specs.Checks.{need}
 use Rattle.answer.specs.declared.Fault.{Fault}
 use Rattle.answer.specs.declared.Fault.the-variants.{CutShort}
 use Rattle.answer.specs.declared.Start.{Start}
@@ -18,12 +18,13 @@ use Rattle.records.specs.Fields.{fieldsOf}
 use Rattle.records.specs.declared.Entry.{Entry}
 use Rattle.records.specs.declared.Record.{Record}
 use Rattle.records.specs.declared.Record.the-variants.{Code, Fixups, End, Faulty}
+use Rattle.words.specs.Runs.{part}
 use Rattle.acx.proofs.Applying.{ending-none}
 use Rattle.acx.proofs.Checks.{failed-passed}
+use Rattle.acx.specs.AtBases.{applied}
 use Rattle.acx.specs.Events.{Event, Ran}
 use Rattle.acx.specs.Pieces.{Piece, events}
-use Rattle.acx.specs.Records.{startOf, applied}
-use Rattle.acx.specs.Walk.{Verdict, accepted, refused, lastOf, recordAt, checked, list, judge, walk, from, need, opening, openingSize, opened, judged}
+use Rattle.acx.specs.Walk.{Verdict, accepted, refused, lastOf, recordAt, checked, withFields, judge, walk, from, opening, openingSize, opened, judged}
 use Rattle.acx.specs.declared.Bases.{Bases}
 use Rattle.acx.specs.declared.Check.{Check}
 use Rattle.acx.specs.declared.Check.the-variants.{Passed, Failed}
@@ -41,7 +42,7 @@ nextOf (Faulty fault) = 0
 
 abbrev pub piecesAfter : List ℕ → Record → List Piece → List Piece
 piecesAfter file (Code kind address from n) ps = record { kind = kind; address = address; code = part file from n; fields = [] } ∷ ps
-piecesAfter file (Fixups fixup from n) ps = list (fieldsOf fixup (part file from n)) ps
+piecesAfter file (Fixups fixup from n) ps = withFields (fieldsOf fixup (part file from n)) ps
 piecesAfter file (End entry next) ps = ps
 piecesAfter file (Faulty fault) ps = ps
 
@@ -119,10 +120,10 @@ end-none file b at ps entry next e = rw e (ending-none b entry next (length file
 
 -- an opening that passed lies in the file
 pub opening-fits : (form : Form) (file : List ℕ) → opening form file ≡ Passed → openingSize form ≤ length file
-unfolding opening
+unfolding opening need
 opening-fits Disk file e = two (leb 2 (length file)) _ refl e
   where
-    two : (c : Bool) (rest : Check) → leb 2 (length file) ≡ c → need c CutShort rest ≡ Passed → 2 ≤ length file
+    two : (c : Bool) (rest : Check) → leb 2 (length file) ≡ c → need Failed c CutShort rest ≡ Passed → 2 ≤ length file
     two true rest h e = leb-true 2 (length file) h
     two false rest h e = absurd (failed-passed CutShort e)
 opening-fits Device file e = omega arith

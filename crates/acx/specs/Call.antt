@@ -1,17 +1,17 @@
 -- A call of the loader, whatever comes in: "1, 2, 3 come in that order, then the file from its front".
 -- Assumes nothing.
 use mathlib.Core.Bool.{Bool, true, false, _&&_}
-use mathlib.Core.List.{List, [], _∷_}
+use mathlib.Core.List.{List}
 use mathlib.Core.Path.{_≡_}
 use Prim.Native.Nat.{ℕ, zero, suc, _≤_}
 use lib.Dec.{leb, eqb}
 use lib.ListN.{length}
-use Rattle.answer.specs.declared.Fault.{Fault}
+use Rattle.answer.specs.Checks.{need}
 use Rattle.answer.specs.declared.Fault.the-variants.{WrongBuffer, SettingOutOfRange, FileTooLong}
 use Rattle.answer.specs.declared.Outcome.{Outcome}
 use Rattle.answer.specs.declared.Outcome.the-variants.{Accepted, Refused}
 use Rattle.acx.specs.Events.{play, marks, blank, Ran}
-use Rattle.acx.specs.Walk.{Verdict, accepted, refused, judged, reported}
+use Rattle.acx.specs.Walk.{Verdict, accepted, refused, atOnce, judged, reported}
 use Rattle.acx.specs.declared.Bases.{Bases}
 use Rattle.acx.specs.declared.Form.{Form}
 use Rattle.acx.specs.declared.Form.the-variants.{Disk, Device}
@@ -45,20 +45,16 @@ basesOf s = record { main = s .main; zero = s .zero }
 abbrev pub sized : List ℕ → List ℕ → Bool
 sized memory map = eqb (length memory) 65536 && eqb (length map) 65536
 
-unfoldable pub need : Bool → Fault → Ran Verdict → Ran Verdict
-need true fault rest = rest
-need false fault rest = record { answer = refused fault 0; events = [] }
-
 -- a load with the right buffers: 2, then 3, then the file
 unfoldable pub load : Settings → List ℕ → Ran Verdict
 load s file =
-    need (inRange s) SettingOutOfRange
-    (need (leb (length file) 65536) FileTooLong
+    need atOnce (inRange s) SettingOutOfRange
+    (need atOnce (leb (length file) 65536) FileTooLong
     (judged (formOf (s .form)) file (basesOf s)))
 
 -- and whatever the buffers: 1 first
 unfoldable pub call : Settings → List ℕ → List ℕ → List ℕ → Ran Verdict
-call s file memory map = need (sized memory map) WrongBuffer (load s file)
+call s file memory map = need atOnce (sized memory map) WrongBuffer (load s file)
 
 -- memory after a load: an acceptance plays its events, "A refusal leaves program memory untouched"
 abbrev pub memoryAfter : Verdict → Ran Verdict → List ℕ → List ℕ

@@ -1,15 +1,18 @@
--- Demand 2 for ACX files, sentence by sentence: what the definition of a load comes to where it accepts a file. Proved in
--- proofs/Demand2.antt, of every file, every pair of bases and every memory.
+-- Demand 2 for ACX files, sentence by sentence: what a load leaves where it accepts. Proved in proofs/Demand2.antt of the definition
+-- (`demand2`), of every file, every pair of bases and every memory, and of every call that keeps the loader's contract (`call-demand2`).
 -- Assumes nothing.
+use mathlib.Core.Bool.{true}
 use mathlib.Core.List.{List, [], _∷_}
 use mathlib.Core.Path.{_≡_}
 use Prim.Native.Nat.{ℕ, _+_, _≤_, _<_}
 use lib.ListN.{length, getD}
+use Rattle.answer.specs.declared.Start.{Start}
+use Rattle.records.specs.declared.Field.{Field}
 use Rattle.words.specs.Numbers.{value, on}
 use Rattle.words.specs.Runs.{Within, Apart, part}
-use Rattle.records.specs.declared.Field.{Field}
-use Rattle.acx.specs.Events.{Event, play, marks, blank, placedIn, adjustedIn}
+use Rattle.acx.specs.Call.{formOf, Settings, inRange, basesOf}
 use Rattle.acx.specs.Pieces.{Piece, size, placeOf, limitOf, width, amountOf}
+use Rattle.acx.specs.Walk.{accepted, judged}
 use Rattle.acx.specs.declared.Bases.{Bases}
 
 -- of every element
@@ -49,20 +52,42 @@ pub record Handler (file : List ℕ) (b : Bases) (ps : List Piece) : Type 0 wher
   -- the code is the file's
   pub from-file : Each (λ p. (from : ℕ) × (from + size p ≤ length file) × (p .code ≡ part file from (size p))) ps
 
--- What its load makes of a memory m, and of a clear map.
-pub record Demand2 (file : List ℕ) (b : Bases) (ps : List Piece) (es : List Event) (m : List ℕ) : Type 0 where
+-- the sum of a number over the pieces
+abbrev pub total : (Piece → ℕ) → List Piece → ℕ
+total n [] = 0
+total n (p ∷ ps) = n p + total n ps
+
+-- What its load leaves: it found memory m, left m′ and the map p′, and reported the two counts.
+pub record Demand2 (file : List ℕ) (b : Bases) (ps : List Piece) (m m′ p′ : List ℕ) (placed adjusted : ℕ) : Type 0 where
   pub handler : Handler file b ps
   -- "each loaded byte as its last block put it"
-  pub loaded : Each (λ p. (j : ℕ) → j < size p → Each (λ f. ¬ In j f) (p .fields) → getD (play es m) (placeOf b p + j) 0 ≡ getD (p .code) j 0) ps
+  pub loaded : Each (λ p. (j : ℕ) → j < size p → Each (λ f. ¬ In j f) (p .fields) → getD m′ (placeOf b p + j) 0 ≡ getD (p .code) j 0) ps
   -- "fields listed after that adjusted as the rules say"
-  pub adjusted :
-      Each (λ p. Each (λ f. value (width f) (play es m) (placeOf b p + f .index) ≡ on (width f) (amountOf b f) (value (width f) (p .code) (f .index))) (p .fields)) ps
+  pub fields : Each (λ p. Each (λ f. value (width f) m′ (placeOf b p + f .index) ≡ on (width f) (amountOf b f) (value (width f) (p .code) (f .index))) (p .fields)) ps
   -- "and every other byte as before"
-  pub others : (x : ℕ) → Each (λ p. ¬ Placed b x p) ps → getD (play es m) x 0 ≡ getD m x 0
+  pub others : (x : ℕ) → Each (λ p. ¬ Placed b x p) ps → getD m′ x 0 ≡ getD m x 0
   -- "0 untouched, 1 placed, .. 3 adjusted"
-  pub untouched-marks : (x : ℕ) → Each (λ p. ¬ Placed b x p) ps → getD (marks es blank) x 0 ≡ 0
-  pub placed-marks : Each (λ p. (j : ℕ) → j < size p → Each (λ f. ¬ In j f) (p .fields) → getD (marks es blank) (placeOf b p + j) 0 ≡ 1) ps
-  pub adjusted-marks : Each (λ p. Each (λ f. (j : ℕ) → In j f → getD (marks es blank) (placeOf b p + j) 0 ≡ 3) (p .fields)) ps
+  pub untouched-marks : (x : ℕ) → Each (λ p. ¬ Placed b x p) ps → getD p′ x 0 ≡ 0
+  pub placed-marks : Each (λ p. (j : ℕ) → j < size p → Each (λ f. ¬ In j f) (p .fields) → getD p′ (placeOf b p + j) 0 ≡ 1) ps
+  pub adjusted-marks : Each (λ p. Each (λ f. (j : ℕ) → In j f → getD p′ (placeOf b p + j) 0 ≡ 3) (p .fields)) ps
+  -- "the counts reported are those of these events"
+  pub placed-count : placed ≡ total size ps
+  pub adjusted-count : adjusted ≡ total (λ p. length (p .fields)) ps
   -- "neither exceeds the file's length"
-  pub placed-fits : placedIn es ≤ length file
-  pub adjusted-fits : adjustedIn es ≤ length file
+  pub placed-fits : placed ≤ length file
+  pub adjusted-fits : adjusted ≤ length file
+
+-- "settings and buffers as document 01 asks"
+pub record Asked (s : Settings) (file m p : List ℕ) : Type 0 where
+  pub memory : length m ≡ 65536
+  pub map : length p ≡ 65536
+  pub settings : inRange s ≡ true
+  pub fits : length file ≤ 65536
+
+-- A call that was accepted: "a file is accepted exactly if it follows the .. ACX rules of document 01 and fits". (`call-demand2`: an
+-- acceptance is one of these; `call-accepts`: every file that is accepted by the rules is accepted by the call.)
+pub record AcceptedCall (s : Settings) (file m p : List ℕ) (start : Start) (placed adjusted : ℕ) (m′ p′ : List ℕ) : Type 0 where
+  pub asked : Asked s file m p
+  pub pieces : List Piece
+  pub follows : judged (formOf (s .form)) file (basesOf s) .answer ≡ accepted pieces start
+  pub leaves : Demand2 file (basesOf s) pieces m m′ p′ placed adjusted

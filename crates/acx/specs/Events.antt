@@ -53,14 +53,14 @@ pub record Ran (A : Type 0) : Type 0 where
   pub answer : A
   pub events : List Event
 
--- memory after the events where they are carried out (wet), and as it was where the file is only checked
+-- memory after the events where they are carried out, and as it was where the file is only checked
 abbrev pub playIf : Bool → List Event → List ℕ → List ℕ
 playIf true es memory = play es memory
 playIf false es memory = memory
 
 -- The contract of every function that does a part of the work: where it found memory m and the map p, it answers r and leaves m′ and p′ as
 -- o says.
-pub record Did (A : Type 0) (o : Ran A) (wet : Bool) (m p : List ℕ) (r : A) (m′ p′ : List ℕ) : Type 0 where
+pub record Did (A : Type 0) (o : Ran A) (write : Bool) (m p : List ℕ) (r : A) (m′ p′ : List ℕ) : Type 0 where
   pub answer : r ≡ o .answer
-  pub memory : m′ ≡ playIf wet (o .events) m
+  pub memory : m′ ≡ playIf write (o .events) m
   pub map : p′ ≡ marks (o .events) p

@@ -1,6 +1,6 @@
 pub mod Events
 pub mod Pieces
-pub mod Records
+pub mod AtBases
 pub mod Walk
 pub mod Call
 pub mod Demand2

@@ -2,13 +2,11 @@
 -- The records are walked by a count that the file's length bounds; `from-step` (proofs/Walking.antt) is the equation to read, and nothing
 -- after it looks at the count.
 -- Assumes nothing.
-use mathlib.Core.Bool.{Bool, true, false}
 use mathlib.Core.List.{List, [], _∷_, _++_}
 use Prim.Native.Nat.{ℕ, zero, suc, _+_, _-_, _/_, _≤_}
 use lib.Dec.{leb, eqb}
 use lib.ListN.{length}
-use Rattle.words.specs.Numbers.{value}
-use Rattle.words.specs.Runs.{part}
+use Rattle.answer.specs.Checks.{need}
 use Rattle.answer.specs.declared.Fault.{Fault}
 use Rattle.answer.specs.declared.Fault.the-variants.{WrongOpening, CutShort}
 use Rattle.answer.specs.declared.Outcome.{Outcome}
@@ -21,9 +19,11 @@ use Rattle.records.specs.declared.Last.{Last}
 use Rattle.records.specs.declared.Last.the-variants.{Nothing, Of}
 use Rattle.records.specs.declared.Record.{Record}
 use Rattle.records.specs.declared.Record.the-variants.{Code, Fixups, End, Faulty}
+use Rattle.words.specs.Numbers.{value}
+use Rattle.words.specs.Runs.{part}
+use Rattle.acx.specs.AtBases.{startOf, applied}
 use Rattle.acx.specs.Events.{Event, marks, blank, placedIn, adjustedIn, Ran}
 use Rattle.acx.specs.Pieces.{Piece, size, baseOf, placeOf, events}
-use Rattle.acx.specs.Records.{startOf, applied}
 use Rattle.acx.specs.declared.Bases.{Bases}
 use Rattle.acx.specs.declared.Check.{Check}
 use Rattle.acx.specs.declared.Check.the-variants.{Passed, Failed}
@@ -59,9 +59,9 @@ unfoldable pub checked : List ℕ → Bases → ℕ → List Piece → Ran Check
 checked file b at ps = applied file b (lastPlace b ps) (lastSize ps) (recordAt file at ps) (marks (events b ps) blank)
 
 -- the fields of a fixup record are the last piece's
-abbrev pub list : List Field → List Piece → List Piece
-list fs [] = []
-list fs (p ∷ ps) = record { kind = p .kind; address = p .address; code = p .code; fields = p .fields ++ fs } ∷ ps
+abbrev pub withFields : List Field → List Piece → List Piece
+withFields fs [] = []
+withFields fs (p ∷ ps) = record { kind = p .kind; address = p .address; code = p .code; fields = p .fields ++ fs } ∷ ps
 
 -- ---- the walk
 
@@ -70,7 +70,7 @@ abbrev pub judge : (ℕ → List Piece → Ran Verdict) → List ℕ → Bases �
 judge go file b at ps es (Failed fault) r = record { answer = refused fault at; events = events b ps ++ es }
 judge go file b at ps es Passed (Code kind address from n) =
     go (from + n) (record { kind = kind; address = address; code = part file from n; fields = [] } ∷ ps)
-judge go file b at ps es Passed (Fixups fixup from n) = go (from + n) (list (fieldsOf fixup (part file from n)) ps)
+judge go file b at ps es Passed (Fixups fixup from n) = go (from + n) (withFields (fieldsOf fixup (part file from n)) ps)
 judge go file b at ps es Passed (End entry next) = record { answer = accepted ps (startOf b entry); events = events b ps ++ es }
 judge go file b at ps es Passed (Faulty fault) = record { answer = refused fault at; events = events b ps ++ es }
 
@@ -85,22 +85,21 @@ unfoldable pub from : List ℕ → Bases → ℕ → List Piece → Ran Verdict
 from file b at ps = walk (suc (length file - at)) file b at ps
 
 -- "Disk form opens F0 FF (under two bytes 5, else 4); device form has no opening." (F0 FF, low byte first, is the word FFF0)
-abbrev pub need : Bool → Fault → Check → Check
-need true fault rest = rest
-need false fault rest = Failed fault
-
 unfoldable pub opening : Form → List ℕ → Check
-opening Disk file = need (leb 2 (length file)) CutShort (need (eqb (value 2 file 0) 0xFFF0) WrongOpening Passed)
+opening Disk file = need Failed (leb 2 (length file)) CutShort (need Failed (eqb (value 2 file 0) 0xFFF0) WrongOpening Passed)
 opening Device file = Passed
 
 abbrev pub openingSize : Form → ℕ
 openingSize Disk = 2
 openingSize Device = 0
 
--- a refused opening is a refusal at offset 0
+-- a refusal before the first record: "0 for 1 to 4 and a cut opening"
+abbrev pub atOnce : Fault → Ran Verdict
+atOnce fault = record { answer = refused fault 0; events = [] }
+
 abbrev pub opened : Check → Ran Verdict → Ran Verdict
 opened Passed rest = rest
-opened (Failed fault) rest = record { answer = refused fault 0; events = [] }
+opened (Failed fault) rest = atOnce fault
 
 -- the whole file in its form, at its bases
 unfoldable pub judged : Form → List ℕ → Bases → Ran Verdict

@@ -21,7 +21,7 @@ ghost use Rattle.records.specs.Records.{read as readOf};
 ghost use Rattle.records.specs.Fields.{fieldsOf, widthOf};
 ghost use Rattle.acx.specs.Events.{blank, Did};
 ghost use Rattle.acx.specs.Pieces.{baseOf, limitOf, amountOf};
-ghost use Rattle.acx.specs.Records.{placing, adjusting, ending, startOf, applied};
+ghost use Rattle.acx.specs.AtBases.{placing, adjusting, ending, startOf, applied};
 ghost use Rattle.acx.specs.Walk.{from, opening as openingOf, openingSize, judged, reported, EndsBy, advanced};
 ghost use Rattle.acx.specs.Call.{formOf, settings, usual, inRange, load as loadOf, Carried, Loaded};
 
@@ -115,12 +115,12 @@ fn place_code(
     code: &[u8],
     place: usize,
     limit: usize,
-    wet: bool,
+    write: bool,
     memory: &mut [u8],
     map: &mut [u8],
 ) -> Check
     requires { ⌜ (place ≤ 131070) × (length (now code) ≤ 65536) × (limit ≤ 65536) × (length (now memory) ≡ 65536) × (length (now map) ≡ 65536) ⌝ }
-    ensures { λ r. ⌜ Did Check (placing place limit (now (code .entry)) (now (map .entry))) wet (now (memory .entry)) (now (map .entry)) r (now (memory .exit)) (now (map .exit)) ⌝ }
+    ensures { λ r. ⌜ Did Check (placing place limit (now (code .entry)) (now (map .entry))) write (now (memory .entry)) (now (map .entry)) r (now (memory .exit)) (now (map .exit)) ⌝ }
 {
     let end = place + code.len();
     if limit < end {
@@ -131,7 +131,7 @@ fn place_code(
         return Check::Failed(Fault::PiecesOverlap);
     }
     words::fill(&mut map[place..end], 1);
-    if wet {
+    if write {
         words::copy(&mut memory[place..end], code);
     }
     Check::Passed
@@ -143,12 +143,12 @@ fn adjust_field(
     bases: Bases,
     place: usize,
     size: usize,
-    wet: bool,
+    write: bool,
     memory: &mut [u8],
     map: &mut [u8],
 ) -> Check
     requires { ⌜ (field .index < 256) × (field .lsb < 256) × (place + size ≤ 65536) × (length (now memory) ≡ 65536) × (length (now map) ≡ 65536) ⌝ }
-    ensures { λ r. ⌜ Did Check (adjusting bases place size (field ∷ []) (now (map .entry))) wet (now (memory .entry)) (now (map .entry)) r (now (memory .exit)) (now (map .exit)) ⌝ }
+    ensures { λ r. ⌜ Did Check (adjusting bases place size (field ∷ []) (now (map .entry))) write (now (memory .entry)) (now (map .entry)) r (now (memory .exit)) (now (map .exit)) ⌝ }
 {
     let fixup = field.fixup;
     let width = records::width(fixup);
@@ -162,7 +162,7 @@ fn adjust_field(
         return Check::Failed(Fault::AdjustedTwice);
     }
     words::fill(&mut map[at..past], 3);
-    if wet {
+    if write {
         let end = place + size;
         add(&mut memory[place..end], field, amount(bases, field));
     }
@@ -176,18 +176,18 @@ fn adjust_fields(
     bases: Bases,
     place: usize,
     size: usize,
-    wet: bool,
+    write: bool,
     memory: &mut [u8],
     map: &mut [u8],
 ) -> Check
     requires { ⌜ (length (now items) ≤ 65536) × (place + size ≤ 65536) × (length (now memory) ≡ 65536) × (length (now map) ≡ 65536) ⌝ }
-    ensures { λ r. ⌜ Did Check (adjusting bases place size (fieldsOf fixup (now (items .entry))) (now (map .entry))) wet (now (memory .entry)) (now (map .entry)) r (now (memory .exit)) (now (map .exit)) ⌝ }
+    ensures { λ r. ⌜ Did Check (adjusting bases place size (fieldsOf fixup (now (items .entry))) (now (map .entry))) write (now (memory .entry)) (now (map .entry)) r (now (memory .exit)) (now (map .exit)) ⌝ }
 {
     let step = records::item_size(fixup);
     let mut i = 0;
     while i + step <= items.len() {
         let field = records::field_at(items, i, fixup);
-        let check = adjust_field(field, bases, place, size, wet, memory, map);
+        let check = adjust_field(field, bases, place, size, write, memory, map);
         if let Check::Failed(fault) = check {
             return Check::Failed(fault);
         }
@@ -202,12 +202,12 @@ fn apply(
     bases: Bases,
     cursor: Cursor,
     found: Record,
-    wet: bool,
+    write: bool,
     memory: &mut [u8],
     map: &mut [u8],
 ) -> Check
     requires { ⌜ (length (now file) ≤ 65536) × (found ≡ readOf (now file) (cursor .at) (cursor .last)) × (cursor .place + cursor .size ≤ 65536) × (length (now memory) ≡ 65536) × (length (now map) ≡ 65536) ⌝ }
-    ensures { λ r. ⌜ Did Check (applied (now (file .entry)) bases (cursor .place) (cursor .size) found (now (map .entry))) wet (now (memory .entry)) (now (map .entry)) r (now (memory .exit)) (now (map .exit)) ⌝ }
+    ensures { λ r. ⌜ Did Check (applied (now (file .entry)) bases (cursor .place) (cursor .size) found (now (map .entry))) write (now (memory .entry)) (now (map .entry)) r (now (memory .exit)) (now (map .exit)) ⌝ }
 {
     match found {
         Record::Code {
@@ -218,7 +218,7 @@ fn apply(
         } => {
             let next = from + size;
             let place = place_of(bases, kind, address);
-            place_code(&file[from..next], place, limit(kind), wet, memory, map)
+            place_code(&file[from..next], place, limit(kind), write, memory, map)
         }
         Record::Fixups { fixup, from, size } => {
             let next = from + size;
@@ -228,7 +228,7 @@ fn apply(
                 bases,
                 cursor.place,
                 cursor.size,
-                wet,
+                write,
                 memory,
                 map,
             )
@@ -314,12 +314,12 @@ fn walk(
     file: &[u8],
     at: usize,
     bases: Bases,
-    wet: bool,
+    write: bool,
     memory: &mut [u8],
     map: &mut [u8],
 ) -> Outcome
     requires { ⌜ (length (now file) ≤ 65536) × (at ≤ length (now file)) × (length (now memory) ≡ 65536) × (length (now map) ≡ 65536) × (now map ≡ blank) ⌝ }
-    ensures { λ r. ⌜ Did Outcome (reported (from (now (file .entry)) bases at [])) wet (now (memory .entry)) blank r (now (memory .exit)) (now (map .exit)) ⌝ }
+    ensures { λ r. ⌜ Did Outcome (reported (from (now (file .entry)) bases at [])) write (now (memory .entry)) blank r (now (memory .exit)) (now (map .exit)) ⌝ }
 {
     let mut cursor = Cursor {
         at,
@@ -332,7 +332,7 @@ fn walk(
     loop {
         let last = cursor.last;
         let found = records::read(file, cursor.at, last);
-        let check = apply(file, bases, cursor, found, wet, memory, map);
+        let check = apply(file, bases, cursor, found, write, memory, map);
         if let Check::Failed(fault) = check {
             return Outcome::Refused {
                 fault,
@@ -382,24 +382,24 @@ fn opening_size(form: Form) -> usize
     }
 }
 
-// The whole file, checked, and carried out where `wet` is true. The map holds the marks up to the end or the fault.
-pub fn run(
+// The whole file, checked, and carried out where `write` is true. The map holds the marks up to the end or the fault.
+pub fn walk_file(
     form: Form,
     file: &[u8],
     bases: Bases,
-    wet: bool,
+    write: bool,
     memory: &mut [u8],
     map: &mut [u8],
 ) -> Outcome
     requires { ⌜ (length (now file) ≤ 65536) × (length (now memory) ≡ 65536) × (length (now map) ≡ 65536) ⌝ }
-    ensures { λ r. ⌜ Did Outcome (reported (judged form (now (file .entry)) bases)) wet (now (memory .entry)) blank r (now (memory .exit)) (now (map .exit)) ⌝ }
+    ensures { λ r. ⌜ Did Outcome (reported (judged form (now (file .entry)) bases)) write (now (memory .entry)) blank r (now (memory .exit)) (now (map .exit)) ⌝ }
 {
     words::fill(map, 0);
     let opened = opening(form, file);
     if let Check::Failed(fault) = opened {
         return refused(fault);
     }
-    walk(file, opening_size(form), bases, wet, memory, map)
+    walk(file, opening_size(form), bases, write, memory, map)
 }
 
 // The file checked first, and carried out only where nothing is refused.
@@ -407,7 +407,7 @@ fn carry_out(form: Form, file: &[u8], bases: Bases, memory: &mut [u8], map: &mut
     requires { ⌜ (length (now file) ≤ 65536) × (length (now memory) ≡ 65536) × (length (now map) ≡ 65536) ⌝ }
     ensures { λ r. ⌜ Carried (judged form (now (file .entry)) bases) (now (memory .entry)) r (now (memory .exit)) (now (map .exit)) ⌝ }
 {
-    let checked = run(form, file, bases, false, memory, map);
+    let checked = walk_file(form, file, bases, false, memory, map);
     if let Outcome::Refused {
         fault,
         offset,
@@ -420,7 +420,7 @@ fn carry_out(form: Form, file: &[u8], bases: Bases, memory: &mut [u8], map: &mut
             side,
         };
     }
-    run(form, file, bases, true, memory, map)
+    walk_file(form, file, bases, true, memory, map)
 }
 
 // A refusal of the file as a whole.

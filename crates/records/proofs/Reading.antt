@@ -1,14 +1,16 @@
 -- Where the record that is read lies in its file, what may come before it, and how long code is.
 -- Assumes nothing.
-use mathlib.Core.Bool.{Bool, true, false, false≢true}
+use mathlib.Core.Bool.{true, false, false≢true}
 use mathlib.Core.List.{List}
 use mathlib.Core.Path.{_≡_, refl}
 use Prim.Native.Nat.{ℕ, _+_, _≤_}
 use native.Mathlib.Omega.{arith}
 use borrow.Author.Tests.{leb-true}
 use lib.ListN.{length, getD}
+use Rattle.answer.proofs.Checks.{on-need}
 use Rattle.answer.specs.declared.Fault.{Fault}
-use Rattle.records.specs.Records.{Type′, code, fixups, end, unknown, types, need, suits, readCode, readFixups, readEnd, readAs, read}
+use Rattle.words.specs.Runs.{Bytes}
+use Rattle.records.specs.Records.{RecordType, code, fixups, end, unknown, types, suits, readCode, readFixups, readEnd, readAs, read}
 use Rattle.records.specs.declared.Fixup.{Fixup}
 use Rattle.records.specs.declared.Kind.{Kind}
 use Rattle.records.specs.declared.Kind.the-variants.{Main, ZeroPage, Absolute}
@@ -16,13 +18,6 @@ use Rattle.records.specs.declared.Last.{Last}
 use Rattle.records.specs.declared.Last.the-variants.{Nothing, Of}
 use Rattle.records.specs.declared.Record.{Record}
 use Rattle.records.specs.declared.Record.the-variants.{Code, Fixups, End, Faulty}
-use Rattle.words.specs.Runs.{Bytes}
-
--- what holds of every fault, and of the rest where the check holds, holds of the checked record
-pub on-need : (P : Record → Type 0) → ((f : Fault) → P (Faulty f)) → (c : Bool) (f : Fault) (r : Record) → (c ≡ true → P r) → P (need c f r)
-unfolding need
-on-need P bad true f r h = h refl
-on-need P bad false f r h = bad f
 
 -- ---- a record lies in its file
 
@@ -46,9 +41,9 @@ code-lies : (file : List ℕ) (at : ℕ) (kind : Kind) → Lies (length file) at
 unfolding readCode
 code-lies file at kind =
     let P = Lies (length file) at in
-    on-need P (bad _ _) _ _ _
-    (λ h₁. on-need P (bad _ _) _ _ _
-    (λ h₂. on-need P (bad _ _) _ _ _
+    on-need Faulty P (bad _ _) _ _ _
+    (λ h₁. on-need Faulty P (bad _ _) _ _ _
+    (λ h₂. on-need Faulty P (bad _ _) _ _ _
     (λ h₃. record { lies = (refl, omega (arith, leb-true)) })))
 
 -- a fixup record's items
@@ -56,10 +51,10 @@ fixups-lie : (file : List ℕ) (at : ℕ) (last : Last) (kind : Kind) (fixup : F
 unfolding readFixups
 fixups-lie file at last kind fixup =
     let P = Lies (length file) at in
-    on-need P (bad _ _) _ _ _
-    (λ h₁. on-need P (bad _ _) _ _ _
-    (λ h₂. on-need P (bad _ _) _ _ _
-    (λ h₃. on-need P (bad _ _) _ _ _
+    on-need Faulty P (bad _ _) _ _ _
+    (λ h₁. on-need Faulty P (bad _ _) _ _ _
+    (λ h₂. on-need Faulty P (bad _ _) _ _ _
+    (λ h₃. on-need Faulty P (bad _ _) _ _ _
     (λ h₄. record { lies = (refl, omega (arith, leb-true)) }))))
 
 -- the end record's bytes
@@ -67,16 +62,16 @@ end-lies : (file : List ℕ) (at : ℕ) → Lies (length file) at (readEnd file 
 unfolding readEnd
 end-lies file at =
     let P = Lies (length file) at in
-    on-need P (bad _ _) _ _ _
-    (λ h₁. on-need P (bad _ _) _ _ _
+    on-need Faulty P (bad _ _) _ _ _
+    (λ h₁. on-need Faulty P (bad _ _) _ _ _
     (λ h₂. record { lies = (refl, leb-true _ _ h₁) }))
 
 -- the record at an offset lies in the file, whatever its type
 pub read-lies : (file : List ℕ) (at : ℕ) (last : Last) → Lies (length file) at (read file at last)
 unfolding read
-read-lies file at last = on-need (Lies (length file) at) (bad _ _) _ _ _ (λ _. typed (getD types (getD file at 0) unknown))
+read-lies file at last = on-need Faulty (Lies (length file) at) (bad _ _) _ _ _ (λ _. typed (getD types (getD file at 0) unknown))
   where
-    typed : (t : Type′) → Lies (length file) at (readAs file at last t)
+    typed : (t : RecordType) → Lies (length file) at (readAs file at last t)
     typed (code kind) = code-lies file at kind
     typed (fixups kind fixup) = fixups-lie file at last kind fixup
     typed end = end-lies file at
@@ -129,17 +124,17 @@ code-follows : (file : List ℕ) (at : ℕ) (last : Last) (kind : Kind) → Foll
 unfolding readCode
 code-follows file at last kind =
     let P = Follows last in
-    on-need P (free _) _ _ _ (λ _. on-need P (free _) _ _ _ (λ _. on-need P (free _) _ _ _ (λ _. record { follows = tt })))
+    on-need Faulty P (free _) _ _ _ (λ _. on-need Faulty P (free _) _ _ _ (λ _. on-need Faulty P (free _) _ _ _ (λ _. record { follows = tt })))
 
 -- a fixup record asks for code that moves
 fixups-follow : (file : List ℕ) (at : ℕ) (last : Last) (kind : Kind) (fixup : Fixup) → Follows last (readFixups file at last kind fixup)
 unfolding readFixups
 fixups-follow file at last kind fixup =
     let P = Follows last in
-    on-need P (free _) _ _ _
-    (λ _. on-need P (free _) _ _ _
-    (λ h. on-need P (free _) _ _ _
-    (λ _. on-need P (free _) _ _ _
+    on-need Faulty P (free _) _ _ _
+    (λ _. on-need Faulty P (free _) _ _ _
+    (λ h. on-need Faulty P (free _) _ _ _
+    (λ _. on-need Faulty P (free _) _ _ _
     (λ _. record { follows = suits-moving kind last h }))))
 
 -- the end record asks for nothing
@@ -147,14 +142,14 @@ end-follows : (file : List ℕ) (at : ℕ) (last : Last) → Follows last (readE
 unfolding readEnd
 end-follows file at last =
     let P = Follows last in
-    on-need P (free _) _ _ _ (λ _. on-need P (free _) _ _ _ (λ _. record { follows = tt }))
+    on-need Faulty P (free _) _ _ _ (λ _. on-need Faulty P (free _) _ _ _ (λ _. record { follows = tt }))
 
 -- the record at an offset has what it asks for before it
 read-follows : (file : List ℕ) (at : ℕ) (last : Last) → Follows last (read file at last)
 unfolding read
-read-follows file at last = on-need (Follows last) (free _) _ _ _ (λ _. typed (getD types (getD file at 0) unknown))
+read-follows file at last = on-need Faulty (Follows last) (free _) _ _ _ (λ _. typed (getD types (getD file at 0) unknown))
   where
-    typed : (t : Type′) → Follows last (readAs file at last t)
+    typed : (t : RecordType) → Follows last (readAs file at last t)
     typed (code kind) = code-follows file at last kind
     typed (fixups kind fixup) = fixups-follow file at last kind fixup
     typed end = end-follows file at last
@@ -188,29 +183,29 @@ code-short : (file : List ℕ) (at : ℕ) (kind : Kind) → Bytes file → Short
 unfolding readCode
 code-short file at kind b =
     let n = b (at + 1) in
-    on-need Short none _ _ _ (λ _. on-need Short none _ _ _ (λ _. on-need Short none _ _ _ (λ _. record { few = omega arith })))
+    on-need Faulty Short none _ _ _ (λ _. on-need Faulty Short none _ _ _ (λ _. on-need Faulty Short none _ _ _ (λ _. record { few = omega arith })))
 
 -- a fixup record is no code
 fixups-short : (file : List ℕ) (at : ℕ) (last : Last) (kind : Kind) (fixup : Fixup) → Short (readFixups file at last kind fixup)
 unfolding readFixups
 fixups-short file at last kind fixup =
-    on-need Short none _ _ _
-    (λ _. on-need Short none _ _ _
-    (λ _. on-need Short none _ _ _
-    (λ _. on-need Short none _ _ _
+    on-need Faulty Short none _ _ _
+    (λ _. on-need Faulty Short none _ _ _
+    (λ _. on-need Faulty Short none _ _ _
+    (λ _. on-need Faulty Short none _ _ _
     (λ _. record { few = tt }))))
 
 -- nor is the end record
 end-short : (file : List ℕ) (at : ℕ) → Short (readEnd file at)
 unfolding readEnd
-end-short file at = on-need Short none _ _ _ (λ _. on-need Short none _ _ _ (λ _. record { few = tt }))
+end-short file at = on-need Faulty Short none _ _ _ (λ _. on-need Faulty Short none _ _ _ (λ _. record { few = tt }))
 
 -- the record at an offset, whatever its type
 read-short : (file : List ℕ) (at : ℕ) (last : Last) → Bytes file → Short (read file at last)
 unfolding read
-read-short file at last b = on-need Short none _ _ _ (λ _. typed (getD types (getD file at 0) unknown))
+read-short file at last b = on-need Faulty Short none _ _ _ (λ _. typed (getD types (getD file at 0) unknown))
   where
-    typed : (t : Type′) → Short (readAs file at last t)
+    typed : (t : RecordType) → Short (readAs file at last t)
     typed (code kind) = code-short file at kind b
     typed (fixups kind fixup) = fixups-short file at last kind fixup
     typed end = end-short file at

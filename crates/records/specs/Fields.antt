@@ -3,9 +3,9 @@
 use mathlib.Core.List.{List, [], _∷_}
 use Prim.Native.Nat.{ℕ, _+_}
 use lib.ListN.{getD}
+use Rattle.records.specs.declared.Field.{Field}
 use Rattle.records.specs.declared.Fixup.{Fixup}
 use Rattle.records.specs.declared.Fixup.the-variants.{Low, Page, Word, High}
-use Rattle.records.specs.declared.Field.{Field}
 
 -- how many bytes a field has: 06 and 07 list words, all others bytes
 abbrev pub widthOf : Fixup → ℕ

@@ -6,34 +6,29 @@ use mathlib.Core.List.{List, [], _∷_}
 use Prim.Native.Nat.{ℕ, _+_, _-_, _%_}
 use lib.Dec.{ltb, leb, eqb}
 use lib.ListN.{length, getD}
-use Rattle.words.specs.Numbers.{value}
-use Rattle.answer.specs.declared.Fault.{Fault}
+use Rattle.answer.specs.Checks.{need}
 use Rattle.answer.specs.declared.Fault.the-variants.{CutShort, NotKnown, LengthNotAllowed, FixupUnsuited}
-use Rattle.records.specs.declared.Kind.{Kind}
-use Rattle.records.specs.declared.Kind.the-variants.{Main, ZeroPage, Absolute}
-use Rattle.records.specs.declared.Fixup.{Fixup}
-use Rattle.records.specs.declared.Fixup.the-variants.{Low, Page, Word, High}
-use Rattle.records.specs.declared.Last.{Last}
-use Rattle.records.specs.declared.Last.the-variants.{Nothing, Of}
+use Rattle.words.specs.Numbers.{value}
 use Rattle.records.specs.declared.Entry.{Entry}
 use Rattle.records.specs.declared.Entry.the-variants.{Nowhere, Fixed, Relative}
+use Rattle.records.specs.declared.Fixup.{Fixup}
+use Rattle.records.specs.declared.Fixup.the-variants.{Low, Page, Word, High}
+use Rattle.records.specs.declared.Kind.{Kind}
+use Rattle.records.specs.declared.Kind.the-variants.{Main, ZeroPage, Absolute}
+use Rattle.records.specs.declared.Last.{Last}
+use Rattle.records.specs.declared.Last.the-variants.{Nothing, Of}
 use Rattle.records.specs.declared.Record.{Record}
 use Rattle.records.specs.declared.Record.the-variants.{Code, Fixups, End, Faulty}
 
--- a check: where it holds, the rest decides; where it does not, that is the record's fault
-unfoldable pub need : Bool → Fault → Record → Record
-need true fault rest = rest
-need false fault rest = Faulty fault
-
 -- what a record's type byte says
-pub data Type′ : Type 0 where
-  code : Kind → Type′
-  fixups : Kind → Fixup → Type′
-  end : Type′
-  unknown : Type′
+pub data RecordType : Type 0 where
+  code : Kind → RecordType
+  fixups : Kind → Fixup → RecordType
+  end : RecordType
+  unknown : RecordType
 
 -- the types 00 to 0B. "02, 04, 06, 08 after 00; 03, 05, 07, 09 after 0A"
-abbrev pub types : List Type′
+abbrev pub types : List RecordType
 types =
     code Main
     ∷ code Absolute
@@ -53,9 +48,9 @@ types =
 unfoldable pub readCode : List ℕ → ℕ → Kind → Record
 readCode file at kind =
     let n = getD file (at + 1) 0 in
-    need (leb (at + 2) (length file)) CutShort
-    (need (leb 2 n) LengthNotAllowed
-    (need (leb (at + 2 + n) (length file)) CutShort
+    need Faulty (leb (at + 2) (length file)) CutShort
+    (need Faulty (leb 2 n) LengthNotAllowed
+    (need Faulty (leb (at + 2 + n) (length file)) CutShort
     (Code kind (value 2 file (at + 2)) (at + 4) (n - 2))))
 
 -- "the last code record before it of the right kind (18) ..; none after 01 or before any code record"
@@ -81,10 +76,10 @@ lengthAllowed High n = eqb (n % 2) 0 && leb n 254
 unfoldable pub readFixups : List ℕ → ℕ → Last → Kind → Fixup → Record
 readFixups file at last kind fixup =
     let n = getD file (at + 1) 0 in
-    need (leb (at + 2) (length file)) CutShort
-    (need (suits kind last) FixupUnsuited
-    (need (lengthAllowed fixup n) LengthNotAllowed
-    (need (leb (at + 2 + n) (length file)) CutShort
+    need Faulty (leb (at + 2) (length file)) CutShort
+    (need Faulty (suits kind last) FixupUnsuited
+    (need Faulty (lengthAllowed fixup n) LengthNotAllowed
+    (need Faulty (leb (at + 2 + n) (length file)) CutShort
     (Fixups fixup (at + 2) n))))
 
 -- "flag 0 none, 1 absolute, 2 plus main base (6)"
@@ -95,11 +90,11 @@ entries address = Nowhere ∷ Fixed address ∷ Relative address ∷ []
 unfoldable pub readEnd : List ℕ → ℕ → Record
 readEnd file at =
     let flag = getD file (at + 1) 0 in
-    need (leb (at + 4) (length file)) CutShort
-    (need (leb flag 2) NotKnown
+    need Faulty (leb (at + 4) (length file)) CutShort
+    (need Faulty (leb flag 2) NotKnown
     (End (getD (entries (value 2 file (at + 2))) flag Nowhere) (at + 4)))
 
-abbrev pub readAs : List ℕ → ℕ → Last → Type′ → Record
+abbrev pub readAs : List ℕ → ℕ → Last → RecordType → Record
 readAs file at last (code kind) = readCode file at kind
 readAs file at last (fixups kind fixup) = readFixups file at last kind fixup
 readAs file at last end = readEnd file at
@@ -107,4 +102,4 @@ readAs file at last unknown = Faulty NotKnown
 
 -- the record at an offset: "Type known (5, 6)", and then as the type says
 unfoldable pub read : List ℕ → ℕ → Last → Record
-read file at last = need (ltb at (length file)) CutShort (readAs file at last (getD types (getD file at 0) unknown))
+read file at last = need Faulty (ltb at (length file)) CutShort (readAs file at last (getD types (getD file at 0) unknown))

@@ -1,85 +1,62 @@
-use native.Mathlib.Omega.{arith}
-use Prim.Native.Nat.{ℕ, _+_, _≤_}
-use lib.ListN.{length}
-use Rattle.records.specs.Fields.{widthOf}
-use Rattle.records.specs.declared.Fixup.{Fixup}
+-- `acx::add` meets its contract: each arm is the adjusting function of its width.
+-- Assumes nothing.
 use borrow.Author.Needs.{needs}
 use Rattle.acx.proofs.add.Statement.{statement}
 use Rattle.acx.proofs.add.Tie as tie
-use Rattle.acx.proofs.add.Reads as reads
-use Rattle.acx.proofs.add.Lts as lts
-use Rattle.words.proofs.add_to_byte.Reads as add-to-byte-reads
-use Rattle.words.proofs.add_to_word.Reads as add-to-word-reads
 
--- src/lib.rt:100:42
 enum-told : tie.Need-enum-told
 enum-told c = search needs
 
--- src/lib.rt:100:23
 add-to-byte-requires : tie.Need-add-to-byte-requires
 add-to-byte-requires c κs =
     let e = c .before .enum-told .given .1 in
     rw e at (c .before .before .before .before .pre)
 
--- src/lib.rt:101:43
 enum-told-2 : tie.Need-enum-told-2
 enum-told-2 c = search needs
 
--- src/lib.rt:101:24
 add-to-byte-requires-2 : tie.Need-add-to-byte-requires-2
 add-to-byte-requires-2 c κs =
     let e = c .before .enum-told2 .given .1 in
     rw e at (c .before .before .before .before .pre)
 
--- src/lib.rt:102:43
 enum-told-3 : tie.Need-enum-told-3
 enum-told-3 c = search needs
 
--- src/lib.rt:102:24
 add-to-word-requires : tie.Need-add-to-word-requires
 add-to-word-requires c κs =
     let e = c .before .enum-told3 .given .1 in
     rw e at (c .before .before .before .before .pre)
 
--- src/lib.rt:103:43
 enum-told-4 : tie.Need-enum-told-4
 enum-told-4 c = search needs
 
--- src/lib.rt:103:24
 add-to-byte-requires-3 : tie.Need-add-to-byte-requires-3
 add-to-byte-requires-3 c κs =
     let e = c .before .enum-told4 .given .1 in
     rw e at (c .before .before .before .before .pre)
 
--- src/lib.rt:94:1
 same-length : tie.Need-same-length
 same-length c = search needs
 
--- src/lib.rt:94:1
 returns : tie.Need-returns
 returns c = rw (c .before .before .before .before .enum-told .given .1) (c .before .before .add-to-byte .ensures)
 
--- src/lib.rt:94:1
 same-length-2 : tie.Need-same-length-2
 same-length-2 c = search needs
 
--- src/lib.rt:94:1
 returns-2 : tie.Need-returns-2
 returns-2 c = rw (c .before .before .before .before .enum-told2 .given .1) (c .before .before .add-to-byte2 .ensures)
 
--- src/lib.rt:94:1
 same-length-3 : tie.Need-same-length-3
 same-length-3 c = search needs
 
--- src/lib.rt:94:1
 returns-3 : tie.Need-returns-3
 returns-3 c = rw (c .before .before .before .before .enum-told3 .given .1) (c .before .before .add-to-word .ensures)
 
--- src/lib.rt:94:1
 same-length-4 : tie.Need-same-length-4
 same-length-4 c = search needs
 
--- src/lib.rt:94:1
 returns-4 : tie.Need-returns-4
 returns-4 c = rw (c .before .before .before .before .enum-told4 .given .1) (c .before .before .add-to-byte3 .ensures)
 

@@ -1,67 +1,50 @@
-use mathlib.Core.Bool.{true, false}
-use mathlib.Core.Path.{_≡_, refl, sym, ap, _∙_}
+-- `acx::adjust_field` meets its contract: the index and the map decide as the definition says; the part of the map that is lent comes back marked, that of memory adjusted.
+-- Assumes nothing.
+use mathlib.Core.List.{List}
+use mathlib.Core.Path.{sym, ap, _∙_}
 use Prim.Native.Nat.{ℕ, _+_, _≤_}
 use native.Mathlib.Omega.{arith}
+use borrow.Author.Needs.{needs}
 use lib.ListN.{length}
 use Rattle.words.proofs.Lent.{lent-is}
 use Rattle.words.specs.Runs.{contains}
-use Rattle.acx.proofs.Events.{stayed}
 use Rattle.acx.proofs.Checks.{adjusting-outside, adjusting-twice, adjusting-done, filled, added, width-le}
-use mathlib.Core.List.{List}
-use borrow.Author.Needs.{needs}
+use Rattle.acx.proofs.Events.{stayed}
 use Rattle.acx.proofs.adjust_field.Statement.{statement}
 use Rattle.acx.proofs.adjust_field.Tie as tie
-use Rattle.acx.proofs.adjust_field.Reads as reads
-use Rattle.acx.proofs.adjust_field.Lts as lts
-use Rattle.acx.proofs.add.Reads as add-reads
-use Rattle.acx.proofs.amount.Reads as amount-reads
-use Rattle.records.proofs.width.Reads as width-reads
-use Rattle.words.proofs.contains.Reads as contains-reads
-use Rattle.words.proofs.fill.Reads as fill-reads
 
--- src/lib.rt:133:9
 width-requires : tie.Need-width-requires
 width-requires c κs = search needs
 
--- src/lib.rt:134:15
 add-if1 : tie.Need-add-if1
 add-if1 c =
     let s = c .before .before .before .before in
     omega (arith, s .pre, c .before .width .ensures, width-le (s .args .field .fixup))
 
--- src/lib.rt:135:9
 returns : tie.Need-returns
 returns c = adjusting-outside _ _ _ _ _ _ _ _ (c .before .before .width .ensures) (c .if1 .taken)
 
--- src/lib.rt:137:14
 add-at : tie.Need-add-at
 add-at c = search needs
 
--- src/lib.rt:138:16
 add-past : tie.Need-add-past
 add-past c = search needs
 
--- src/lib.rt:139:36
 sub-contains : tie.Need-sub-contains
 sub-contains c = search needs
 
--- src/lib.rt:139:36
 part-contains-start : tie.Need-part-contains-start
 part-contains-start c = search needs
 
--- src/lib.rt:139:36
 part-contains-end : tie.Need-part-contains-end
 part-contains-end c = search needs
 
--- src/lib.rt:139:9
 contains-requires : tie.Need-contains-requires
 contains-requires c κs = search needs
 
--- src/lib.rt:141:9
 same-length : tie.Need-same-length
 same-length c = search needs
 
--- src/lib.rt:141:9
 returns-2 : tie.Need-returns-2
 returns-2 c =
     let i = c .before .before .before .before .before in
@@ -69,55 +52,42 @@ returns-2 c =
     let a = i .before .before .before .before .before .args in
     adjusting-twice _ _ _ _ _ _ _ _ (w .ensures) (i .if1 .left) (ap (λ (l : List ℕ). contains 3 l) (sym (lent-is (a .place + a .field .index) (w .result) (a .map .now))) ∙ sym (c .before .contains .ensures) ∙ c .if2 .taken)
 
--- src/lib.rt:143:17
 sub-fill : tie.Need-sub-fill
 sub-fill c = search needs
 
--- src/lib.rt:143:17
 part-fill-start : tie.Need-part-fill-start
 part-fill-start c = search needs
 
--- src/lib.rt:143:17
 part-fill-end : tie.Need-part-fill-end
 part-fill-end c = search needs
 
--- src/lib.rt:143:5
 fill-requires : tie.Need-fill-requires
 fill-requires c κs = search needs
 
--- src/lib.rt:145:19
 add-end : tie.Need-add-end
 add-end c = search needs
 
--- src/lib.rt:146:13
 sub-add : tie.Need-sub-add
 sub-add c = search needs
 
--- src/lib.rt:146:13
 part-add-start : tie.Need-part-add-start
 part-add-start c = search needs
 
--- src/lib.rt:146:13
 part-add-end : tie.Need-part-add-end
 part-add-end c = search needs
 
--- src/lib.rt:146:45
 amount-requires : tie.Need-amount-requires
 amount-requires c κs = search needs
 
--- src/lib.rt:146:9
 add-requires : tie.Need-add-requires
 add-requires c κs = search needs
 
--- src/lib.rt:128:1
 same-length-2 : tie.Need-same-length-2
 same-length-2 c = search needs
 
--- src/lib.rt:128:1
 same-length-3 : tie.Need-same-length-3
 same-length-3 c = search needs
 
--- src/lib.rt:128:1
 returns-3 : tie.Need-returns-3
 returns-3 c =
     let f = c .before .before .before .before .before .before .before .before in
@@ -134,11 +104,9 @@ returns-3 c =
     (added _ _ _ _ _ _ _ _ (c .before .before .before .before .before .if3 .taken) (c .before .before .before .amount .ensures) whole inside (c .before .before .add .ensures))
     (filled _ _ 3 _ _ room (f .fill .ensures))
 
--- src/lib.rt:128:1
 same-length-4 : tie.Need-same-length-4
 same-length-4 c = search needs
 
--- src/lib.rt:128:1
 returns-4 : tie.Need-returns-4
 returns-4 c =
     let f = c .before .before .before in

@@ -1,48 +1,39 @@
-use borrow.Author.Needs.{needs}
-use mathlib.Core.List.{_∷_}
-use mathlib.Core.Path.{_≡_, refl, sym, ap, _∙_}
-use Prim.Native.Nat.{ℕ, _+_, _-_, _≤_, _<_}
+-- `acx::adjust_fields` meets its contract: the definition's list of fields has come to the field at hand, with the memory and the map that the fields before it left (`Adjusting`).
+-- Assumes nothing.
+use mathlib.Core.Path.{_≡_}
+use Prim.Native.Nat.{_-_, _≤_}
 use native.Mathlib.Omega.{arith}
+use borrow.Author.Needs.{needs}
 use lib.ListN.{length, drop}
-use Rattle.records.proofs.Listing.{item-some, fields-more, fields-none}
-use Rattle.records.specs.Fields.{itemSize, fieldAt, fieldsOf}
+use Rattle.records.proofs.Listing.{item-some}
+use Rattle.records.specs.Fields.{itemSize, fieldsOf}
 use Rattle.acx.proofs.Fields.{Adjusting, adjusting-none, adjusting-more, adjusting-fails, adjusting-end, item-le, next-field, last-field}
 use Rattle.acx.proofs.adjust_fields.Statement.{statement}
 use Rattle.acx.proofs.adjust_fields.Tie as tie
-use Rattle.acx.proofs.adjust_fields.Reads as reads
-use Rattle.acx.proofs.adjust_fields.Lts as lts
-use Rattle.acx.proofs.adjust_field.Reads as adjust-field-reads
-use Rattle.records.proofs.field_at.Reads as field-at-reads
-use Rattle.records.proofs.item_size.Reads as item-size-reads
 
 abbrev Inv-loop : tie.InvT-loop
-Inv-loop items fixup bases place size wet memory₀ map₀ step i₀ memory map i = (i ≤ length items) × (step ≡ itemSize fixup) × (length memory ≡ 65536) × (length map ≡ 65536) × Adjusting bases place size wet (fieldsOf fixup items) memory₀ map₀ (fieldsOf fixup (drop i items)) memory map
+Inv-loop items fixup bases place size write memory₀ map₀ step i₀ memory map i = (i ≤ length items) × (step ≡ itemSize fixup) × (length memory ≡ 65536) × (length map ≡ 65536) × Adjusting bases place size write (fieldsOf fixup items) memory₀ map₀ (fieldsOf fixup (drop i items)) memory map
 
 abbrev μ-loop : tie.MeasureT-loop
-μ-loop items fixup bases place size wet memory₀ map₀ step i₀ memory map i = length items - i
+μ-loop items fixup bases place size write memory₀ map₀ step i₀ memory map i = length items - i
 
--- src/lib.rt:165:9
 item-size-requires : tie.Need-item-size-requires Inv-loop μ-loop
 item-size-requires c κs = search needs
 
--- src/lib.rt:167:5
 loop-holds : tie.Need-loop-holds Inv-loop μ-loop
 loop-holds c =
     let s = c .before .before .before .before in
     (omega arith, c .item-size .ensures, s .pre .2, s .pre .3, adjusting-none _ _ _ _ _ _ _)
 
--- src/lib.rt:167:11
 add-loop : tie.Need-add-loop Inv-loop μ-loop
 add-loop c =
     let s = c .before .before .before .before .before in
     let l = c .loop .inv in
     omega (arith, s .pre, l .0, l .1, item-le (s .args .fixup))
 
--- src/lib.rt:168:13
 field-at-requires : tie.Need-field-at-requires Inv-loop μ-loop
 field-at-requires c κs = rw (← c .before .loop .inv .1) (c .loop-test .taken)
 
--- src/lib.rt:169:13
 adjust-field-requires : tie.Need-adjust-field-requires Inv-loop μ-loop
 adjust-field-requires c κs =
     let l = c .before .before .before .before .loop .inv in
@@ -50,19 +41,15 @@ adjust-field-requires c κs =
     let s = c .before .before .before .before .before .before .before .before .before in
     (f .1, f .2, s .pre .1, l .2, l .3)
 
--- src/lib.rt:170:30
 enum-known-check : tie.Need-enum-known-check Inv-loop μ-loop
 enum-known-check c = search needs
 
--- src/lib.rt:171:13
 same-length : tie.Need-same-length Inv-loop μ-loop
 same-length c = search needs
 
--- src/lib.rt:171:13
 same-length-2 : tie.Need-same-length-2 Inv-loop μ-loop
 same-length-2 c = search needs
 
--- src/lib.rt:171:13
 returns : tie.Need-returns Inv-loop μ-loop
 returns c =
     let a = c .before .before .before .before .before .before .before in
@@ -73,20 +60,17 @@ returns c =
 enum-told : tie.Need-enum-told Inv-loop μ-loop
 enum-told c = search needs
 
--- src/lib.rt:173:9
 add-i : tie.Need-add-i Inv-loop μ-loop
 add-i c =
     let t = c .before .before .before .before .before .before .before .before .before .before in
     omega (arith, t .loop-test .taken)
 
--- src/lib.rt:167:5
 loop-less : tie.Need-loop-less Inv-loop μ-loop
 loop-less c =
     let t = c .before .before .before .before .before .before .before .before .before .before in
     let s = t .before .before .before .before .before .before in
     omega (arith, t .loop-test .taken, t .before .loop .inv .1, item-some (s .args .fixup))
 
--- src/lib.rt:167:5
 loop-again : tie.Need-loop-again Inv-loop μ-loop
 loop-again c =
     let a = c .before .before .before .before .before .before in
@@ -100,15 +84,12 @@ loop-again c =
       adjusting-more _ _ _ _ _ _ _ _ _ _ _ _ _ _ _ (next-field _ _ _ _ _ e (f .before .loop-test .taken) (f .field-at .ensures .0)) (l .inv .4) (a .adjust-field .ensures) (c .enum-told .given .1),
     )
 
--- src/lib.rt:152:1
 same-length-3 : tie.Need-same-length-3 Inv-loop μ-loop
 same-length-3 c = search needs
 
--- src/lib.rt:152:1
 same-length-4 : tie.Need-same-length-4 Inv-loop μ-loop
 same-length-4 c = search needs
 
--- src/lib.rt:152:1
 returns-2 : tie.Need-returns-2 Inv-loop μ-loop
 returns-2 c =
     let l = c .before .loop in

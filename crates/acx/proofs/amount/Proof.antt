@@ -1,54 +1,43 @@
-use Rattle.acx.specs.Pieces.{amountOf}
+-- `acx::amount` meets its contract: each arm is the amount of its fixup.
+-- Assumes nothing.
 use borrow.Author.Needs.{needs}
 use Rattle.acx.proofs.amount.Statement.{statement}
 use Rattle.acx.proofs.amount.Tie as tie
-use Rattle.acx.proofs.amount.Reads as reads
-use Rattle.acx.proofs.amount.Lts as lts
+use Rattle.acx.specs.Pieces.{amountOf}
 
--- src/lib.rt:86:23
 enum-told : tie.Need-enum-told
 enum-told c = search needs
 
--- src/lib.rt:87:24
 enum-told-2 : tie.Need-enum-told-2
 enum-told-2 c = search needs
 
--- src/lib.rt:88:24
 enum-told-3 : tie.Need-enum-told-3
 enum-told-3 c = search needs
 
--- src/lib.rt:89:38
 enum-told-4 : tie.Need-enum-told-4
 enum-told-4 c = search needs
 
--- src/lib.rt:89:38
 cast-result : tie.Need-cast-result
 cast-result c = search needs
 
--- src/lib.rt:89:26
 add-result : tie.Need-add-result
 add-result c = search needs
 
--- src/lib.rt:89:24
 cast-result-2 : tie.Need-cast-result-2
 cast-result-2 c = search needs
 
--- src/lib.rt:80:1
 returns : tie.Need-returns
 unfolding amountOf
 returns c = simp (c .enum-told .given .1)
 
--- src/lib.rt:80:1
 returns-2 : tie.Need-returns-2
 unfolding amountOf
 returns-2 c = simp (c .enum-told2 .given .1)
 
--- src/lib.rt:80:1
 returns-3 : tie.Need-returns-3
 unfolding amountOf
 returns-3 c = simp (c .enum-told3 .given .1)
 
--- src/lib.rt:80:1
 returns-4 : tie.Need-returns-4
 unfolding amountOf
 returns-4 c = simp (c .before .before .enum-told4 .given .1)

@@ -1,55 +1,40 @@
-use mathlib.Core.Path.{_≡_, refl, sym, ap, _∙_}
-use Prim.Native.Nat.{ℕ, _+_, _≤_}
+-- `acx::apply` meets its contract: each kind of record comes to what its part comes to, and lies in the file.
+-- Assumes nothing.
+use mathlib.Core.Path.{sym, _∙_}
 use native.Mathlib.Omega.{arith}
-use lib.ListN.{length, take, drop}
+use borrow.Author.Needs.{needs}
 use Rattle.records.proofs.Reading.{lies-as}
 use Rattle.acx.proofs.Applying.{applied-code, applied-fixups, applied-end, applied-faulty, lent-fits}
-use borrow.Author.Needs.{needs}
 use Rattle.acx.proofs.apply.Statement.{statement}
 use Rattle.acx.proofs.apply.Tie as tie
-use Rattle.acx.proofs.apply.Reads as reads
-use Rattle.acx.proofs.apply.Lts as lts
-use Rattle.acx.proofs.adjust_fields.Reads as adjust-fields-reads
-use Rattle.acx.proofs.end.Reads as end-reads
-use Rattle.acx.proofs.limit.Reads as limit-reads
-use Rattle.acx.proofs.place_code.Reads as place-code-reads
-use Rattle.acx.proofs.place_of.Reads as place-of-reads
 
--- src/lib.rt:184:24
 enum-known-found : tie.Need-enum-known-found
 enum-known-found c = search needs
 
--- src/lib.rt:185:24
 add-next : tie.Need-add-next
 add-next c =
     let s = c .before .before .before .before .before .before in
     let w = lies-as _ _ _ _ (sym (s .pre .1) ∙ c .before .found .given .1) in
     omega (arith, w, s .pre .0)
 
--- src/lib.rt:186:17
 place-of-requires : tie.Need-place-of-requires
 place-of-requires c κs = search needs
 
--- src/lib.rt:187:24
 sub-place-code : tie.Need-sub-place-code
 sub-place-code c = search needs
 
--- src/lib.rt:187:24
 part-place-code-start : tie.Need-part-place-code-start
 part-place-code-start c = search needs
 
--- src/lib.rt:187:24
 part-place-code-end : tie.Need-part-place-code-end
 part-place-code-end c =
     let s = c .before .before .before .before .before .before .before in
     let w = lies-as _ _ _ _ (sym (s .pre .1) ∙ c .before .before .found .given .1) in
     omega (arith, w)
 
--- src/lib.rt:187:50
 limit-requires : tie.Need-limit-requires
 limit-requires c κs = search needs
 
--- src/lib.rt:187:13
 place-code-requires : tie.Need-place-code-requires
 place-code-requires c κs =
     let g = c .before .before .before .before in
@@ -57,60 +42,48 @@ place-code-requires c κs =
     let w = lies-as _ _ _ _ (sym (s .pre .1) ∙ g .before .before .found .given .1) in
     (g .place-of .ensures .1, lent-fits _ _ _ (w .1) (s .pre .0), c .before .before .limit .ensures .1, s .pre .3, s .pre .4)
 
--- src/lib.rt:189:26
 enum-known-found-2 : tie.Need-enum-known-found-2
 enum-known-found-2 c = search needs
 
--- src/lib.rt:190:24
 add-next-2 : tie.Need-add-next-2
 add-next-2 c =
     let s = c .before .before .before .before .before .before in
     let w = lies-as _ _ _ _ (sym (s .pre .1) ∙ c .before .found2 .given .1) in
     omega (arith, w, s .pre .0)
 
--- src/lib.rt:191:27
 sub-adjust-fields : tie.Need-sub-adjust-fields
 sub-adjust-fields c = search needs
 
--- src/lib.rt:191:27
 part-adjust-fields-start : tie.Need-part-adjust-fields-start
 part-adjust-fields-start c = search needs
 
--- src/lib.rt:191:27
 part-adjust-fields-end : tie.Need-part-adjust-fields-end
 part-adjust-fields-end c =
     let s = c .before .before .before .before .before .before in
     let w = lies-as _ _ _ _ (sym (s .pre .1) ∙ c .before .found2 .given .1) in
     omega (arith, w)
 
--- src/lib.rt:191:13
 adjust-fields-requires : tie.Need-adjust-fields-requires
 adjust-fields-requires c κs =
     let s = c .before .before .before .before .before .before .before .before .before in
     let w = lies-as _ _ _ _ (sym (s .pre .1) ∙ c .before .before .before .before .found2 .given .1) in
     (lent-fits _ _ _ (w .1) (s .pre .0), s .pre .2, s .pre .3, s .pre .4)
 
--- src/lib.rt:193:23
 enum-known-found-3 : tie.Need-enum-known-found-3
 enum-known-found-3 c = search needs
 
--- src/lib.rt:193:40
 end-requires : tie.Need-end-requires
 end-requires c κs = search needs
 
--- src/lib.rt:194:24
 enum-known-found-4 : tie.Need-enum-known-found-4
 enum-known-found-4 c = search needs
 
--- src/lib.rt:179:1
 same-length : tie.Need-same-length
 same-length c = search needs
 
--- src/lib.rt:179:1
 same-length-2 : tie.Need-same-length-2
 same-length-2 c = search needs
 
--- src/lib.rt:179:1
 returns : tie.Need-returns
 returns c =
     let o = c .before .before .before .before in
@@ -118,25 +91,20 @@ returns c =
     let g = l .before .before in
     applied-code _ _ _ _ _ _ _ _ _ _ _ _ _ _ _ _ _ (g .before .before .found .given .1) (g .place-of .ensures .0) (l .limit .ensures .0) (o .place-code .ensures)
 
--- src/lib.rt:179:1
 same-length-3 : tie.Need-same-length-3
 same-length-3 c = search needs
 
--- src/lib.rt:179:1
 same-length-4 : tie.Need-same-length-4
 same-length-4 c = search needs
 
--- src/lib.rt:179:1
 returns-2 : tie.Need-returns-2
 returns-2 c =
     let o = c .before .before .before .before in
     applied-fixups _ _ _ _ _ _ _ _ _ _ _ _ _ _ (o .before .before .before .before .before .found2 .given .1) (o .adjust-fields .ensures)
 
--- src/lib.rt:179:1
 returns-3 : tie.Need-returns-3
 returns-3 c = applied-end _ _ _ _ _ _ _ _ _ _ _ (c .before .before .found3 .given .1) (c .end .ensures)
 
--- src/lib.rt:179:1
 returns-4 : tie.Need-returns-4
 returns-4 c = applied-faulty _ _ _ _ _ _ _ _ _ (c .before .found4 .given .1)
 

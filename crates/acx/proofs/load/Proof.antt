@@ -1,42 +1,31 @@
-use mathlib.Core.Path.{_≡_, refl, sym, ap, _∙_}
-use Rattle.acx.proofs.Calling.{loaded-memory, loaded-map, loaded-sized}
+-- `acx::load` meets its contract: the lengths decide, then the rest; the counts lie in the file, since the definition's do.
+-- Assumes nothing.
 use borrow.Author.Needs.{needs}
+use Rattle.acx.proofs.Calling.{loaded-memory, loaded-map, loaded-sized}
 use Rattle.acx.proofs.load.Statement.{statement}
 use Rattle.acx.proofs.load.Tie as tie
-use Rattle.acx.proofs.load.Reads as reads
-use Rattle.acx.proofs.load.Lts as lts
-use Rattle.acx.proofs.load_sized.Reads as load-sized-reads
-use Rattle.acx.proofs.refused.Reads as refused-reads
 
--- src/lib.rt:421:9
 refused-requires : tie.Need-refused-requires
 refused-requires c κs = search needs
 
--- src/lib.rt:421:9
 returns : tie.Need-returns
 returns c = loaded-memory _ _ _ _ _ (c .before .if1 .taken) (c .refused .ensures)
 
--- src/lib.rt:424:9
 refused-requires-2 : tie.Need-refused-requires-2
 refused-requires-2 c κs = search needs
 
--- src/lib.rt:424:9
 returns-2 : tie.Need-returns-2
 returns-2 c = loaded-map _ _ _ _ _ (c .before .before .if1 .left) (c .before .if2 .taken) (c .refused2 .ensures)
 
--- src/lib.rt:426:5
 load-sized-requires : tie.Need-load-sized-requires
 load-sized-requires c κs = search needs
 
--- src/lib.rt:417:1
 same-length : tie.Need-same-length
 same-length c = search needs
 
--- src/lib.rt:417:1
 same-length-2 : tie.Need-same-length-2
 same-length-2 c = search needs
 
--- src/lib.rt:417:1
 returns-3 : tie.Need-returns-3
 returns-3 c =
     let t = c .before .before .before .before .before .before .before in

@@ -1,64 +1,47 @@
-use Rattle.acx.specs.Call.{settings}
-use mathlib.Core.Path.{_≡_, refl, sym, ap, _∙_}
-use Prim.Native.Nat.{_≤_}
+-- `acx::load_sized` meets its contract: the settings decide, then the file's length, then the file.
+-- Assumes nothing.
+use mathlib.Core.Path.{sym, _∙_}
 use native.Mathlib.Omega.{arith}
-use borrow.Author.Tests.{not-true, not-false}
-use lib.ListN.{length}
-use Rattle.acx.proofs.Calling.{cleared, range-bounds, load-range, load-long, load-carried}
 use borrow.Author.Needs.{needs}
+use borrow.Author.Tests.{not-true, not-false}
+use Rattle.acx.proofs.Calling.{cleared, range-bounds, load-range, load-long, load-carried}
 use Rattle.acx.proofs.load_sized.Statement.{statement}
 use Rattle.acx.proofs.load_sized.Tie as tie
-use Rattle.acx.proofs.load_sized.Reads as reads
-use Rattle.acx.proofs.load_sized.Lts as lts
-use Rattle.acx.proofs.carry_out.Reads as carry-out-reads
-use Rattle.acx.proofs.form_of.Reads as form-of-reads
-use Rattle.acx.proofs.in_range.Reads as in-range-reads
-use Rattle.acx.proofs.refused.Reads as refused-reads
-use Rattle.words.proofs.fill.Reads as fill-reads
+use Rattle.acx.specs.Call.{settings}
 
--- src/lib.rt:400:9
 in-range-requires : tie.Need-in-range-requires
 in-range-requires c κs = search needs
 
--- src/lib.rt:402:9
 fill-requires : tie.Need-fill-requires
 fill-requires c κs = search needs
 
--- src/lib.rt:403:9
 refused-requires : tie.Need-refused-requires
 refused-requires c κs = search needs
 
--- src/lib.rt:403:9
 same-length : tie.Need-same-length
 same-length c = search needs
 
--- src/lib.rt:403:9
 returns : tie.Need-returns
 returns c =
     let t = c .before .before .before .before .before in
     let s = t .before .before .before .before .before in
     load-range _ _ _ _ _ (sym (t .before .in-range .ensures) ∙ not-true _ (t .if1 .taken)) (c .refused .ensures) (cleared _ _ (s .pre .1) (c .before .before .before .fill .ensures))
 
--- src/lib.rt:406:9
 fill-requires-2 : tie.Need-fill-requires-2
 fill-requires-2 c κs = search needs
 
--- src/lib.rt:407:9
 refused-requires-2 : tie.Need-refused-requires-2
 refused-requires-2 c κs = search needs
 
--- src/lib.rt:407:9
 same-length-2 : tie.Need-same-length-2
 same-length-2 c = search needs
 
--- src/lib.rt:407:9
 returns-2 : tie.Need-returns-2
 returns-2 c =
     let t = c .before .before .before .before .before .before in
     let s = t .before .before .before .before .before in
     load-long _ _ _ (sym (t .before .in-range .ensures) ∙ not-false _ (t .if1 .left)) _ _ (c .before .before .before .before .before .if2 .taken) (c .refused2 .ensures) (cleared _ _ (s .pre .1) (c .before .before .before .fill2 .ensures))
 
--- src/lib.rt:410:15
 cast-t19 : tie.Need-cast-t19
 cast-t19 c =
     let t = c .before in
@@ -66,7 +49,6 @@ cast-t19 c =
     let k = range-bounds (settings (a .form) (a .main-base) (a .zero-base)) (sym (t .before .in-range .ensures) ∙ not-false _ (t .if1 .left)) in
     omega (arith, k)
 
--- src/lib.rt:411:15
 cast-t20 : tie.Need-cast-t20
 cast-t20 c =
     let t = c .before in
@@ -74,23 +56,18 @@ cast-t20 c =
     let k = range-bounds (settings (a .form) (a .main-base) (a .zero-base)) (sym (t .before .in-range .ensures) ∙ not-false _ (t .if1 .left)) in
     omega (arith, k)
 
--- src/lib.rt:413:15
 form-of-requires : tie.Need-form-of-requires
 form-of-requires c κs = search needs
 
--- src/lib.rt:413:5
 carry-out-requires : tie.Need-carry-out-requires
 carry-out-requires c κs = search needs
 
--- src/lib.rt:396:1
 same-length-3 : tie.Need-same-length-3
 same-length-3 c = search needs
 
--- src/lib.rt:396:1
 same-length-4 : tie.Need-same-length-4
 same-length-4 c = search needs
 
--- src/lib.rt:396:1
 returns-3 : tie.Need-returns-3
 returns-3 c =
     let f = c .before .before .before .before .before .before .before in

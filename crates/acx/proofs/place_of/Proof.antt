@@ -1,48 +1,38 @@
+-- `acx::place_of` meets its contract: each arm is the sum for its kind.
+-- Assumes nothing.
 use native.Mathlib.Nat.{zero-add}
 use native.Mathlib.Omega.{arith}
 use borrow.Author.Needs.{needs}
 use Rattle.acx.proofs.place_of.Statement.{statement}
 use Rattle.acx.proofs.place_of.Tie as tie
-use Rattle.acx.proofs.place_of.Reads as reads
-use Rattle.acx.proofs.place_of.Lts as lts
 
--- src/lib.rt:62:23
 enum-told : tie.Need-enum-told
 enum-told c = search needs
 
--- src/lib.rt:62:23
 cast-result : tie.Need-cast-result
 cast-result c = search needs
 
--- src/lib.rt:62:23
 add-result : tie.Need-add-result
 add-result c = search needs
 
--- src/lib.rt:63:27
 enum-told-2 : tie.Need-enum-told-2
 enum-told-2 c = search needs
 
--- src/lib.rt:63:27
 cast-result-2 : tie.Need-cast-result-2
 cast-result-2 c = search needs
 
--- src/lib.rt:63:27
 add-result-2 : tie.Need-add-result-2
 add-result-2 c = search needs
 
--- src/lib.rt:64:27
 enum-told-3 : tie.Need-enum-told-3
 enum-told-3 c = search needs
 
--- src/lib.rt:58:1
 returns : tie.Need-returns
 returns c = (simp (c .before .enum-told .given .1), omega arith)
 
--- src/lib.rt:58:1
 returns-2 : tie.Need-returns-2
 returns-2 c = (simp (c .before .enum-told2 .given .1), omega arith)
 
--- src/lib.rt:58:1
 returns-3 : tie.Need-returns-3
 returns-3 c = (simp (c .enum-told3 .given .1, zero-add), omega arith)
 

@@ -1,44 +1,33 @@
-use mathlib.Core.Path.{_≡_, refl, sym, ap, _∙_}
+-- `acx::start` meets its contract: the sum fits in an address, as the caller has seen.
+-- Assumes nothing.
 use borrow.Author.Needs.{needs}
 use Rattle.acx.proofs.start.Statement.{statement}
 use Rattle.acx.proofs.start.Tie as tie
-use Rattle.acx.proofs.start.Reads as reads
-use Rattle.acx.proofs.start.Lts as lts
-use Rattle.acx.proofs.start_address.Reads as start-address-reads
 
--- src/lib.rt:228:9
 start-address-requires : tie.Need-start-address-requires
 start-address-requires c κs = search needs
 
--- src/lib.rt:230:27
 enum-told : tie.Need-enum-told
 enum-told c = search needs
 
--- src/lib.rt:231:22
 enum-known-entry : tie.Need-enum-known-entry
 enum-known-entry c = search needs
 
--- src/lib.rt:231:44
 cast-t7 : tie.Need-cast-t7
 cast-t7 c = search needs
 
--- src/lib.rt:232:25
 enum-known-entry-2 : tie.Need-enum-known-entry-2
 enum-known-entry-2 c = search needs
 
--- src/lib.rt:232:47
 cast-t8 : tie.Need-cast-t8
 cast-t8 c = search needs
 
--- src/lib.rt:224:1
 returns : tie.Need-returns
 returns c = search needs
 
--- src/lib.rt:224:1
 returns-2 : tie.Need-returns-2
 returns-2 c = simp (c .before .before .before .start-address .ensures, c .before .entry .given .1)
 
--- src/lib.rt:224:1
 returns-3 : tie.Need-returns-3
 returns-3 c = simp (c .before .before .before .start-address .ensures, c .before .entry2 .given .1)
 

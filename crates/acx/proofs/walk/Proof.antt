@@ -1,61 +1,49 @@
-use borrow.Author.Needs.{needs}
-use mathlib.Core.Path.{_≡_, refl, sym, ap, _∙_}
-use Prim.Native.Nat.{ℕ, _+_, _-_, _≤_, _<_}
+-- `acx::walk` meets its contract: the definition's walk has come to the cursor, with the memory and the map of its events (`Going`).
+-- Assumes nothing.
+use mathlib.Core.Path.{_≡_}
+use Prim.Native.Nat.{_-_}
 use native.Mathlib.Omega.{arith}
+use borrow.Author.Needs.{needs}
 use lib.ListN.{length}
 use Rattle.acx.proofs.Going.{Going, going-first, going-inside, going-counts, going-fails, going-start, going-ends, going-on, going-further, going-ends-by, going-onward}
 use Rattle.acx.proofs.walk.Statement.{statement}
 use Rattle.acx.proofs.walk.Tie as tie
-use Rattle.acx.proofs.walk.Reads as reads
-use Rattle.acx.proofs.walk.Lts as lts
-use Rattle.acx.proofs.advance.Reads as advance-reads
-use Rattle.acx.proofs.apply.Reads as apply-reads
-use Rattle.acx.proofs.start.Reads as start-reads
-use Rattle.records.proofs.read.Reads as read-reads
 
 abbrev Inv-loop : tie.InvT-loop
-Inv-loop file at bases wet memory₀ map₀ cursor₀ memory map cursor = (length memory ≡ 65536) × (length map ≡ 65536) × Going file bases at wet memory₀ cursor memory map
+Inv-loop file at bases write memory₀ map₀ cursor₀ memory map cursor = (length memory ≡ 65536) × (length map ≡ 65536) × Going file bases at write memory₀ cursor memory map
 
 abbrev μ-loop : tie.MeasureT-loop
-μ-loop file at bases wet memory₀ map₀ cursor₀ memory map cursor = length file - cursor .at
+μ-loop file at bases write memory₀ map₀ cursor₀ memory map cursor = length file - cursor .at
 
--- src/lib.rt:277:5
 loop-holds : tie.Need-loop-holds Inv-loop μ-loop
 loop-holds c =
     let s = c .before .before .before in
     (s .pre .2, s .pre .3, going-first _ _ _ _ _ _ (s .pre .4) (s .pre .1))
 
--- src/lib.rt:279:13
 read-requires : tie.Need-read-requires Inv-loop μ-loop
 read-requires c κs = search needs
 
--- src/lib.rt:280:13
 apply-requires : tie.Need-apply-requires Inv-loop μ-loop
 apply-requires c κs =
     let l = c .before .before .before .loop in
     let s = c .before .before .before .before .before .before .before in
     (s .pre .0, c .before .before .read .ensures, going-inside _ _ _ _ _ _ _ _ (l .inv .2), l .inv .0, l .inv .1)
 
--- src/lib.rt:281:30
 enum-known-check : tie.Need-enum-known-check Inv-loop μ-loop
 enum-known-check c = search needs
 
--- src/lib.rt:284:25
 cast-t19 : tie.Need-cast-t19 Inv-loop μ-loop
 cast-t19 c =
     let l = c .before .before .before .before .before .before .before .before .before .before .before .before in
     let s = l .before .before .before .before in
     omega (arith, s .pre, l .loop .inv .2 .in-file)
 
--- src/lib.rt:282:13
 same-length : tie.Need-same-length Inv-loop μ-loop
 same-length c = search needs
 
--- src/lib.rt:282:13
 same-length-2 : tie.Need-same-length-2 Inv-loop μ-loop
 same-length-2 c = search needs
 
--- src/lib.rt:282:13
 returns : tie.Need-returns Inv-loop μ-loop
 returns c =
     let o = c .before .before .before .before .before .before .before .before in
@@ -66,11 +54,9 @@ returns c =
 enum-told : tie.Need-enum-told Inv-loop μ-loop
 enum-told c = search needs
 
--- src/lib.rt:288:30
 enum-known-found : tie.Need-enum-known-found Inv-loop μ-loop
 enum-known-found c = search needs
 
--- src/lib.rt:290:24
 start-requires : tie.Need-start-requires Inv-loop μ-loop
 start-requires c κs =
     let o = c .before .before .before .before .before .before .before .before .before in
@@ -78,29 +64,24 @@ start-requires c κs =
     let l = f .before .loop in
     going-start _ _ _ _ _ _ _ _ (l .inv .2) _ _ _ _ (f .read .ensures) (o .apply .ensures) _ _ (c .before .before .before .enum-told .given .1) (c .before .found .given .1)
 
--- src/lib.rt:291:25
 cast-t21 : tie.Need-cast-t21 Inv-loop μ-loop
 cast-t21 c =
     let l = c .before .before .before .before .before .before .before .before .before .before .before .before .before .before .before in
     let s = l .before .before .before .before in
     omega (arith, s .pre, l .loop .inv .2 .in-file, going-counts _ _ _ _ _ _ _ _ (l .loop .inv .2))
 
--- src/lib.rt:292:27
 cast-t22 : tie.Need-cast-t22 Inv-loop μ-loop
 cast-t22 c =
     let l = c .before .before .before .before .before .before .before .before .before .before .before .before .before .before .before .before in
     let s = l .before .before .before .before in
     omega (arith, s .pre, l .loop .inv .2 .in-file, going-counts _ _ _ _ _ _ _ _ (l .loop .inv .2))
 
--- src/lib.rt:289:13
 same-length-3 : tie.Need-same-length-3 Inv-loop μ-loop
 same-length-3 c = search needs
 
--- src/lib.rt:289:13
 same-length-4 : tie.Need-same-length-4 Inv-loop μ-loop
 same-length-4 c = search needs
 
--- src/lib.rt:289:13
 returns-2 : tie.Need-returns-2 Inv-loop μ-loop
 returns-2 c =
     let o = c .before .before .before .before .before .before .before .before .before .before .before .before in
@@ -109,7 +90,6 @@ returns-2 c =
     rw (c .before .before .start .ensures)
     (going-ends _ _ _ _ _ _ _ _ (l .inv .2) _ _ _ _ (f .read .ensures) (o .apply .ensures) _ _ (c .before .before .before .before .before .before .enum-told .given .1) (c .before .before .before .before .found .given .1))
 
--- src/lib.rt:297:9
 advance-requires : tie.Need-advance-requires Inv-loop μ-loop
 advance-requires c κs =
     let o = c .before .before .before .before .before .before .before in
@@ -119,7 +99,6 @@ advance-requires c κs =
     let k = going-counts _ _ _ _ _ _ _ _ (l .inv .2) in
     (omega (arith, s .pre, k, l .inv .2 .in-file), omega (arith, s .pre, k, l .inv .2 .in-file), going-ends-by _ _ _ _ _ _ _ _ (l .inv .2) _ _ _ _ (f .read .ensures) (o .apply .ensures) (s .pre .0))
 
--- src/lib.rt:277:5
 loop-less : tie.Need-loop-less Inv-loop μ-loop
 loop-less c =
     let o = c .before .before .before .before .before .before .before .before in
@@ -130,7 +109,6 @@ loop-less c =
     let g = rw (← c .advance .ensures) at (going-on _ _ _ _ _ _ _ _ (l .inv .2) _ _ _ _ (f .read .ensures) (o .apply .ensures) (c .before .before .enum-told .given .1) on) in
     omega (arith, a, g .in-file)
 
--- src/lib.rt:277:5
 loop-again : tie.Need-loop-again Inv-loop μ-loop
 loop-again c =
     let o = c .before .before .before .before .before .before .before .before in

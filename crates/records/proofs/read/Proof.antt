@@ -7,9 +7,10 @@ use native.Mathlib.Omega.{arith}
 use borrow.Author.Needs.{needs}
 use borrow.Author.Tests.{lt-ltb, le-ltb}
 use lib.ListN.{getD, List·getD-eq-default}
+use Rattle.answer.specs.Checks.{need}
 use Rattle.records.proofs.read.Statement.{statement}
 use Rattle.records.proofs.read.Tie as tie
-use Rattle.records.specs.Records.{unknown, types, need, read as readOf}
+use Rattle.records.specs.Records.{unknown, types, read as readOf}
 
 -- a number from n on that is none of six is beyond them
 none-of-six : (t n : ℕ) → n ≤ t → t ≢ n → t ≢ n + 1 → t ≢ n + 2 → t ≢ n + 3 → t ≢ n + 4 → t ≢ n + 5 → n + 6 ≤ t

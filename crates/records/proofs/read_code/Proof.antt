@@ -2,9 +2,10 @@
 -- Assumes nothing.
 use borrow.Author.Needs.{needs}
 use borrow.Author.Tests.{le-leb, lt-leb}
+use Rattle.answer.specs.Checks.{need}
 use Rattle.records.proofs.read_code.Statement.{statement}
 use Rattle.records.proofs.read_code.Tie as tie
-use Rattle.records.specs.Records.{need, readCode}
+use Rattle.records.specs.Records.{readCode}
 
 add-if1 : tie.Need-add-if1
 add-if1 c = search needs

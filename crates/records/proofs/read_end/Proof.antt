@@ -5,9 +5,10 @@ use native.Mathlib.Omega.{arith}
 use borrow.Author.Needs.{needs}
 use borrow.Author.Tests.{le-leb, lt-leb}
 use lib.ListN.{getD}
+use Rattle.answer.specs.Checks.{need}
 use Rattle.records.proofs.read_end.Statement.{statement}
 use Rattle.records.proofs.read_end.Tie as tie
-use Rattle.records.specs.Records.{need, readEnd}
+use Rattle.records.specs.Records.{readEnd}
 
 add-if1 : tie.Need-add-if1
 add-if1 c = search needs

@@ -2,9 +2,10 @@
 -- Assumes nothing.
 use borrow.Author.Needs.{needs}
 use borrow.Author.Tests.{le-leb, lt-leb, not-true, not-false}
+use Rattle.answer.specs.Checks.{need}
 use Rattle.records.proofs.read_fixups.Statement.{statement}
 use Rattle.records.proofs.read_fixups.Tie as tie
-use Rattle.records.specs.Records.{need, readFixups}
+use Rattle.records.specs.Records.{readFixups}
 
 add-if1 : tie.Need-add-if1
 add-if1 c = search needs

@@ -1,11 +1,11 @@
 -- One record at its bases: what is left to check once it is read (`records`), against the map as the records before it left it.
 -- Assumes nothing.
-use mathlib.Core.Bool.{Bool, true, false, not}
+use mathlib.Core.Bool.{not}
 use mathlib.Core.List.{List, [], _∷_}
 use Prim.Native.Nat.{ℕ, _+_}
 use lib.Dec.{leb}
 use lib.ListN.{length}
-use Rattle.words.specs.Runs.{part, allZero, contains}
+use Rattle.answer.specs.Checks.{need}
 use Rattle.answer.specs.Report.{address}
 use Rattle.answer.specs.declared.Fault.{Fault}
 use Rattle.answer.specs.declared.Fault.the-variants.{DoesNotFit, PiecesOverlap, FieldNotLoaded, AdjustedTwice, StartTooHigh, BytesAfterEnd}
@@ -17,16 +17,16 @@ use Rattle.records.specs.declared.Entry.the-variants.{Nowhere, Fixed, Relative}
 use Rattle.records.specs.declared.Field.{Field}
 use Rattle.records.specs.declared.Record.{Record}
 use Rattle.records.specs.declared.Record.the-variants.{Code, Fixups, End, Faulty}
+use Rattle.words.specs.Runs.{part, allZero, contains}
 use Rattle.acx.specs.Events.{Event, place, markOne, Ran}
 use Rattle.acx.specs.Pieces.{baseOf, limitOf, width, adjustment}
 use Rattle.acx.specs.declared.Bases.{Bases}
 use Rattle.acx.specs.declared.Check.{Check}
 use Rattle.acx.specs.declared.Check.the-variants.{Passed, Failed}
 
--- a check: where it holds, the rest decides; where it does not, nothing more is done
-unfoldable pub need : Bool → Fault → Ran Check → Ran Check
-need true fault rest = rest
-need false fault rest = record { answer = Failed fault; events = [] }
+-- what a part that did nothing more comes to at a fault, and where it passed
+abbrev pub failed : Fault → Ran Check
+failed fault = record { answer = Failed fault; events = [] }
 
 abbrev pub passed : List Event → Ran Check
 passed es = record { answer = Passed; events = es }
@@ -34,8 +34,8 @@ passed es = record { answer = Passed; events = es }
 -- code at a place: "Place + n ≤ 65,536, for 0A ≤ 256 (10); no address already placed (17)"
 unfoldable pub placing : ℕ → ℕ → List ℕ → List ℕ → Ran Check
 placing a limit code map =
-    need (leb (a + length code) limit) DoesNotFit
-    (need (allZero (part map a (length code))) PiecesOverlap
+    need failed (leb (a + length code) limit) DoesNotFit
+    (need failed (allZero (part map a (length code))) PiecesOverlap
     (passed (place a code ∷ [])))
 
 abbrev pub first : Event → Ran Check → Ran Check
@@ -45,8 +45,8 @@ first e rest = record { answer = rest .answer; events = e ∷ rest .events }
 unfoldable pub adjusting : Bases → ℕ → ℕ → List Field → List ℕ → Ran Check
 adjusting b a n [] map = passed []
 adjusting b a n (f ∷ fs) map =
-    need (leb (f .index + width f) n) FieldNotLoaded
-    (need (not (contains 3 (part map (a + f .index) (width f)))) AdjustedTwice
+    need failed (leb (f .index + width f) n) FieldNotLoaded
+    (need failed (not (contains 3 (part map (a + f .index) (width f)))) AdjustedTwice
     (first (adjustment b a f) (adjusting b a n fs (markOne (adjustment b a f) map))))
 
 -- "flag 0 none, 1 absolute, 2 plus main base"
@@ -58,8 +58,8 @@ startOf b (Relative a) = At (b .main + a)
 -- "sum ≤ 65,535 for flags 1, 2 (20); nothing after (19)"
 unfoldable pub ending : Bases → Entry → ℕ → ℕ → Ran Check
 ending b entry next fileLength =
-    need (leb (address (startOf b entry)) 65535) StartTooHigh
-    (need (leb fileLength next) BytesAfterEnd
+    need failed (leb (address (startOf b entry)) 65535) StartTooHigh
+    (need failed (leb fileLength next) BytesAfterEnd
     (passed []))
 
 -- a record of the file, where the last code record before it has n bytes at a
@@ -67,4 +67,4 @@ unfoldable pub applied : List ℕ → Bases → ℕ → ℕ → Record → List 
 applied file b a n (Code kind at from count) map = placing (baseOf b kind + at) (limitOf kind) (part file from count) map
 applied file b a n (Fixups fixup from count) map = adjusting b a n (fieldsOf fixup (part file from count)) map
 applied file b a n (End entry next) map = ending b entry next (length file)
-applied file b a n (Faulty fault) map = record { answer = Failed fault; events = [] }
+applied file b a n (Faulty fault) map = failed fault

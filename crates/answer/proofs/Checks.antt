@@ -1,0 +1,13 @@
+-- What holds of an answer that went through a check.
+-- Assumes nothing.
+use mathlib.Core.Bool.{Bool, true, false}
+use mathlib.Core.Path.{_≡_, refl}
+use Rattle.answer.specs.Checks.{need}
+use Rattle.answer.specs.declared.Fault.{Fault}
+
+-- what holds of every fault, and of the rest where the check holds, holds of the checked answer
+pub on-need : {A : Type 0} (says : Fault → A) (P : A → Type 0) → ((fault : Fault) → P (says fault)) → (c : Bool) (fault : Fault) (rest : A) → (c ≡ true → P rest)
+    → P (need says c fault rest)
+unfolding need
+on-need says P bad true fault rest h = h refl
+on-need says P bad false fault rest h = bad fault
