@@ -18,7 +18,7 @@ use Rattle.records.specs.declared.Field.{Field}
 use Rattle.records.specs.declared.Record.{Record}
 use Rattle.records.specs.declared.Record.the-variants.{Code, Fixups, End, Faulty}
 use Rattle.words.specs.Runs.{part, allZero, contains}
-use Rattle.acx.specs.Events.{Event, place, markOne, Ran}
+use Rattle.acx.specs.Events.{Event, place, adjustedMark, markOne, Ran}
 use Rattle.acx.specs.Pieces.{baseOf, limitOf, width, adjustment}
 use Rattle.acx.specs.declared.Bases.{Bases}
 use Rattle.acx.specs.declared.Check.{Check}
@@ -46,7 +46,7 @@ unfoldable pub adjusting : Bases → ℕ → ℕ → List Field → List ℕ →
 adjusting b a n [] map = passed []
 adjusting b a n (f ∷ fs) map =
     need failed (leb (f .index + width f) n) FieldNotLoaded
-    (need failed (not (contains 3 (part map (a + f .index) (width f)))) AdjustedTwice
+    (need failed (not (contains adjustedMark (part map (a + f .index) (width f)))) AdjustedTwice
     (first (adjustment b a f) (adjusting b a n fs (markOne (adjustment b a f) map))))
 
 -- "flag 0 none, 1 absolute, 2 plus main base"

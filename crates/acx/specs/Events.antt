@@ -23,9 +23,15 @@ play [] memory = memory
 play (e ∷ es) memory = play es (playOne e memory)
 
 -- "1 placed, .. 3 adjusted"
+abbrev pub placedMark : ℕ
+placedMark = 1
+
+abbrev pub adjustedMark : ℕ
+adjustedMark = 3
+
 abbrev pub markOne : Event → List ℕ → List ℕ
-markOne (place a bytes) map = put map a (replicate (length bytes) 1)
-markOne (adjust width a amount) map = put map a (replicate width 3)
+markOne (place a bytes) map = put map a (replicate (length bytes) placedMark)
+markOne (adjust width a amount) map = put map a (replicate width adjustedMark)
 
 -- the map after the events: "The last event at an address decides"
 unfoldable pub marks : List Event → List ℕ → List ℕ

@@ -16,7 +16,7 @@ ghost use Prim.Native.Nat.{_+_, _<_, _≤_};
 ghost use lib.ListN.{length};
 ghost use Rattle.words.specs.Numbers.{on, change};
 ghost use Rattle.answer.specs.Report.{address as addressOf};
-ghost use Rattle.answer.specs.declared.Outcome.the-variants.{Refused};
+ghost use Rattle.answer.specs.declared.Outcome.the-variants.{Accepted, Refused};
 ghost use Rattle.records.specs.Records.{read as readOf};
 ghost use Rattle.records.specs.Fields.{fieldsOf, widthOf};
 ghost use Rattle.acx.specs.Events.{blank, Did};
@@ -24,6 +24,18 @@ ghost use Rattle.acx.specs.Pieces.{baseOf, limitOf, amountOf};
 ghost use Rattle.acx.specs.AtBases.{placing, adjusting, ending, startOf, applied};
 ghost use Rattle.acx.specs.Walk.{from, opening as openingOf, openingSize, judged, reported, EndsBy, advanced};
 ghost use Rattle.acx.specs.Call.{formOf, settings, usual, inRange, load as loadOf, Carried, Loaded};
+
+// The length of memory and of the map, and the most that a file has.
+const MEMORY: usize = 65536;
+
+const ZERO_PAGE: usize = 256;
+
+const FILE: usize = 65536;
+
+// The marks of the map.
+const PLACED: u8 = 1;
+
+const ADJUSTED: u8 = 3;
 
 // The bases of the short call.
 const USUAL_MAIN_BASE: u32 = 8192;
@@ -58,28 +70,51 @@ pub struct Cursor {
     pub adjusted: usize,
 }
 
-// Amounts and places.
-
-// Where code of a kind goes.
-fn place_of(bases: Bases, kind: Kind, address: u16) -> usize
-    ensures { λ r. ⌜ (r ≡ baseOf bases kind + address) × (r ≤ 131070) ⌝ }
+// Loads a file. Refuses with the first fault; memory is then as it was.
+pub fn load(
+    form: u32,
+    file: &[u8],
+    main_base: u32,
+    zero_base: u32,
+    memory: &mut [u8],
+    map: &mut [u8],
+) -> Outcome
+    ensures { λ r. ⌜ Loaded (settings form «main_base» «zero_base») (now (file .entry)) (now (memory .entry)) (now (map .entry)) r (now (memory .exit)) (now (map .exit)) ⌝ }
 {
-    match kind {
-        Kind::Main => bases.main as usize + address as usize,
-        Kind::ZeroPage => bases.zero as usize + address as usize,
-        Kind::Absolute => address as usize,
+    if memory.len() != MEMORY {
+        return refused(Fault::WrongBuffer);
     }
+    if map.len() != MEMORY {
+        return refused(Fault::WrongBuffer);
+    }
+    load_sized(form, file, main_base, zero_base, memory, map)
 }
 
-// Where code of a kind has to end.
-fn limit(kind: Kind) -> usize
-    ensures { λ r. ⌜ (r ≡ limitOf kind) × (r ≤ 65536) ⌝ }
+// Loads a file at the usual bases.
+pub fn load_usual(form: u32, file: &[u8], memory: &mut [u8], map: &mut [u8]) -> Outcome
+    ensures { λ r. ⌜ Loaded (usual form) (now (file .entry)) (now (memory .entry)) (now (map .entry)) r (now (memory .exit)) (now (map .exit)) ⌝ }
 {
-    match kind {
-        Kind::Main => 65536,
-        Kind::ZeroPage => 256,
-        Kind::Absolute => 65536,
+    load(form, file, USUAL_MAIN_BASE, USUAL_ZERO_BASE, memory, map)
+}
+
+// The whole file, checked, and carried out where `write` is true. The map holds the marks up to the end or the fault.
+pub fn walk_file(
+    form: Form,
+    file: &[u8],
+    bases: Bases,
+    write: bool,
+    memory: &mut [u8],
+    map: &mut [u8],
+) -> Outcome
+    requires { ⌜ (length (now file) ≤ 65536) × (length (now memory) ≡ 65536) × (length (now map) ≡ 65536) ⌝ }
+    ensures { λ r. ⌜ Did Outcome (reported (judged form (now (file .entry)) bases)) write (now (memory .entry)) blank r (now (memory .exit)) (now (map .exit)) ⌝ }
+{
+    words::fill(map, 0);
+    let opened = opening(form, file);
+    if let Check::Failed(fault) = opened {
+        return refused(fault);
     }
+    walk(file, opening_size(form), bases, write, memory, map)
 }
 
 // What is put on a field.
@@ -96,171 +131,168 @@ pub fn amount(bases: Bases, field: Field) -> u16
     }
 }
 
-// An amount on a field of the code.
-fn add(code: &mut [u8], field: Field, amount: u16)
-    requires { ⌜ field .index + widthOf (field .fixup) ≤ length (now code) ⌝ }
-    ensures { λ _. ⌜ now (code .exit) ≡ change (widthOf (field .fixup)) (on (widthOf (field .fixup)) amount) (now (code .entry)) (field .index) ⌝ }
-{
-    let fixup = field.fixup;
-    match fixup {
-        Fixup::Low => words::add_to_byte(code, field.index, amount),
-        Fixup::Page => words::add_to_byte(code, field.index, amount),
-        Fixup::Word => words::add_to_word(code, field.index, amount),
-        Fixup::High => words::add_to_byte(code, field.index, amount),
-    }
-}
-
-// Code at its place, below its limit and where nothing was placed before.
-fn place_code(
-    code: &[u8],
-    place: usize,
-    limit: usize,
-    write: bool,
-    memory: &mut [u8],
-    map: &mut [u8],
-) -> Check
-    requires { ⌜ (place ≤ 131070) × (length (now code) ≤ 65536) × (limit ≤ 65536) × (length (now memory) ≡ 65536) × (length (now map) ≡ 65536) ⌝ }
-    ensures { λ r. ⌜ Did Check (placing place limit (now (code .entry)) (now (map .entry))) write (now (memory .entry)) (now (map .entry)) r (now (memory .exit)) (now (map .exit)) ⌝ }
-{
-    let end = place + code.len();
-    if limit < end {
-        return Check::Failed(Fault::DoesNotFit);
-    }
-    let free = words::is_zero(&map[place..end]);
-    if !free {
-        return Check::Failed(Fault::PiecesOverlap);
-    }
-    words::fill(&mut map[place..end], 1);
-    if write {
-        words::copy(&mut memory[place..end], code);
-    }
-    Check::Passed
-}
-
-// A field of the `size` code bytes at `place`, inside them and not adjusted before.
-fn adjust_field(
-    field: Field,
-    bases: Bases,
-    place: usize,
-    size: usize,
-    write: bool,
-    memory: &mut [u8],
-    map: &mut [u8],
-) -> Check
-    requires { ⌜ (field .index < 256) × (field .lsb < 256) × (place + size ≤ 65536) × (length (now memory) ≡ 65536) × (length (now map) ≡ 65536) ⌝ }
-    ensures { λ r. ⌜ Did Check (adjusting bases place size (field ∷ []) (now (map .entry))) write (now (memory .entry)) (now (map .entry)) r (now (memory .exit)) (now (map .exit)) ⌝ }
-{
-    let fixup = field.fixup;
-    let width = records::width(fixup);
-    if size < field.index + width {
-        return Check::Failed(Fault::FieldNotLoaded);
-    }
-    let at = place + field.index;
-    let past = at + width;
-    let adjusted = words::contains(&map[at..past], 3);
-    if adjusted {
-        return Check::Failed(Fault::AdjustedTwice);
-    }
-    words::fill(&mut map[at..past], 3);
-    if write {
-        let end = place + size;
-        add(&mut memory[place..end], field, amount(bases, field));
-    }
-    Check::Passed
-}
-
-// The fields that a fixup record lists, one by one.
-fn adjust_fields(
-    items: &[u8],
-    fixup: Fixup,
-    bases: Bases,
-    place: usize,
-    size: usize,
-    write: bool,
-    memory: &mut [u8],
-    map: &mut [u8],
-) -> Check
-    requires { ⌜ (length (now items) ≤ 65536) × (place + size ≤ 65536) × (length (now memory) ≡ 65536) × (length (now map) ≡ 65536) ⌝ }
-    ensures { λ r. ⌜ Did Check (adjusting bases place size (fieldsOf fixup (now (items .entry))) (now (map .entry))) write (now (memory .entry)) (now (map .entry)) r (now (memory .exit)) (now (map .exit)) ⌝ }
-{
-    let step = records::item_size(fixup);
-    let mut i = 0;
-    while i + step <= items.len() {
-        let field = records::field_at(items, i, fixup);
-        let check = adjust_field(field, bases, place, size, write, memory, map);
-        if let Check::Failed(fault) = check {
-            return Check::Failed(fault);
-        }
-        i += step;
-    }
-    Check::Passed
-}
-
-// One record at the bases, where the last code record has `size` bytes at `place`.
-fn apply(
+// A load with the right buffers: the settings, then the file's length, then the file.
+fn load_sized(
+    form: u32,
     file: &[u8],
+    main_base: u32,
+    zero_base: u32,
+    memory: &mut [u8],
+    map: &mut [u8],
+) -> Outcome
+    requires { ⌜ (length (now memory) ≡ 65536) × (length (now map) ≡ 65536) ⌝ }
+    ensures { λ r. ⌜ Carried (loadOf (settings form «main_base» «zero_base») (now (file .entry))) (now (memory .entry)) r (now (memory .exit)) (now (map .exit)) ⌝ }
+{
+    let known = in_range(form, main_base, zero_base);
+    if !known {
+        words::fill(map, 0);
+        return refused(Fault::SettingOutOfRange);
+    }
+    if FILE < file.len() {
+        words::fill(map, 0);
+        return refused(Fault::FileTooLong);
+    }
+    let bases = Bases {
+        main: main_base as u16,
+        zero: zero_base as u16,
+    };
+    carry_out(form_of(form), file, bases, memory, map)
+}
+
+// Whether the settings of a call are in their ranges.
+fn in_range(form: u32, main_base: u32, zero_base: u32) -> bool
+    ensures { λ r. ⌜ r ≡ inRange (settings form «main_base» «zero_base») ⌝ }
+{
+    if 1 < form {
+        return false;
+    }
+    if 65535 < main_base {
+        return false;
+    }
+    zero_base <= 255
+}
+
+// The form of a call.
+fn form_of(form: u32) -> Form
+    ensures { λ r. ⌜ r ≡ formOf form ⌝ }
+{
+    match form {
+        0 => Form::Disk,
+        _ => Form::Device,
+    }
+}
+
+// The file checked first, and carried out only where nothing is refused.
+fn carry_out(form: Form, file: &[u8], bases: Bases, memory: &mut [u8], map: &mut [u8]) -> Outcome
+    requires { ⌜ (length (now file) ≤ 65536) × (length (now memory) ≡ 65536) × (length (now map) ≡ 65536) ⌝ }
+    ensures { λ r. ⌜ Carried (judged form (now (file .entry)) bases) (now (memory .entry)) r (now (memory .exit)) (now (map .exit)) ⌝ }
+{
+    let checked = walk_file(form, file, bases, false, memory, map);
+    if let Outcome::Refused {
+        fault,
+        offset,
+        side,
+    } = checked {
+        words::fill(map, 0);
+        return Outcome::Refused {
+            fault,
+            offset,
+            side,
+        };
+    }
+    walk_file(form, file, bases, true, memory, map)
+}
+
+// A refusal of the file as a whole.
+fn refused(fault: Fault) -> Outcome
+    ensures { λ r. ⌜ r ≡ Refused fault 0 0 ⌝ }
+{
+    Outcome::Refused {
+        fault,
+        offset: 0,
+        side: 0,
+    }
+}
+
+// Whether the file opens as its form says.
+fn opening(form: Form, file: &[u8]) -> Check
+    ensures { λ r. ⌜ r ≡ openingOf form (now (file .entry)) ⌝ }
+{
+    match form {
+        Form::Disk => {
+            if file.len() < 2 {
+                return Check::Failed(Fault::CutShort);
+            }
+            let word = words::word_at(file, 0);
+            if word != 0xFFF0 {
+                return Check::Failed(Fault::WrongOpening);
+            }
+            Check::Passed
+        }
+        Form::Device => Check::Passed,
+    }
+}
+
+// Where the records begin.
+fn opening_size(form: Form) -> usize
+    ensures { λ r. ⌜ r ≡ openingSize form ⌝ }
+{
+    match form {
+        Form::Disk => 2,
+        Form::Device => 0,
+    }
+}
+
+// All records from `at` on, over a clear map.
+fn walk(
+    file: &[u8],
+    at: usize,
     bases: Bases,
-    cursor: Cursor,
-    found: Record,
     write: bool,
     memory: &mut [u8],
     map: &mut [u8],
-) -> Check
-    requires { ⌜ (length (now file) ≤ 65536) × (found ≡ readOf (now file) (cursor .at) (cursor .last)) × (cursor .place + cursor .size ≤ 65536) × (length (now memory) ≡ 65536) × (length (now map) ≡ 65536) ⌝ }
-    ensures { λ r. ⌜ Did Check (applied (now (file .entry)) bases (cursor .place) (cursor .size) found (now (map .entry))) write (now (memory .entry)) (now (map .entry)) r (now (memory .exit)) (now (map .exit)) ⌝ }
+) -> Outcome
+    requires { ⌜ (length (now file) ≤ 65536) × (at ≤ length (now file)) × (length (now memory) ≡ 65536) × (length (now map) ≡ 65536) × (now map ≡ blank) ⌝ }
+    ensures { λ r. ⌜ Did Outcome (reported (from (now (file .entry)) bases at [])) write (now (memory .entry)) blank r (now (memory .exit)) (now (map .exit)) ⌝ }
 {
-    match found {
-        Record::Code {
-            kind,
-            address,
-            from,
-            size,
-        } => {
-            let next = from + size;
-            let place = place_of(bases, kind, address);
-            place_code(&file[from..next], place, limit(kind), write, memory, map)
+    let mut cursor = Cursor {
+        at,
+        last: Last::Nothing,
+        place: 0,
+        size: 0,
+        placed: 0,
+        adjusted: 0,
+    };
+    loop {
+        let last = cursor.last;
+        let found = records::read(file, cursor.at, last);
+        let check = apply(file, bases, cursor, found, write, memory, map);
+        if let Check::Failed(fault) = check {
+            return Outcome::Refused {
+                fault,
+                offset: cursor.at as u32,
+                side: 0,
+            };
         }
-        Record::Fixups { fixup, from, size } => {
-            let next = from + size;
-            adjust_fields(
-                &file[from..next],
-                fixup,
-                bases,
-                cursor.place,
-                cursor.size,
-                write,
-                memory,
-                map,
-            )
+        if let Record::End { entry, next } = found {
+            return accepted(bases, entry, cursor);
         }
-        Record::End { entry, next } => end(bases, entry, next, file.len()),
-        Record::Faulty(fault) => Check::Failed(fault),
+        cursor = advance(bases, cursor, found);
     }
 }
 
-// Where the end record lets the program start, as a sum.
-fn start_address(bases: Bases, entry: Entry) -> usize
-    ensures { λ r. ⌜ r ≡ addressOf (startOf bases entry) ⌝ }
+// The acceptance of a file whose end record is at the cursor.
+fn accepted(bases: Bases, entry: Entry, cursor: Cursor) -> Outcome
+    requires { ⌜ (addressOf (startOf bases entry) ≤ 65535) × (cursor .placed ≤ 65536) × (cursor .adjusted ≤ 65536) ⌝ }
+    ensures { λ r. ⌜ r ≡ Accepted (startOf bases entry) (cursor .placed) (cursor .adjusted) 0 0 ⌝ }
 {
-    match entry {
-        Entry::Nowhere => 0,
-        Entry::Fixed(address) => address as usize,
-        Entry::Relative(address) => bases.main as usize + address as usize,
+    Outcome::Accepted {
+        start: start(bases, entry),
+        placed: cursor.placed as u32,
+        adjusted: cursor.adjusted as u32,
+        new_names: 0,
+        low: 0,
     }
-}
-
-// The end record, which ends at `next` of a file of `length` bytes.
-fn end(bases: Bases, entry: Entry, next: usize, length: usize) -> Check
-    ensures { λ r. ⌜ r ≡ ending bases entry next length .answer ⌝ }
-{
-    let address = start_address(bases, entry);
-    if 65535 < address {
-        return Check::Failed(Fault::StartTooHigh);
-    }
-    if next < length {
-        return Check::Failed(Fault::BytesAfterEnd);
-    }
-    Check::Passed
 }
 
 // Where the program starts, where the end record passed.
@@ -273,6 +305,17 @@ fn start(bases: Bases, entry: Entry) -> Start
         Entry::Nowhere => Start::Absent,
         Entry::Fixed(address) => Start::At(sum as u16),
         Entry::Relative(address) => Start::At(sum as u16),
+    }
+}
+
+// Where the end record lets the program start, as a sum.
+fn start_address(bases: Bases, entry: Entry) -> usize
+    ensures { λ r. ⌜ r ≡ addressOf (startOf bases entry) ⌝ }
+{
+    match entry {
+        Entry::Nowhere => 0,
+        Entry::Fixed(address) => address as usize,
+        Entry::Relative(address) => bases.main as usize + address as usize,
     }
 }
 
@@ -309,205 +352,170 @@ fn advance(bases: Bases, cursor: Cursor, found: Record) -> Cursor
     }
 }
 
-// All records from `at` on, over a clear map.
-fn walk(
+// The record at the cursor, checked and carried out at the bases.
+fn apply(
     file: &[u8],
-    at: usize,
     bases: Bases,
+    cursor: Cursor,
+    found: Record,
     write: bool,
     memory: &mut [u8],
     map: &mut [u8],
-) -> Outcome
-    requires { ⌜ (length (now file) ≤ 65536) × (at ≤ length (now file)) × (length (now memory) ≡ 65536) × (length (now map) ≡ 65536) × (now map ≡ blank) ⌝ }
-    ensures { λ r. ⌜ Did Outcome (reported (from (now (file .entry)) bases at [])) write (now (memory .entry)) blank r (now (memory .exit)) (now (map .exit)) ⌝ }
+) -> Check
+    requires { ⌜ (length (now file) ≤ 65536) × (found ≡ readOf (now file) (cursor .at) (cursor .last)) × (cursor .place + cursor .size ≤ 65536) × (length (now memory) ≡ 65536) × (length (now map) ≡ 65536) ⌝ }
+    ensures { λ r. ⌜ Did Check (applied (now (file .entry)) bases (cursor .place) (cursor .size) found (now (map .entry))) write (now (memory .entry)) (now (map .entry)) r (now (memory .exit)) (now (map .exit)) ⌝ }
 {
-    let mut cursor = Cursor {
-        at,
-        last: Last::Nothing,
-        place: 0,
-        size: 0,
-        placed: 0,
-        adjusted: 0,
-    };
-    loop {
-        let last = cursor.last;
-        let found = records::read(file, cursor.at, last);
-        let check = apply(file, bases, cursor, found, write, memory, map);
+    match found {
+        Record::Code {
+            kind,
+            address,
+            from,
+            size,
+        } => {
+            let next = from + size;
+            let place = place_of(bases, kind, address);
+            place_code(&file[from..next], place, limit(kind), write, memory, map)
+        }
+        Record::Fixups { fixup, from, size } => {
+            let next = from + size;
+            adjust_fields(&file[from..next], fixup, bases, cursor, write, memory, map)
+        }
+        Record::End { entry, next } => end(bases, entry, next, file.len()),
+        Record::Faulty(fault) => Check::Failed(fault),
+    }
+}
+
+// Where code of a kind goes.
+fn place_of(bases: Bases, kind: Kind, address: u16) -> usize
+    ensures { λ r. ⌜ (r ≡ baseOf bases kind + address) × (r ≤ 131070) ⌝ }
+{
+    match kind {
+        Kind::Main => bases.main as usize + address as usize,
+        Kind::ZeroPage => bases.zero as usize + address as usize,
+        Kind::Absolute => address as usize,
+    }
+}
+
+// Where code of a kind has to end.
+fn limit(kind: Kind) -> usize
+    ensures { λ r. ⌜ (r ≡ limitOf kind) × (r ≤ 65536) ⌝ }
+{
+    match kind {
+        Kind::Main => MEMORY,
+        Kind::ZeroPage => ZERO_PAGE,
+        Kind::Absolute => MEMORY,
+    }
+}
+
+// Code at its place, below its limit and where nothing was placed before.
+fn place_code(
+    code: &[u8],
+    place: usize,
+    limit: usize,
+    write: bool,
+    memory: &mut [u8],
+    map: &mut [u8],
+) -> Check
+    requires { ⌜ (place ≤ 131070) × (length (now code) ≤ 65536) × (limit ≤ 65536) × (length (now memory) ≡ 65536) × (length (now map) ≡ 65536) ⌝ }
+    ensures { λ r. ⌜ Did Check (placing place limit (now (code .entry)) (now (map .entry))) write (now (memory .entry)) (now (map .entry)) r (now (memory .exit)) (now (map .exit)) ⌝ }
+{
+    let end = place + code.len();
+    if limit < end {
+        return Check::Failed(Fault::DoesNotFit);
+    }
+    let free = words::is_zero(&map[place..end]);
+    if !free {
+        return Check::Failed(Fault::PiecesOverlap);
+    }
+    words::fill(&mut map[place..end], PLACED);
+    if write {
+        words::copy(&mut memory[place..end], code);
+    }
+    Check::Passed
+}
+
+// The fields of the last code record that a fixup record lists, one by one.
+fn adjust_fields(
+    items: &[u8],
+    fixup: Fixup,
+    bases: Bases,
+    cursor: Cursor,
+    write: bool,
+    memory: &mut [u8],
+    map: &mut [u8],
+) -> Check
+    requires { ⌜ (length (now items) ≤ 65536) × (cursor .place + cursor .size ≤ 65536) × (length (now memory) ≡ 65536) × (length (now map) ≡ 65536) ⌝ }
+    ensures { λ r. ⌜ Did Check (adjusting bases (cursor .place) (cursor .size) (fieldsOf fixup (now (items .entry))) (now (map .entry))) write (now (memory .entry)) (now (map .entry)) r (now (memory .exit)) (now (map .exit)) ⌝ }
+{
+    let step = records::item_size(fixup);
+    let mut i = 0;
+    while i + step <= items.len() {
+        let field = records::field_at(items, i, fixup);
+        let check = adjust_field(field, bases, cursor.place, cursor.size, write, memory, map);
         if let Check::Failed(fault) = check {
-            return Outcome::Refused {
-                fault,
-                offset: cursor.at as u32,
-                side: 0,
-            };
+            return Check::Failed(fault);
         }
-        if let Record::End { entry, next } = found {
-            return Outcome::Accepted {
-                start: start(bases, entry),
-                placed: cursor.placed as u32,
-                adjusted: cursor.adjusted as u32,
-                new_names: 0,
-                low: 0,
-            };
-        }
-        cursor = advance(bases, cursor, found);
+        i += step;
     }
+    Check::Passed
 }
 
-// Whether the file opens as its form says.
-fn opening(form: Form, file: &[u8]) -> Check
-    ensures { λ r. ⌜ r ≡ openingOf form (now (file .entry)) ⌝ }
-{
-    match form {
-        Form::Disk => {
-            if file.len() < 2 {
-                return Check::Failed(Fault::CutShort);
-            }
-            let word = words::word_at(file, 0);
-            if word != 0xFFF0 {
-                return Check::Failed(Fault::WrongOpening);
-            }
-            Check::Passed
-        }
-        Form::Device => Check::Passed,
-    }
-}
-
-// Where the records begin.
-fn opening_size(form: Form) -> usize
-    ensures { λ r. ⌜ r ≡ openingSize form ⌝ }
-{
-    match form {
-        Form::Disk => 2,
-        Form::Device => 0,
-    }
-}
-
-// The whole file, checked, and carried out where `write` is true. The map holds the marks up to the end or the fault.
-pub fn walk_file(
-    form: Form,
-    file: &[u8],
+// A field of the `size` code bytes at `place`, inside them and not adjusted before.
+fn adjust_field(
+    field: Field,
     bases: Bases,
+    place: usize,
+    size: usize,
     write: bool,
     memory: &mut [u8],
     map: &mut [u8],
-) -> Outcome
-    requires { ⌜ (length (now file) ≤ 65536) × (length (now memory) ≡ 65536) × (length (now map) ≡ 65536) ⌝ }
-    ensures { λ r. ⌜ Did Outcome (reported (judged form (now (file .entry)) bases)) write (now (memory .entry)) blank r (now (memory .exit)) (now (map .exit)) ⌝ }
+) -> Check
+    requires { ⌜ (field .index < 256) × (field .lsb < 256) × (place + size ≤ 65536) × (length (now memory) ≡ 65536) × (length (now map) ≡ 65536) ⌝ }
+    ensures { λ r. ⌜ Did Check (adjusting bases place size (field ∷ []) (now (map .entry))) write (now (memory .entry)) (now (map .entry)) r (now (memory .exit)) (now (map .exit)) ⌝ }
 {
-    words::fill(map, 0);
-    let opened = opening(form, file);
-    if let Check::Failed(fault) = opened {
-        return refused(fault);
+    let fixup = field.fixup;
+    let width = records::width(fixup);
+    if size < field.index + width {
+        return Check::Failed(Fault::FieldNotLoaded);
     }
-    walk(file, opening_size(form), bases, write, memory, map)
+    let at = place + field.index;
+    let past = at + width;
+    let adjusted = words::contains(&map[at..past], ADJUSTED);
+    if adjusted {
+        return Check::Failed(Fault::AdjustedTwice);
+    }
+    words::fill(&mut map[at..past], ADJUSTED);
+    if write {
+        let end = place + size;
+        add(&mut memory[place..end], field, amount(bases, field));
+    }
+    Check::Passed
 }
 
-// The file checked first, and carried out only where nothing is refused.
-fn carry_out(form: Form, file: &[u8], bases: Bases, memory: &mut [u8], map: &mut [u8]) -> Outcome
-    requires { ⌜ (length (now file) ≤ 65536) × (length (now memory) ≡ 65536) × (length (now map) ≡ 65536) ⌝ }
-    ensures { λ r. ⌜ Carried (judged form (now (file .entry)) bases) (now (memory .entry)) r (now (memory .exit)) (now (map .exit)) ⌝ }
+// An amount on a field of the code.
+fn add(code: &mut [u8], field: Field, amount: u16)
+    requires { ⌜ field .index + widthOf (field .fixup) ≤ length (now code) ⌝ }
+    ensures { λ _. ⌜ now (code .exit) ≡ change (widthOf (field .fixup)) (on (widthOf (field .fixup)) amount) (now (code .entry)) (field .index) ⌝ }
 {
-    let checked = walk_file(form, file, bases, false, memory, map);
-    if let Outcome::Refused {
-        fault,
-        offset,
-        side,
-    } = checked {
-        words::fill(map, 0);
-        return Outcome::Refused {
-            fault,
-            offset,
-            side,
-        };
-    }
-    walk_file(form, file, bases, true, memory, map)
-}
-
-// A refusal of the file as a whole.
-fn refused(fault: Fault) -> Outcome
-    ensures { λ r. ⌜ r ≡ Refused fault 0 0 ⌝ }
-{
-    Outcome::Refused {
-        fault,
-        offset: 0,
-        side: 0,
+    let fixup = field.fixup;
+    match fixup {
+        Fixup::Low => words::add_to_byte(code, field.index, amount),
+        Fixup::Page => words::add_to_byte(code, field.index, amount),
+        Fixup::Word => words::add_to_word(code, field.index, amount),
+        Fixup::High => words::add_to_byte(code, field.index, amount),
     }
 }
 
-// Whether the settings of a call are in their ranges.
-fn in_range(form: u32, main_base: u32, zero_base: u32) -> bool
-    ensures { λ r. ⌜ r ≡ inRange (settings form «main_base» «zero_base») ⌝ }
+// The end record, which ends at `next` of a file of `length` bytes.
+fn end(bases: Bases, entry: Entry, next: usize, length: usize) -> Check
+    ensures { λ r. ⌜ r ≡ ending bases entry next length .answer ⌝ }
 {
-    if 1 < form {
-        return false;
+    let address = start_address(bases, entry);
+    if 65535 < address {
+        return Check::Failed(Fault::StartTooHigh);
     }
-    if 65535 < main_base {
-        return false;
+    if next < length {
+        return Check::Failed(Fault::BytesAfterEnd);
     }
-    zero_base <= 255
-}
-
-// The form of a call.
-fn form_of(form: u32) -> Form
-    ensures { λ r. ⌜ r ≡ formOf form ⌝ }
-{
-    match form {
-        0 => Form::Disk,
-        _ => Form::Device,
-    }
-}
-
-// A load with the right buffers: the settings, then the file's length, then the file.
-fn load_sized(
-    form: u32,
-    file: &[u8],
-    main_base: u32,
-    zero_base: u32,
-    memory: &mut [u8],
-    map: &mut [u8],
-) -> Outcome
-    requires { ⌜ (length (now memory) ≡ 65536) × (length (now map) ≡ 65536) ⌝ }
-    ensures { λ r. ⌜ Carried (loadOf (settings form «main_base» «zero_base») (now (file .entry))) (now (memory .entry)) r (now (memory .exit)) (now (map .exit)) ⌝ }
-{
-    let known = in_range(form, main_base, zero_base);
-    if !known {
-        words::fill(map, 0);
-        return refused(Fault::SettingOutOfRange);
-    }
-    if 65536 < file.len() {
-        words::fill(map, 0);
-        return refused(Fault::FileTooLong);
-    }
-    let bases = Bases {
-        main: main_base as u16,
-        zero: zero_base as u16,
-    };
-    carry_out(form_of(form), file, bases, memory, map)
-}
-
-// Loads a file. Refuses with the first fault; memory is then as it was.
-pub fn load(
-    form: u32,
-    file: &[u8],
-    main_base: u32,
-    zero_base: u32,
-    memory: &mut [u8],
-    map: &mut [u8],
-) -> Outcome
-    ensures { λ r. ⌜ Loaded (settings form «main_base» «zero_base») (now (file .entry)) (now (memory .entry)) (now (map .entry)) r (now (memory .exit)) (now (map .exit)) ⌝ }
-{
-    if memory.len() != 65536 {
-        return refused(Fault::WrongBuffer);
-    }
-    if map.len() != 65536 {
-        return refused(Fault::WrongBuffer);
-    }
-    load_sized(form, file, main_base, zero_base, memory, map)
-}
-
-// Loads a file at the usual bases.
-pub fn load_usual(form: u32, file: &[u8], memory: &mut [u8], map: &mut [u8]) -> Outcome
-    ensures { λ r. ⌜ Loaded (usual form) (now (file .entry)) (now (memory .entry)) (now (map .entry)) r (now (memory .exit)) (now (map .exit)) ⌝ }
-{
-    load(form, file, USUAL_MAIN_BASE, USUAL_ZERO_BASE, memory, map)
+    Check::Passed
 }

@@ -12,10 +12,10 @@ use Rattle.acx.proofs.adjust_fields.Statement.{statement}
 use Rattle.acx.proofs.adjust_fields.Tie as tie
 
 abbrev Inv-loop : tie.InvT-loop
-Inv-loop items fixup bases place size write memory₀ map₀ step i₀ memory map i = (i ≤ length items) × (step ≡ itemSize fixup) × (length memory ≡ 65536) × (length map ≡ 65536) × Adjusting bases place size write (fieldsOf fixup items) memory₀ map₀ (fieldsOf fixup (drop i items)) memory map
+Inv-loop items fixup bases cursor write memory₀ map₀ step i₀ memory map i = (i ≤ length items) × (step ≡ itemSize fixup) × (length memory ≡ 65536) × (length map ≡ 65536) × Adjusting bases (cursor .place) (cursor .size) write (fieldsOf fixup items) memory₀ map₀ (fieldsOf fixup (drop i items)) memory map
 
 abbrev μ-loop : tie.MeasureT-loop
-μ-loop items fixup bases place size write memory₀ map₀ step i₀ memory map i = length items - i
+μ-loop items fixup bases cursor write memory₀ map₀ step i₀ memory map i = length items - i
 
 item-size-requires : tie.Need-item-size-requires Inv-loop μ-loop
 item-size-requires c κs = search needs

@@ -57,24 +57,15 @@ enum-told c = search needs
 enum-known-found : tie.Need-enum-known-found Inv-loop μ-loop
 enum-known-found c = search needs
 
-start-requires : tie.Need-start-requires Inv-loop μ-loop
-start-requires c κs =
+accepted-requires : tie.Need-accepted-requires Inv-loop μ-loop
+accepted-requires c κs =
     let o = c .before .before .before .before .before .before .before .before .before in
     let f = o .before .before .before in
     let l = f .before .loop in
-    going-start _ _ _ _ _ _ _ _ (l .inv .2) _ _ _ _ (f .read .ensures) (o .apply .ensures) _ _ (c .before .before .before .enum-told .given .1) (c .before .found .given .1)
-
-cast-t21 : tie.Need-cast-t21 Inv-loop μ-loop
-cast-t21 c =
-    let l = c .before .before .before .before .before .before .before .before .before .before .before .before .before .before .before in
-    let s = l .before .before .before .before in
-    omega (arith, s .pre, l .loop .inv .2 .in-file, going-counts _ _ _ _ _ _ _ _ (l .loop .inv .2))
-
-cast-t22 : tie.Need-cast-t22 Inv-loop μ-loop
-cast-t22 c =
-    let l = c .before .before .before .before .before .before .before .before .before .before .before .before .before .before .before .before in
-    let s = l .before .before .before .before in
-    omega (arith, s .pre, l .loop .inv .2 .in-file, going-counts _ _ _ _ _ _ _ _ (l .loop .inv .2))
+    let s = f .before .before .before .before .before in
+    let k = going-counts _ _ _ _ _ _ _ _ (l .inv .2) in
+    let fits = going-start _ _ _ _ _ _ _ _ (l .inv .2) _ _ _ _ (f .read .ensures) (o .apply .ensures) _ _ (c .before .before .before .enum-told .given .1) (c .before .found .given .1) in
+    (fits, omega (arith, s .pre, k, l .inv .2 .in-file), omega (arith, s .pre, k, l .inv .2 .in-file))
 
 same-length-3 : tie.Need-same-length-3 Inv-loop μ-loop
 same-length-3 c = search needs
@@ -84,11 +75,11 @@ same-length-4 c = search needs
 
 returns-2 : tie.Need-returns-2 Inv-loop μ-loop
 returns-2 c =
-    let o = c .before .before .before .before .before .before .before .before .before .before .before .before in
+    let o = c .before .before .before .before .before .before .before .before .before .before in
     let f = o .before .before .before in
     let l = f .before .loop in
-    rw (c .before .before .start .ensures)
-    (going-ends _ _ _ _ _ _ _ _ (l .inv .2) _ _ _ _ (f .read .ensures) (o .apply .ensures) _ _ (c .before .before .before .before .before .before .enum-told .given .1) (c .before .before .before .before .found .given .1))
+    rw (c .accepted .ensures)
+    (going-ends _ _ _ _ _ _ _ _ (l .inv .2) _ _ _ _ (f .read .ensures) (o .apply .ensures) _ _ (c .before .before .before .before .enum-told .given .1) (c .before .before .found .given .1))
 
 advance-requires : tie.Need-advance-requires Inv-loop μ-loop
 advance-requires c κs =
@@ -133,9 +124,7 @@ walk-spec =
     returns
     enum-told
     enum-known-found
-    start-requires
-    cast-t21
-    cast-t22
+    accepted-requires
     same-length-3
     same-length-4
     returns-2
