@@ -24,7 +24,7 @@ use Rattle.words.specs.Runs.{part}
 use Rattle.acx.proofs.Events.{did-none}
 use Rattle.acx.specs.AtBases.{failed, passed, placing, adjusting, startOf, ending, applied}
 use Rattle.acx.specs.Events.{Event, playIf, marks, Did}
-use Rattle.acx.specs.Pieces.{baseOf, limitOf}
+use Rattle.acx.specs.Pieces.{placeAt, limitOf}
 use Rattle.acx.specs.declared.Bases.{Bases}
 use Rattle.acx.specs.declared.Check.{Check}
 use Rattle.acx.specs.declared.Check.the-variants.{Failed}
@@ -48,7 +48,7 @@ ending-none b entry next len = needs-none (leb (address (startOf b entry)) 65535
 
 module _ (file : List ℕ) (b : Bases) (a n : ℕ) (found : Record) (write : Bool) (m p : List ℕ) where
   pub applied-code : (kind : Kind) (address from count : ℕ) (place limit : ℕ) (r : Check) (m′ p′ : List ℕ) → found ≡ Code kind address from count
-      → place ≡ baseOf b kind + address → limit ≡ limitOf kind
+      → place ≡ placeAt b kind address → limit ≡ limitOf kind
       → Did Check (placing place limit (midOf from (from + count - from) file) p) write m p r m′ p′ → Did Check (applied file b a n found p) write m p r m′ p′
   unfolding applied
   applied-code kind address from count place limit r m′ p′ e ep el d = rw (e, ← ep, ← el, ← lent-is from count file) d

@@ -21,7 +21,7 @@ use Rattle.acx.proofs.Events.{events-code, events-fields, placed-append
 use Rattle.acx.proofs.Walking.{nextOf, piecesAfter, Onward}
 use Rattle.acx.specs.AtBases.{placing, adjusting, applied}
 use Rattle.acx.specs.Events.{Event, place, marks, blank, placedIn, adjustedIn}
-use Rattle.acx.specs.Pieces.{Piece, baseOf, placeOf, limitOf, adjustments, events}
+use Rattle.acx.specs.Pieces.{Piece, placeAt, placeOf, limitOf, adjustments, events}
 use Rattle.acx.specs.Walk.{lastOf, lastPlace, lastSize, recordAt, checked, withFields}
 use Rattle.acx.specs.declared.Bases.{Bases}
 use Rattle.acx.specs.declared.Check.the-variants.{Passed}
@@ -36,12 +36,12 @@ limit-le Absolute = omega arith
 module _ (file : List ℕ) (b : Bases) (at : ℕ) (ps : List Piece) where
   -- code found room and nothing placed there
   pub code-passed : (kind : Kind) (address from n : ℕ) → recordAt file at ps ≡ Code kind address from n → checked file b at ps .answer ≡ Passed
-      → placing (baseOf b kind + address) (limitOf kind) (part file from n) (marks (events b ps) blank) .answer ≡ Passed
+      → placing (placeAt b kind address) (limitOf kind) (part file from n) (marks (events b ps) blank) .answer ≡ Passed
   unfolding checked applied
   code-passed kind address from n e c = rw e at c
 
   code-events : (kind : Kind) (address from n : ℕ) → recordAt file at ps ≡ Code kind address from n
-      → checked file b at ps .events ≡ placing (baseOf b kind + address) (limitOf kind) (part file from n) (marks (events b ps) blank) .events
+      → checked file b at ps .events ≡ placing (placeAt b kind address) (limitOf kind) (part file from n) (marks (events b ps) blank) .events
   unfolding checked applied
   code-events kind address from n e = rw e refl
 

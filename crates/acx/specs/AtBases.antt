@@ -19,7 +19,7 @@ use Rattle.records.specs.declared.Record.{Record}
 use Rattle.records.specs.declared.Record.the-variants.{Code, Fixups, End, Faulty}
 use Rattle.words.specs.Runs.{part, allZero, contains}
 use Rattle.acx.specs.Events.{Event, place, adjustedMark, markOne, Ran}
-use Rattle.acx.specs.Pieces.{baseOf, limitOf, width, adjustment}
+use Rattle.acx.specs.Pieces.{placeAt, limitOf, width, adjustment}
 use Rattle.acx.specs.declared.Bases.{Bases}
 use Rattle.acx.specs.declared.Check.{Check}
 use Rattle.acx.specs.declared.Check.the-variants.{Passed, Failed}
@@ -64,7 +64,7 @@ ending b entry next fileLength =
 
 -- a record of the file, where the last code record before it has n bytes at a
 unfoldable pub applied : List ℕ → Bases → ℕ → ℕ → Record → List ℕ → Ran Check
-applied file b a n (Code kind at from count) map = placing (baseOf b kind + at) (limitOf kind) (part file from count) map
+applied file b a n (Code kind at from count) map = placing (placeAt b kind at) (limitOf kind) (part file from count) map
 applied file b a n (Fixups fixup from count) map = adjusting b a n (fieldsOf fixup (part file from count)) map
 applied file b a n (End entry next) map = ending b entry next (length file)
 applied file b a n (Faulty fault) map = failed fault

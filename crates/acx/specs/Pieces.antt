@@ -22,14 +22,14 @@ pub record Piece : Type 0 where
 abbrev pub size : Piece → ℕ
 size p = length (p .code)
 
-abbrev pub baseOf : Bases → Kind → ℕ
-baseOf b Main = b .main
-baseOf b ZeroPage = b .zero
-baseOf b Absolute = 0
-
 -- "Place: main base + address (00), zero-page base + address (0A), address (01)"
+abbrev pub placeAt : Bases → Kind → ℕ → ℕ
+placeAt b Main address = b .main + address
+placeAt b ZeroPage address = b .zero + address
+placeAt b Absolute address = address
+
 abbrev pub placeOf : Bases → Piece → ℕ
-placeOf b p = baseOf b (p .kind) + p .address
+placeOf b p = placeAt b (p .kind) (p .address)
 
 -- "Place + n ≤ 65,536, for 0A ≤ 256"
 abbrev pub limitOf : Kind → ℕ

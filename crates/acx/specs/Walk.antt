@@ -23,7 +23,7 @@ use Rattle.words.specs.Numbers.{value}
 use Rattle.words.specs.Runs.{part}
 use Rattle.acx.specs.AtBases.{startOf, applied}
 use Rattle.acx.specs.Events.{Event, marks, blank, placedIn, adjustedIn, Ran}
-use Rattle.acx.specs.Pieces.{Piece, size, baseOf, placeOf, events}
+use Rattle.acx.specs.Pieces.{Piece, size, placeAt, placeOf, events}
 use Rattle.acx.specs.declared.Bases.{Bases}
 use Rattle.acx.specs.declared.Check.{Check}
 use Rattle.acx.specs.declared.Check.the-variants.{Passed, Failed}
@@ -142,7 +142,7 @@ advanced b c (Code kind address from n) =
     record {
       at = from + n;
       last = Of kind;
-      place = baseOf b kind + address;
+      place = placeAt b kind address;
       size = n;
       placed = c .placed + n;
       adjusted = c .adjusted;

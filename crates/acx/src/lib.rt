@@ -20,7 +20,7 @@ ghost use Rattle.answer.specs.declared.Outcome.the-variants.{Accepted, Refused}
 ghost use Rattle.records.specs.Records.{read as readOf};
 ghost use Rattle.records.specs.Fields.{fieldsOf, widthOf};
 ghost use Rattle.acx.specs.Events.{blank, Did};
-ghost use Rattle.acx.specs.Pieces.{baseOf, limitOf, amountOf};
+ghost use Rattle.acx.specs.Pieces.{placeAt, limitOf, amountOf};
 ghost use Rattle.acx.specs.AtBases.{placing, adjusting, ending, startOf, applied};
 ghost use Rattle.acx.specs.Walk.{from, opening as openingOf, openingSize, judged, reported, EndsBy, advanced};
 ghost use Rattle.acx.specs.Call.{formOf, settings, usual, inRange, load as loadOf, Carried, Loaded};
@@ -387,7 +387,7 @@ fn apply(
 
 // Where code of a kind goes.
 fn place_of(bases: Bases, kind: Kind, address: u16) -> usize
-    ensures { λ r. ⌜ (r ≡ baseOf bases kind + address) × (r ≤ 131070) ⌝ }
+    ensures { λ r. ⌜ (r ≡ placeAt bases kind address) × (r ≤ 131070) ⌝ }
 {
     match kind {
         Kind::Main => bases.main as usize + address as usize,

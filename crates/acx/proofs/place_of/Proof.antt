@@ -1,6 +1,5 @@
 -- `acx::place_of` meets its contract: each arm is the sum for its kind.
 -- Assumes nothing.
-use native.Mathlib.Nat.{zero-add}
 use native.Mathlib.Omega.{arith}
 use borrow.Author.Needs.{needs}
 use Rattle.acx.proofs.place_of.Statement.{statement}
@@ -34,7 +33,7 @@ returns-2 : tie.Need-returns-2
 returns-2 c = (simp (c .before .enum-told2 .given .1), omega arith)
 
 returns-3 : tie.Need-returns-3
-returns-3 c = (simp (c .enum-told3 .given .1, zero-add), omega arith)
+returns-3 c = (simp (c .enum-told3 .given .1), omega arith)
 
 pub place-of-spec : {M : Type 1} → statement M
 place-of-spec =
