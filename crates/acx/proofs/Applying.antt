@@ -30,7 +30,8 @@ use Rattle.acx.specs.declared.Check.{Check}
 use Rattle.acx.specs.declared.Check.the-variants.{Failed}
 
 -- a part of a file is no longer than the file may be
-pub lent-fits : (file : List ℕ) (from count : ℕ) → from + count ≤ length file → length file ≤ 65536 → length (midOf from (from + count - from) file) ≤ 65536
+pub lent-fits : (file : List ℕ) (from count : ℕ) → from + count ≤ length file → length file ≤ 65536
+    → length (midOf from (from + count - from) file) ≤ 65536
 lent-fits file from count h l =
     let e : length (midOf from (from + count - from) file) ≡ count = ap length (lent-is from count file) ∙ length-part file from count h in
     omega arith
@@ -49,7 +50,8 @@ ending-none b entry next len = needs-none (leb (address (startOf b entry)) 65535
 module _ (file : List ℕ) (b : Bases) (a n : ℕ) (found : Record) (write : Bool) (m p : List ℕ) where
   pub applied-code : (kind : Kind) (address from count : ℕ) (place limit : ℕ) (r : Check) (m′ p′ : List ℕ) → found ≡ Code kind address from count
       → place ≡ placeAt b kind address → limit ≡ limitOf kind
-      → Did Check (placing place limit (midOf from (from + count - from) file) p) write m p r m′ p′ → Did Check (applied file b a n found p) write m p r m′ p′
+      → Did Check (placing place limit (midOf from (from + count - from) file) p) write m p r m′ p′
+      → Did Check (applied file b a n found p) write m p r m′ p′
   unfolding applied
   applied-code kind address from count place limit r m′ p′ e ep el d = rw (e, ← ep, ← el, ← lent-is from count file) d
 

@@ -45,7 +45,8 @@ module _ (form : Form) (file : List ℕ) (b : Bases) (write : Bool) (m : List �
       let f : opening form file ≡ Failed fault = sym o ∙ e in
       rw (f, er, ep) (did-none _ write m blank)
 
-  pub file-walked : (n : ℕ) (r : Outcome) (m′ p′ : List ℕ) → c ≡ Passed → n ≡ openingSize form → Did Outcome (reported (from file b n [])) write m blank r m′ p′
+  pub file-walked : (n : ℕ) (r : Outcome) (m′ p′ : List ℕ) → c ≡ Passed → n ≡ openingSize form
+      → Did Outcome (reported (from file b n [])) write m blank r m′ p′
       → Did Outcome (reported (judged form file b)) write m blank r m′ p′
   unfolding judged
   file-walked n r m′ p′ e en d =
@@ -58,26 +59,25 @@ abbrev pub isRefused : Outcome → Bool
 isRefused (Accepted start placed adjusted names low) = false
 isRefused (Refused fault offset side) = true
 
-module _ (m m₁ p₁ : List ℕ) (r : Outcome) where
-  -- memory was not written while the file was checked
-  dry : (o : Ran Verdict) → Did Outcome (reported o) false m blank r m₁ p₁ → m₁ ≡ m
-  dry o d = d .memory
-
-  pub carried-refused : (o : Ran Verdict) (fault : Fault) (at side : ℕ) (p′ : List ℕ) → Did Outcome (reported o) false m blank r m₁ p₁ → r ≡ Refused fault at side
+module _ {m m₁ p₁ : List ℕ} {r : Outcome} where
+  -- (memory was not written while the file was checked)
+  pub carried-refused : {o : Ran Verdict} {fault : Fault} {at side : ℕ} {p′ : List ℕ} → Did Outcome (reported o) false m blank r m₁ p₁
+      → r ≡ Refused fault at side
       → p′ ≡ blank → Carried o m (Refused fault at side) m₁ p′
-  carried-refused o fault at side p′ d e ep = by (o .answer) refl
+  carried-refused {o} {fault} {at} {side} {p′} d e ep = by (o .answer) refl
     where
       by : (v : Verdict) → o .answer ≡ v → Carried o m (Refused fault at side) m₁ p′
       by (accepted ps start) f = absurd (false≢true (sym (ap isRefused (sym e ∙ d .answer ∙ ap (λ (v : Verdict). report v (o .events)) f))))
-      by (refused k i) f = record { outcome = sym e ∙ d .answer; memory = rw f (dry o d); map = rw f ep }
+      by (refused k i) f = record { outcome = sym e ∙ d .answer; memory = rw f (d .memory); map = rw f ep }
 
-  pub carried-accepted : (o : Ran Verdict) (start : Start) (i j k l : ℕ) (r₂ : Outcome) (m₂ p₂ : List ℕ) → Did Outcome (reported o) false m blank r m₁ p₁
+  pub carried-accepted : {o : Ran Verdict} {start : Start} {i j k l : ℕ} {r₂ : Outcome} {m₂ p₂ : List ℕ}
+      → Did Outcome (reported o) false m blank r m₁ p₁
       → r ≡ Accepted start i j k l → Did Outcome (reported o) true m₁ blank r₂ m₂ p₂ → Carried o m r₂ m₂ p₂
-  carried-accepted o start i j k l r₂ m₂ p₂ d e d₂ = by (o .answer) refl
+  carried-accepted {o} {start} {i} {j} {k} {l} {r₂} {m₂} {p₂} d e d₂ = by (o .answer) refl
     where
       by : (v : Verdict) → o .answer ≡ v → Carried o m r₂ m₂ p₂
       by (accepted ps start) f =
-          record { outcome = d₂ .answer; memory = rw f (d₂ .memory ∙ ap (λ (t : List ℕ). play (o .events) t) (dry o d)); map = rw f (d₂ .map) }
+          record { outcome = d₂ .answer; memory = rw f (d₂ .memory ∙ ap (λ (t : List ℕ). play (o .events) t) (d .memory)); map = rw f (d₂ .map) }
       by (refused h a) f = absurd (false≢true (ap isRefused (sym e ∙ d .answer ∙ ap (λ (v : Verdict). report v (o .events)) f)))
 
 -- ---- the settings and the file's length
@@ -104,7 +104,8 @@ module _ (s : Settings) (file m : List ℕ) where
     unfolding load need
     load-long r p′ h er ep = rw (known, lt-leb _ _ h) (record { outcome = er; memory = refl; map = ep })
 
-    pub load-carried : (form : Form) (r : Outcome) (m′ p′ : List ℕ) → length file ≤ 65536 → form ≡ formOf (s .form) → Carried (judged form file (basesOf s)) m r m′ p′
+    pub load-carried : (form : Form) (r : Outcome) (m′ p′ : List ℕ) → length file ≤ 65536 → form ≡ formOf (s .form)
+        → Carried (judged form file (basesOf s)) m r m′ p′
         → Carried (load s file) m r m′ p′
     unfolding load need
     load-carried form r m′ p′ h ef d = rw (known, le-leb _ _ h, ← ef) d
@@ -141,20 +142,28 @@ load-few s file =
 
 -- ---- whatever the buffers
 
-module _ (s : Settings) (file m p : List ℕ) where
-  other : (r : Outcome) → sized m p ≡ false → r ≡ Refused WrongBuffer 0 0 → Loaded s file m p r m p
+module _ {s : Settings} {file m p : List ℕ} where
+  other : {r : Outcome} → sized m p ≡ false → r ≡ Refused WrongBuffer 0 0 → Loaded s file m p r m p
   unfolding call need
-  other r h e = record { outcome = rw (h, e) refl; memory = rw h refl; map = rw h refl; placed-fits = rw e (omega arith); adjusted-fits = rw e (omega arith) }
+  other h e = record {
+    outcome = rw (h, e) refl;
+    memory = rw h refl;
+    map = rw h refl;
+    placed-fits = rw e (omega arith);
+    adjusted-fits = rw e
+        (omega arith);
+  }
 
-  pub loaded-memory : (r : Outcome) → (length m ≡ 65536 → ⊥) → r ≡ Refused WrongBuffer 0 0 → Loaded s file m p r m p
-  loaded-memory r h e = other r (rw (ne-eqb _ _ h) refl) e
+  pub loaded-memory : {r : Outcome} → (length m ≡ 65536 → ⊥) → r ≡ Refused WrongBuffer 0 0 → Loaded s file m p r m p
+  loaded-memory h e = other (rw (ne-eqb _ _ h) refl) e
 
-  pub loaded-map : (r : Outcome) → length m ≡ 65536 → (length p ≡ 65536 → ⊥) → r ≡ Refused WrongBuffer 0 0 → Loaded s file m p r m p
-  loaded-map r g h e = other r (rw (eq-eqb _ _ g, ne-eqb _ _ h) refl) e
+  pub loaded-map : {r : Outcome} → length m ≡ 65536 → (length p ≡ 65536 → ⊥) → r ≡ Refused WrongBuffer 0 0 → Loaded s file m p r m p
+  loaded-map g h e = other (rw (eq-eqb _ _ g, ne-eqb _ _ h) refl) e
 
-  pub loaded-sized : (r : Outcome) (m′ p′ : List ℕ) → length m ≡ 65536 → length p ≡ 65536 → Carried (load s file) m r m′ p′ → Loaded s file m p r m′ p′
+  pub loaded-sized : {r : Outcome} {m′ p′ : List ℕ} → length m ≡ 65536 → length p ≡ 65536 → Carried (load s file) m r m′ p′
+      → Loaded s file m p r m′ p′
   unfolding call need
-  loaded-sized r m′ p′ g h d =
+  loaded-sized g h d =
       let few = load-few s file in
       let z : sized m p ≡ true = rw (eq-eqb _ _ g, eq-eqb _ _ h) refl in
       record {

@@ -45,7 +45,8 @@ need-passed false fault o e = absurd (failed-passed fault e)
 -- ---- parts that were lent
 
 -- a part of the map that was filled with a mark
-pub filled : (a n v : ℕ) (p w : List ℕ) → a + n ≤ length p → w ≡ replicate (length (midOf a (a + n - a) p)) v → putMid a (a + n - a) p w ≡ put p a (replicate n v)
+pub filled : (a n v : ℕ) (p w : List ℕ) → a + n ≤ length p → w ≡ replicate (length (midOf a (a + n - a) p)) v
+    → putMid a (a + n - a) p w ≡ put p a (replicate n v)
 filled a n v p w h e =
     let l : length (midOf a (a + n - a) p) ≡ n = ap length (lent-is a n p) ∙ length-part p a n h in
     let e′ : w ≡ replicate n v = e ∙ ap (λ (k : ℕ). replicate k v) l in
@@ -58,7 +59,8 @@ unfolding play
 copied a code m w write t h e = rw (t, e) (back-is a (length code) m code h refl)
 
 -- a part of memory that a field was adjusted in
-pub added : (b : Bases) (a n : ℕ) (f : Field) (x : ℕ) (m w : List ℕ) (write : Bool) → write ≡ true → x ≡ amountOf b f → a + n ≤ length m → f .index + width f ≤ n
+pub added : (b : Bases) (a n : ℕ) (f : Field) (x : ℕ) (m w : List ℕ) (write : Bool) → write ≡ true → x ≡ amountOf b f → a + n ≤ length m
+    → f .index + width f ≤ n
     → w ≡ change (width f) (on (width f) x) (midOf a (a + n - a) m) (f .index) → putMid a (a + n - a) m w ≡ playIf write (adjustment b a f ∷ []) m
 unfolding play
 added b a n f x m w write t ex h i e =
@@ -73,7 +75,8 @@ module _ (a limit : ℕ) (code : List ℕ) (write : Bool) (m p : List ℕ) where
   unfolding placing need
   placing-high h = rw (lt-leb _ _ h) (did-none _ write m p)
 
-  pub placing-taken : a + length code ≤ limit → allZero (part p a (length code)) ≡ false → Did Check (placing a limit code p) write m p (Failed PiecesOverlap) m p
+  pub placing-taken : a + length code ≤ limit → allZero (part p a (length code)) ≡ false
+      → Did Check (placing a limit code p) write m p (Failed PiecesOverlap) m p
   unfolding placing need
   placing-taken h z = rw (le-leb _ _ h, z) (did-none _ write m p)
 
@@ -106,14 +109,16 @@ module _ (b : Bases) (a n : ℕ) (f : Field) (write : Bool) (m p : List ℕ) (k 
   unfolding adjusting need
   adjusting-outside h = let g : n < f .index + width f = rw (← ek) h in rw (lt-leb _ _ g) (did-none _ write m p)
 
-  pub adjusting-twice : f .index + k ≤ n → contains 3 (part p (a + f .index) k) ≡ true → Did Check (adjusting b a n (f ∷ []) p) write m p (Failed AdjustedTwice) m p
+  pub adjusting-twice : f .index + k ≤ n → contains 3 (part p (a + f .index) k) ≡ true
+      → Did Check (adjusting b a n (f ∷ []) p) write m p (Failed AdjustedTwice) m p
   unfolding adjusting need
   adjusting-twice h t =
       let g : f .index + width f ≤ n = rw (← ek) h in
       let u : contains 3 (part p (a + f .index) (width f)) ≡ true = rw (← ek) t in
       rw (le-leb _ _ g, u) (did-none _ write m p)
 
-  pub adjusting-done : (m′ p′ : List ℕ) → f .index + k ≤ n → contains 3 (part p (a + f .index) k) ≡ false → m′ ≡ playIf write (adjustment b a f ∷ []) m
+  pub adjusting-done : (m′ p′ : List ℕ) → f .index + k ≤ n → contains 3 (part p (a + f .index) k) ≡ false
+      → m′ ≡ playIf write (adjustment b a f ∷ []) m
       → p′ ≡ put p (a + f .index) (replicate k 3) → Did Check (adjusting b a n (f ∷ []) p) write m p Passed m′ p′
   unfolding adjusting need marks
   adjusting-done m′ p′ h t em ep =
@@ -123,7 +128,8 @@ module _ (b : Bases) (a n : ℕ) (f : Field) (write : Bool) (m p : List ℕ) (k 
 
 -- a field that passed lies in the code, has no byte that was adjusted before, and is adjusted before the others
 pub adjusting-passed : (b : Bases) (a n : ℕ) (f : Field) (fs : List Field) (p : List ℕ) → adjusting b a n (f ∷ fs) p .answer ≡ Passed
-    → (f .index + width f ≤ n) × (contains 3 (part p (a + f .index) (width f)) ≡ false) × (adjusting b a n fs (markOne (adjustment b a f) p) .answer ≡ Passed)
+    → (f .index + width f ≤ n) × (contains 3 (part p (a + f .index) (width f)) ≡ false)
+    × (adjusting b a n fs (markOne (adjustment b a f) p) .answer ≡ Passed)
     × (adjusting b a n (f ∷ fs) p .events ≡ adjustment b a f ∷ adjusting b a n fs (markOne (adjustment b a f) p) .events)
 unfolding adjusting
 adjusting-passed b a n f fs p e =
@@ -138,7 +144,8 @@ adjusting-passed b a n f fs p e =
     not-true false h = refl
 
 -- all fields that passed are adjusted, in their order
-pub adjusting-all : (b : Bases) (a n : ℕ) (fs : List Field) (p : List ℕ) → adjusting b a n fs p .answer ≡ Passed → adjusting b a n fs p .events ≡ adjustments b a fs
+pub adjusting-all : (b : Bases) (a n : ℕ) (fs : List Field) (p : List ℕ) → adjusting b a n fs p .answer ≡ Passed
+    → adjusting b a n fs p .events ≡ adjustments b a fs
 unfolding adjustments
 adjusting-all b a n [] p e = none
   where

@@ -72,7 +72,8 @@ loads file b ps at m h l s n =
 -- Demand 2, of every accepted file, at every pair of bases and in every memory
 pub demand2 : (form : Form) (file : List ℕ) (b : Bases) (ps : List Piece) (start : Start) → judged form file b .answer ≡ accepted ps start
     → (m : List ℕ) → length m ≡ 65536
-    → Demand2 file b ps m (play (judged form file b .events) m) (marks (judged form file b .events) blank) (placedIn (judged form file b .events)) (adjustedIn (judged form file b .events))
+    → Demand2 file b ps m (play (judged form file b .events) m) (marks (judged form file b .events) blank)
+    (placedIn (judged form file b .events)) (adjustedIn (judged form file b .events))
 demand2 form file b ps start e m n =
     let x = handled file b form ps start e in
     rw (x .3) (loads file b ps (x .0) m (x .2 .0) (x .1) (x .2 .1) n)
@@ -107,22 +108,27 @@ unfolding call load need
 asked-judged s file m p a = rw (eq-eqb _ _ (a .memory), eq-eqb _ _ (a .map), a .settings, le-leb _ _ (a .fits)) refl
 
 -- Demand 2, of every accepted call
-pub call-demand2 : (s : Settings) (file m p : List ℕ) (r : Outcome) (m′ p′ : List ℕ) → Loaded s file m p r m′ p′ → (start : Start) (placed adjusted names low : ℕ)
+pub call-demand2 : (s : Settings) (file m p : List ℕ) (r : Outcome) (m′ p′ : List ℕ) → Loaded s file m p r m′ p′
+    → (start : Start) (placed adjusted names low : ℕ)
     → r ≡ Accepted start placed adjusted names low → AcceptedCall s file m p start placed adjusted m′ p′
 call-demand2 s file m p r m′ p′ d start placed adjusted names low e =
     let o : Accepted start placed adjusted names low ≡ reported (call s file m p) .answer = sym e ∙ d .outcome in
     let x = call-judged s file m p (ap isRefused (sym o)) in
     by (judged (formOf (s .form)) file (basesOf s) .answer) refl (x .0) (x .1) (o ∙ ap (λ (k : Ran Verdict). reported k .answer) (x .1))
   where
-    by : (v : Verdict) → judged (formOf (s .form)) file (basesOf s) .answer ≡ v → Asked s file m p → call s file m p ≡ judged (formOf (s .form)) file (basesOf s)
-        → Accepted start placed adjusted names low ≡ report v (judged (formOf (s .form)) file (basesOf s) .events) → AcceptedCall s file m p start placed adjusted m′ p′
+    by : (v : Verdict) → judged (formOf (s .form)) file (basesOf s) .answer ≡ v → Asked s file m p
+        → call s file m p ≡ judged (formOf (s .form)) file (basesOf s)
+        → Accepted start placed adjusted names low ≡ report v (judged (formOf (s .form)) file (basesOf s) .events)
+        → AcceptedCall s file m p start placed adjusted m′ p′
     by (refused fault at) f a c o = absurd (false≢true (ap isRefused o))
     by (accepted ps begin) f a c o =
         let k = judged (formOf (s .form)) file (basesOf s) in
-        let em : m′ ≡ play (k .events) m = d .memory ∙ ap (λ (q : Ran Verdict). memoryAfter (q .answer) q m) c ∙ ap (λ (v : Verdict). memoryAfter v k m) f in
+        let em : m′ ≡ play (k .events) m = d .memory ∙ ap (λ (q : Ran Verdict). memoryAfter (q .answer) q m) c
+        ∙ ap (λ (v : Verdict). memoryAfter v k m) f in
         let ep : p′ ≡ marks (k .events) blank =
         d .map
-        ∙ rw (eq-eqb _ _ (a .memory), eq-eqb _ _ (a .map)) (ap (λ (q : Ran Verdict). mapAfter (q .answer) q) c ∙ ap (λ (v : Verdict). mapAfter v k) f) in
+        ∙ rw (eq-eqb _ _ (a .memory), eq-eqb _ _ (a .map))
+        (ap (λ (q : Ran Verdict). mapAfter (q .answer) q) c ∙ ap (λ (v : Verdict). mapAfter v k) f) in
         let en : placed ≡ placedIn (k .events) = ap placedOf o in
         let ea : adjusted ≡ adjustedIn (k .events) = ap adjustedOf o in
         record {
@@ -133,8 +139,10 @@ call-demand2 s file m p r m′ p′ d start placed adjusted names low e =
         }
 
 -- a call as asked accepts every file that the rules accept, with its start and counts
-pub call-accepts : (s : Settings) (file m p : List ℕ) (r : Outcome) (m′ p′ : List ℕ) → Loaded s file m p r m′ p′ → Asked s file m p → (ps : List Piece) (start : Start)
-    → judged (formOf (s .form)) file (basesOf s) .answer ≡ accepted ps start → r ≡ Accepted start (total size ps) (total (λ p. length (p .fields)) ps) 0 0
+pub call-accepts : (s : Settings) (file m p : List ℕ) (r : Outcome) (m′ p′ : List ℕ) → Loaded s file m p r m′ p′ → Asked s file m p
+    → (ps : List Piece) (start : Start)
+    → judged (formOf (s .form)) file (basesOf s) .answer ≡ accepted ps start
+    → r ≡ Accepted start (total size ps) (total (λ p. length (p .fields)) ps) 0 0
 call-accepts s file m p r m′ p′ d a ps start e =
     let b = basesOf s in
     let o = judged (formOf (s .form)) file b in

@@ -104,7 +104,8 @@ adjustments-append b a [] fs = refl
 adjustments-append b a (g ∷ gs) fs = ap (λ (es : List Event). adjustment b a g ∷ es) (adjustments-append b a gs fs)
 
 -- a piece more: its code is placed
-pub events-code : (b : Bases) (p : Piece) (ps : List Piece) → p .fields ≡ [] → events b (p ∷ ps) ≡ events b ps ++ (place (placeOf b p) (p .code) ∷ [])
+pub events-code : (b : Bases) (p : Piece) (ps : List Piece) → p .fields ≡ []
+    → events b (p ∷ ps) ≡ events b ps ++ (place (placeOf b p) (p .code) ∷ [])
 unfolding events adjustments
 events-code b p ps e = rw e refl
 

@@ -36,11 +36,21 @@ chain (Failed fault) es rest = record { answer = Failed fault; events = es }
 
 chain-needs : (c d : Bool) (e : Event) (rest : Ran Check)
     → need failed c FieldNotLoaded (need failed d AdjustedTwice (first e rest))
-    ≡ chain (need failed c FieldNotLoaded (need failed d AdjustedTwice (passed (e ∷ []))) .answer) (need failed c FieldNotLoaded (need failed d AdjustedTwice (passed (e ∷ []))) .events) rest
+    ≡ chain (need failed c FieldNotLoaded (need failed d AdjustedTwice (passed (e ∷ []))) .answer)
+    (need failed c FieldNotLoaded (need failed d AdjustedTwice (passed (e ∷ []))) .events) rest
 unfolding need
 chain-needs true true e rest = refl
 chain-needs true false e rest = refl
 chain-needs false d e rest = refl
+
+-- one field of the definition's list
+one-field : (b : Bases) (a n : ℕ) (f : Field) (fs : List Field) (p : List ℕ)
+    → adjusting b a n (f ∷ fs) p
+    ≡ chain (adjusting b a n (f ∷ []) p .answer) (adjusting b a n (f ∷ []) p .events) (adjusting b a n fs (markOne (adjustment b a f) p))
+unfolding adjusting
+one-field b a n f fs p =
+    chain-needs (leb (f .index + width f) n) (not (contains 3 (part p (a + f .index) (width f)))) (adjustment b a f)
+    (adjusting b a n fs (markOne (adjustment b a f) p))
 
 -- where the loop stands: it began with the fields all, memory m₀ and the map p₀, and rest are left
 pub record Adjusting (b : Bases) (a n : ℕ) (write : Bool) (all : List Field) (m₀ p₀ : List ℕ) (rest : List Field) (m p : List ℕ) : Type 0 where
@@ -48,25 +58,20 @@ pub record Adjusting (b : Bases) (a n : ℕ) (write : Bool) (all : List Field) (
   pub reached : Reached es write m₀ p₀ m p
   pub same : adjusting b a n all p₀ ≡ behind es (adjusting b a n rest p)
 
-module _ (b : Bases) (a n : ℕ) (write : Bool) (all : List Field) (m₀ p₀ : List ℕ) where
+module _ {b : Bases} {a n : ℕ} {write : Bool} {all : List Field} {m₀ p₀ : List ℕ} where
   pub adjusting-none : Adjusting b a n write all m₀ p₀ all m₀ p₀
   adjusting-none = record { es = []; reached = reached-none write m₀ p₀; same = refl }
 
-  -- one field of the definition's list
-  one-field : (f : Field) (fs : List Field) (p : List ℕ)
-      → adjusting b a n (f ∷ fs) p ≡ chain (adjusting b a n (f ∷ []) p .answer) (adjusting b a n (f ∷ []) p .events) (adjusting b a n fs (markOne (adjustment b a f) p))
-  unfolding adjusting
-  one-field f fs p =
-      chain-needs (leb (f .index + width f) n) (not (contains 3 (part p (a + f .index) (width f)))) (adjustment b a f) (adjusting b a n fs (markOne (adjustment b a f) p))
-
-  module _ (f : Field) (rest rest′ : List Field) (m p m′ p′ : List ℕ) (r : Check) (left : rest ≡ f ∷ rest′)
+  module _ {f : Field} {rest rest′ : List Field} {m p m′ p′ : List ℕ} {r : Check} (left : rest ≡ f ∷ rest′)
       (x : Adjusting b a n write all m₀ p₀ rest m p) (d : Did Check (adjusting b a n (f ∷ []) p) write m p r m′ p′) where
-    one : adjusting b a n all p₀ ≡ behind (x .es) (chain r (adjusting b a n (f ∷ []) p .events) (adjusting b a n rest′ (markOne (adjustment b a f) p)))
+    one : adjusting b a n all p₀
+        ≡ behind (x .es) (chain r (adjusting b a n (f ∷ []) p .events) (adjusting b a n rest′ (markOne (adjustment b a f) p)))
     one =
         x .same
         ∙ ap (λ (fs : List Field). behind (x .es) (adjusting b a n fs p)) left
-        ∙ ap (behind (x .es)) (one-field f rest′ p)
-        ∙ ap (λ (c : Check). behind (x .es) (chain c (adjusting b a n (f ∷ []) p .events) (adjusting b a n rest′ (markOne (adjustment b a f) p)))) (sym (d .answer))
+        ∙ ap (behind (x .es)) (one-field b a n f rest′ p)
+        ∙ ap (λ (c : Check). behind (x .es)
+        (chain c (adjusting b a n (f ∷ []) p .events) (adjusting b a n rest′ (markOne (adjustment b a f) p)))) (sym (d .answer))
 
     pub adjusting-more : r ≡ Passed → Adjusting b a n write all m₀ p₀ rest′ m′ p′
     unfolding marks adjustments
@@ -81,18 +86,21 @@ module _ (b : Bases) (a n : ℕ) (write : Bool) (all : List Field) (m₀ p₀ : 
               one
               ∙ ap (λ (c : Check). behind (x .es) (chain c es (adjusting b a n rest′ (markOne (adjustment b a f) p)))) e
               ∙ ap (λ (l : List ℕ). behind (x .es) (behind es (adjusting b a n rest′ l))) here
-              ∙ ap (λ (l : List Event). record { answer = adjusting b a n rest′ p′ .answer; events = l }) (sym (append-assoc (x .es) es (adjusting b a n rest′ p′ .events)));
+              ∙ ap (λ (l : List Event). record { answer = adjusting b a n rest′ p′ .answer; events = l })
+              (sym (append-assoc (x .es) es (adjusting b a n rest′ p′ .events)));
         }
 
-    pub adjusting-fails : (fault : Fault) → r ≡ Failed fault → Did Check (adjusting b a n all p₀) write m₀ p₀ (Failed fault) m′ p′
-    adjusting-fails fault e =
+    pub adjusting-fails : {fault : Fault} → r ≡ Failed fault → Did Check (adjusting b a n all p₀) write m₀ p₀ (Failed fault) m′ p′
+    adjusting-fails e =
         let y = reached-more (x .es) write m₀ p₀ m p m′ p′ _ r (x .reached) d in
-        let z = one ∙ ap (λ (c : Check). behind (x .es) (chain c (adjusting b a n (f ∷ []) p .events) (adjusting b a n rest′ (markOne (adjustment b a f) p)))) e in
+        let z = one ∙ ap (λ (c : Check). behind (x .es)
+        (chain c (adjusting b a n (f ∷ []) p .events) (adjusting b a n rest′ (markOne (adjustment b a f) p)))) e in
         rw z (record { answer = refl; memory = y .memory; map = y .map })
 
-  pub adjusting-end : (rest : List Field) (m p : List ℕ) → rest ≡ [] → Adjusting b a n write all m₀ p₀ rest m p → Did Check (adjusting b a n all p₀) write m₀ p₀ Passed m p
+  pub adjusting-end : {rest : List Field} {m p : List ℕ} → rest ≡ [] → Adjusting b a n write all m₀ p₀ rest m p
+      → Did Check (adjusting b a n all p₀) write m₀ p₀ Passed m p
   unfolding adjusting
-  adjusting-end rest m p e x =
+  adjusting-end {rest} {m} {p} e x =
       let z : adjusting b a n all p₀ ≡ record { answer = Passed; events = x .es } =
       x .same
       ∙ ap (λ (fs : List Field). behind (x .es) (adjusting b a n fs p)) e

@@ -42,7 +42,8 @@ use Rattle.acx.specs.declared.Cursor.{Cursor}
 -- ---- the cursor
 
 cursor-same : (at : ℕ) (last : Last) (place n k i j s t : ℕ) → n ≡ k → i ≡ j → s ≡ t
-    → _≡_ {A = Cursor} (record { at = at; last = last; place = place; size = n; placed = i; adjusted = s }) (record { at = at; last = last; place = place; size = k; placed = j; adjusted = t })
+    → _≡_ {A = Cursor} (record { at = at; last = last; place = place; size = n; placed = i; adjusted = s })
+    (record { at = at; last = last; place = place; size = k; placed = j; adjusted = t })
 cursor-same at last place n k i j s t en ei es = rw (en, ei, es) refl
 
 fixups-advance : (file : List ℕ) (b : Bases) (at : ℕ) (ps : List Piece) (fixup : Fixup) (from n : ℕ) → from + n ≤ length file → Moving (lastOf ps)
@@ -51,7 +52,8 @@ fixups-advance file b at [] fixup from n h m = absurd m
 fixups-advance file b at (p ∷ ps) fixup from n h m =
     let fs = fieldsOf fixup (part file from n) in
     let k = adjusted-after b fs (p ∷ ps) m in
-    let e : length fs ≡ n / itemSize fixup = length-fields fixup (part file from n) ∙ ap (λ (i : ℕ). i / itemSize fixup) (length-part file from n h) in
+    let e : length fs ≡ n / itemSize fixup = length-fields fixup (part file from n)
+    ∙ ap (λ (i : ℕ). i / itemSize fixup) (length-part file from n h) in
     cursor-same _ _ _ _ _ _ _ _ _ refl (sym (k .0)) (ap (λ (i : ℕ). adjustedIn (events b (p ∷ ps)) + i) (sym e) ∙ sym (k .1))
 
 -- the cursor after a record is that of the pieces after it
@@ -96,11 +98,11 @@ pub record Going (file : List ℕ) (b : Bases) (first : ℕ) (write : Bool) (m�
   pub reached : Reached (events b pieces) write m₀ blank m p
   pub same : from file b first [] ≡ from file b (c .at) pieces
 
-module _ (file : List ℕ) (b : Bases) (first : ℕ) (write : Bool) (m₀ : List ℕ) where
-  pub going-first : (p : List ℕ) → p ≡ blank → first ≤ length file
+module _ {file : List ℕ} {b : Bases} {first : ℕ} {write : Bool} {m₀ : List ℕ} where
+  pub going-first : {p : List ℕ} → p ≡ blank → first ≤ length file
       → Going file b first write m₀ (record { at = first; last = Nothing; place = 0; size = 0; placed = 0; adjusted = 0 }) m₀ p
   unfolding events placedIn adjustedIn
-  going-first p e l =
+  going-first e l =
       record {
         pieces = [];
         here = refl;
@@ -110,7 +112,7 @@ module _ (file : List ℕ) (b : Bases) (first : ℕ) (write : Bool) (m₀ : List
         same = refl;
       }
 
-  module _ (c : Cursor) (m p : List ℕ) (x : Going file b first write m₀ c m p) where
+  module _ {c : Cursor} {m p : List ℕ} (x : Going file b first write m₀ c m p) where
     -- the last code record lies in memory, and the counts in the bytes behind the cursor
     pub going-inside : c .place + c .size ≤ 65536
     going-inside = omega (arith, ap (λ (k : Cursor). k .place) (x .here), ap (λ (k : Cursor). k .size) (x .here), x .stands .inside)
@@ -118,7 +120,7 @@ module _ (file : List ℕ) (b : Bases) (first : ℕ) (write : Bool) (m₀ : List
     pub going-counts : c .placed + c .adjusted ≤ c .at
     going-counts = omega (arith, ap (λ (k : Cursor). k .placed) (x .here), ap (λ (k : Cursor). k .adjusted) (x .here), x .stands .counts)
 
-    module _ (found : Record) (r : Check) (m′ p′ : List ℕ) (is : found ≡ read file (c .at) (c .last))
+    module _ {found : Record} {r : Check} {m′ p′ : List ℕ} (is : found ≡ read file (c .at) (c .last))
         (d : Did Check (applied file b (c .place) (c .size) found p) write m p r m′ p′) where
       found-is : recordAt file (c .at) (x .pieces) ≡ found
       found-is = ap (λ (l : Last). read file (c .at) l) (sym (ap (λ (k : Cursor). k .last) (x .here))) ∙ sym is
@@ -126,8 +128,10 @@ module _ (file : List ℕ) (b : Bases) (first : ℕ) (write : Bool) (m₀ : List
       checked-is : checked file b (c .at) (x .pieces) ≡ applied file b (c .place) (c .size) found p
       unfolding checked
       checked-is =
-          ap (λ (i : ℕ). applied file b i (lastSize (x .pieces)) (recordAt file (c .at) (x .pieces)) (marks (events b (x .pieces)) blank)) (sym (ap (λ (k : Cursor). k .place) (x .here)))
-          ∙ ap (λ (i : ℕ). applied file b (c .place) i (recordAt file (c .at) (x .pieces)) (marks (events b (x .pieces)) blank)) (sym (ap (λ (k : Cursor). k .size) (x .here)))
+          ap (λ (i : ℕ). applied file b i (lastSize (x .pieces)) (recordAt file (c .at) (x .pieces)) (marks (events b (x .pieces)) blank))
+          (sym (ap (λ (k : Cursor). k .place) (x .here)))
+          ∙ ap (λ (i : ℕ). applied file b (c .place) i (recordAt file (c .at) (x .pieces)) (marks (events b (x .pieces)) blank))
+          (sym (ap (λ (k : Cursor). k .size) (x .here)))
           ∙ ap (λ (q : Record). applied file b (c .place) (c .size) q (marks (events b (x .pieces)) blank)) found-is
           ∙ ap (λ (l : List ℕ). applied file b (c .place) (c .size) found l) (sym (x .reached .map))
 
@@ -146,23 +150,24 @@ module _ (file : List ℕ) (b : Bases) (first : ℕ) (write : Bool) (m₀ : List
           ∙ ap (λ (k : Check). judge go file b (c .at) (x .pieces) es k (recordAt file (c .at) (x .pieces))) answer-is
           ∙ ap (λ (q : Record). judge go file b (c .at) (x .pieces) es r q) found-is
 
-      pub going-fails : (fault : Fault) → r ≡ Failed fault → Did Outcome (reported (from file b first [])) write m₀ blank (Refused fault (c .at) 0) m′ p′
-      going-fails fault e =
+      pub going-fails : {fault : Fault} → r ≡ Failed fault
+          → Did Outcome (reported (from file b first [])) write m₀ blank (Refused fault (c .at) 0) m′ p′
+      going-fails e =
           let go : ℕ → List Piece → Ran Verdict = λ e qs. from file b e qs in
           let o = one ∙ ap (λ (k : Check). judge go file b (c .at) (x .pieces) (checked file b (c .at) (x .pieces) .events) k found) e in
           rw o (record { answer = refl; memory = now .memory; map = now .map })
 
       -- the start of an end record that passed is an address
-      pub going-start : (entry : Entry) (next : ℕ) → r ≡ Passed → found ≡ End entry next → address (startOf b entry) ≤ 65535
+      pub going-start : {entry : Entry} {next : ℕ} → r ≡ Passed → found ≡ End entry next → address (startOf b entry) ≤ 65535
       unfolding applied ending
-      going-start entry next e f =
+      going-start {entry} {next} e f =
           let a : applied file b (c .place) (c .size) (End entry next) p .answer ≡ Passed =
           ap (λ (q : Record). applied file b (c .place) (c .size) q p .answer) (sym f) ∙ sym (d .answer) ∙ e in
           leb-true _ _ (need-passed _ _ _ a .0)
 
-      pub going-ends : (entry : Entry) (next : ℕ) → r ≡ Passed → found ≡ End entry next
+      pub going-ends : {entry : Entry} {next : ℕ} → r ≡ Passed → found ≡ End entry next
           → Did Outcome (reported (from file b first [])) write m₀ blank (Accepted (startOf b entry) (c .placed) (c .adjusted) 0 0) m′ p′
-      going-ends entry next e f =
+      going-ends {entry} {next} e f =
           let go : ℕ → List Piece → Ran Verdict = λ e qs. from file b e qs in
           let ps = x .pieces in
           let es = events b ps ++ checked file b (c .at) ps .events in
@@ -170,7 +175,8 @@ module _ (file : List ℕ) (b : Bases) (first : ℕ) (write : Bool) (m₀ : List
           one
           ∙ ap (λ (k : Check). judge go file b (c .at) ps (checked file b (c .at) ps .events) k found) e
           ∙ ap (λ (q : Record). judge go file b (c .at) ps (checked file b (c .at) ps .events) Passed q) f in
-          let z : es ≡ events b ps = ap (λ (l : List Event). events b ps ++ l) (end-none file b (c .at) ps entry next (found-is ∙ f)) ∙ append-nil (events b ps) in
+          let z : es ≡ events b ps = ap (λ (l : List Event). events b ps ++ l) (end-none file b (c .at) ps entry next (found-is ∙ f))
+          ∙ append-nil (events b ps) in
           let pl : c .placed ≡ placedIn es = ap (λ (k : Cursor). k .placed) (x .here) ∙ ap placedIn (sym z) in
           let ad : c .adjusted ≡ adjustedIn es = ap (λ (k : Cursor). k .adjusted) (x .here) ∙ ap adjustedIn (sym z) in
           rw (o, pl, ad) (record { answer = refl; memory = now .memory; map = now .map })
@@ -190,12 +196,14 @@ module _ (file : List ℕ) (b : Bases) (first : ℕ) (write : Bool) (m₀ : List
             in-file = rw (← at) (ahead .1);
             stands = rw (← at) (stands-on file b (c .at) ps found (x .in-file) (x .stands) found-is o ok);
             reached = rw (events-after file b (c .at) ps found found-is o ok) now;
-            same = x .same ∙ from-onward file b (c .at) ps found (x .in-file) found-is o ok ∙ ap (λ (i : ℕ). from file b i (piecesAfter file found ps)) at;
+            same = x .same ∙ from-onward file b (c .at) ps found (x .in-file) found-is o ok
+                ∙ ap (λ (i : ℕ). from file b i (piecesAfter file found ps)) at;
           }
 
       -- the cursor moves on
       pub going-further : Onward found → c .at + 2 ≤ advanced b c found .at
-      going-further o = rw (advanced-at b c found o) (onward (length file) (c .at) found (lies-as file (c .at) (lastOf (x .pieces)) found found-is) o .0)
+      going-further o = rw (advanced-at b c found o)
+          (onward (length file) (c .at) found (lies-as file (c .at) (lastOf (x .pieces)) found found-is) o .0)
 
       pub going-ends-by : length file ≤ 65536 → EndsBy 65536 found
       going-ends-by l = ends-by (length file) (c .at) found (lies-as file (c .at) (lastOf (x .pieces)) found found-is) l

@@ -74,11 +74,13 @@ module _ (file : List ℕ) (b : Bases) where
       }
 
   -- every record that passes
-  handler-on : (at : ℕ) (ps : List Piece) (r : Record) → Handler file b ps → recordAt file at ps ≡ r → Onward r → checked file b at ps .answer ≡ Passed
+  handler-on : (at : ℕ) (ps : List Piece) (r : Record) → Handler file b ps → recordAt file at ps ≡ r → Onward r
+      → checked file b at ps .answer ≡ Passed
       → Handler file b (piecesAfter file r ps)
   handler-on at ps (Code kind address from n) h e o c = handler-code at ps kind address from n h e c
   handler-on at ps (Fixups fixup from n) h e o c =
-      handler-fields (fieldsOf fixup (part file from n)) ps h (fixups-after file at (lastOf ps) fixup from n e) (fixups-passed file b at ps fixup from n e c)
+      handler-fields (fieldsOf fixup (part file from n)) ps h (fixups-after file at (lastOf ps) fixup from n e)
+      (fixups-passed file b at ps fixup from n e c)
   handler-on at ps (End entry next) h e o c = absurd o
   handler-on at ps (Faulty fault) h e o c = absurd o
 

@@ -172,15 +172,18 @@ module _ (b : Bases) where
     laid-parts = lay-parts (loaded b) length-loaded b ps m f d
 
     -- a byte in no field stands as the code has it
-    pub laid-plain : Each (λ p. (j : ℕ) → j < size p → Each (λ f. ¬ In j f) (p .fields) → getD (laid b ps m) (placeOf b p + j) 0 ≡ getD (p .code) j 0) ps
+    pub laid-plain : Each
+        (λ p. (j : ℕ) → j < size p → Each (λ f. ¬ In j f) (p .fields) → getD (laid b ps m) (placeOf b p + j) 0 ≡ getD (p .code) j 0) ps
     laid-plain =
         each-map
-        (λ p e j h w. sym (part-at (laid b ps m) (placeOf b p) (size p) j h) ∙ ap (λ (l : List ℕ). getD l j 0) e ∙ ons-plain b (p .fields) (p .code) j w)
+        (λ p e j h w. sym (part-at (laid b ps m) (placeOf b p) (size p) j h) ∙ ap (λ (l : List ℕ). getD l j 0) e
+        ∙ ons-plain b (p .fields) (p .code) j w)
         ps laid-parts
 
     -- each field has its amount on
     pub laid-fields : Each (λ p. Each (Inside (size p)) (p .fields)) ps → Each (λ p. Pairwise FieldsApart (p .fields)) ps
-        → Each (λ p. Each (λ f. value (width f) (laid b ps m) (placeOf b p + f .index) ≡ on (width f) (amountOf b f) (value (width f) (p .code) (f .index))) (p .fields)) ps
+        → Each (λ p. Each (λ f. value (width f) (laid b ps m) (placeOf b p + f .index)
+        ≡ on (width f) (amountOf b f) (value (width f) (p .code) (f .index))) (p .fields)) ps
     laid-fields i a = each-zip3 one ps (both ps f i) a laid-parts
       where
         -- a piece that fits, with its fields inside
@@ -191,7 +194,8 @@ module _ (b : Bases) where
         both ps h k = each-zip (λ p x y. (x, y)) ps h k
 
         one : (p : Piece) → In-place p → Pairwise FieldsApart (p .fields) → part (laid b ps m) (placeOf b p) (size p) ≡ loaded b p
-            → Each (λ f. value (width f) (laid b ps m) (placeOf b p + f .index) ≡ on (width f) (amountOf b f) (value (width f) (p .code) (f .index))) (p .fields)
+            → Each (λ f. value (width f) (laid b ps m) (placeOf b p + f .index)
+            ≡ on (width f) (amountOf b f) (value (width f) (p .code) (f .index))) (p .fields)
         one p h a e =
             each-zip
             (λ f i v. sym (value-part (width f) (laid b ps m) (placeOf b p) (size p) (f .index) (rw (length-laid ps m) (h .0)) i)

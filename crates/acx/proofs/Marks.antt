@@ -146,7 +146,8 @@ module _ (b : Bases) where
       -- the marks of each piece stand at its place
       marks-parts : Each (λ p. part (marks (events b ps) m) (placeOf b p) (size p) ≡ shade p) ps
       marks-parts =
-          subst (λ (l : List ℕ). Each (λ p. part l (placeOf b p) (size p) ≡ shade p) ps) (sym (marks-laid ps m i)) (lay-parts shade length-shade b ps m f d)
+          subst (λ (l : List ℕ). Each (λ p. part l (placeOf b p) (size p) ≡ shade p) ps) (sym (marks-laid ps m i))
+          (lay-parts shade length-shade b ps m f d)
 
       -- a byte of a piece has its mark
       at : (p : Piece) (j : ℕ) → j < size p → part (marks (events b ps) m) (placeOf b p) (size p) ≡ shade p
@@ -154,7 +155,8 @@ module _ (b : Bases) where
       at p j h e = sym (part-at (marks (events b ps) m) (placeOf b p) (size p) j h) ∙ ap (λ (l : List ℕ). getD l j 0) e
 
       -- a byte in no field is marked 1
-      pub marks-plain : Each (λ p. (j : ℕ) → j < size p → Each (λ f. ¬ In j f) (p .fields) → getD (marks (events b ps) m) (placeOf b p + j) 0 ≡ 1) ps
+      pub marks-plain : Each
+          (λ p. (j : ℕ) → j < size p → Each (λ f. ¬ In j f) (p .fields) → getD (marks (events b ps) m) (placeOf b p + j) 0 ≡ 1) ps
       marks-plain =
           each-map
           (λ p e j h w. at p j h e ∙ shaded-plain (p .fields) (replicate (size p) 1) j w ∙ getD-replicate (size p) j 1 0 h)
@@ -174,7 +176,8 @@ module _ (b : Bases) where
       pub marks-some : Each (λ p. (x : ℕ) → Placed b x p → 0 < getD (marks (events b ps) m) x 0) ps
       marks-some = each-zip one ps i marks-parts
         where
-          one : (p : Piece) → Each (Inside (size p)) (p .fields) → part (marks (events b ps) m) (placeOf b p) (size p) ≡ shade p → (x : ℕ) → Placed b x p
+          one : (p : Piece) → Each (Inside (size p)) (p .fields) → part (marks (events b ps) m) (placeOf b p) (size p) ≡ shade p → (x : ℕ)
+              → Placed b x p
               → 0 < getD (marks (events b ps) m) x 0
           one p h e x w =
               let j = x - placeOf b p in

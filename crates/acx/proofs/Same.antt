@@ -68,10 +68,12 @@ judged-pieces form file b c = by (opening form file)
     by (Failed fault) = tt
 
 -- a file accepted at two pairs of bases has the same pieces at both
-pub same-pieces : (form : Form) (file : List ℕ) (b c : Bases) (ps qs : List Piece) (start start′ : Start) → judged form file b .answer ≡ accepted ps start
+pub same-pieces : (form : Form) (file : List ℕ) (b c : Bases) (ps qs : List Piece) (start start′ : Start)
+    → judged form file b .answer ≡ accepted ps start
     → judged form file c .answer ≡ accepted qs start′ → ps ≡ qs
 same-pieces form file b c ps qs start start′ e f =
-    subst (λ (v : Verdict). Same (accepted ps start) v) f (subst (λ (v : Verdict). Same v (judged form file c .answer)) e (judged-pieces form file b c))
+    subst (λ (v : Verdict). Same (accepted ps start) v) f
+    (subst (λ (v : Verdict). Same v (judged form file c .answer)) e (judged-pieces form file b c))
 
 -- ---- fixups stand only after relocatable code
 
@@ -103,7 +105,8 @@ bare-fields fs (p ∷ ps) m h = (bare-moving (p .kind) (p .fields ++ fs) m, h .1
 bare-on : (file : List ℕ) (at : ℕ) (ps : List Piece) (r : Record) → Each (λ p. Bare (p .kind) (p .fields)) ps → recordAt file at ps ≡ r → Onward r
     → Each (λ p. Bare (p .kind) (p .fields)) (piecesAfter file r ps)
 bare-on file at ps (Code kind address from n) h e o = (bare-none kind, h)
-bare-on file at ps (Fixups fixup from n) h e o = bare-fields (fieldsOf fixup (part file from n)) ps (fixups-after file at (lastOf ps) fixup from n e) h
+bare-on file at ps (Fixups fixup from n) h e o = bare-fields (fieldsOf fixup (part file from n)) ps
+    (fixups-after file at (lastOf ps) fixup from n e) h
 bare-on file at ps (End entry next) h e o = absurd o
 bare-on file at ps (Faulty fault) h e o = absurd o
 
@@ -111,4 +114,5 @@ bare-on file at ps (Faulty fault) h e o = absurd o
 pub bare : (form : Form) (file : List ℕ) (b : Bases) (ps : List Piece) (start : Start) → judged form file b .answer ≡ accepted ps start
     → Each (λ p. Bare (p .kind) (p .fields)) ps
 bare form file b ps start e =
-    accepted-keeps file b (λ at ps. Each (λ p. Bare (p .kind) (p .fields)) ps) (λ at ps r l h q o c. bare-on file at ps r h q o) form ps start tt e .2
+    accepted-keeps file b (λ at ps. Each (λ p. Bare (p .kind) (p .fields)) ps)
+    (λ at ps r l h q o c. bare-on file at ps r h q o) form ps start tt e .2

@@ -52,25 +52,30 @@ module _ (file : List ℕ) (b : Bases) (at : ℕ) (ps : List Piece) where
   fixups-passed fixup from n e c = rw e at c
 
   fixups-events : (fixup : Fixup) (from n : ℕ) → recordAt file at ps ≡ Fixups fixup from n
-      → checked file b at ps .events ≡ adjusting b (lastPlace b ps) (lastSize ps) (fieldsOf fixup (part file from n)) (marks (events b ps) blank) .events
+      → checked file b at ps .events
+      ≡ adjusting b (lastPlace b ps) (lastSize ps) (fieldsOf fixup (part file from n)) (marks (events b ps) blank) .events
   unfolding checked applied
   fixups-events fixup from n e = rw e refl
 
 -- fixups stand after a piece
-pub fields-events : (b : Bases) (fs : List Field) (ps : List Piece) → Moving (lastOf ps) → events b (withFields fs ps) ≡ events b ps ++ adjustments b (lastPlace b ps) fs
+pub fields-events : (b : Bases) (fs : List Field) (ps : List Piece) → Moving (lastOf ps)
+    → events b (withFields fs ps) ≡ events b ps ++ adjustments b (lastPlace b ps) fs
 fields-events b fs [] m = absurd m
 fields-events b fs (p ∷ ps) m = events-fields b fs p ps
 
 -- the events of the pieces after a record are those before it and the record's own
-pub events-after : (file : List ℕ) (b : Bases) (at : ℕ) (ps : List Piece) (r : Record) → recordAt file at ps ≡ r → Onward r → checked file b at ps .answer ≡ Passed
+pub events-after : (file : List ℕ) (b : Bases) (at : ℕ) (ps : List Piece) (r : Record) → recordAt file at ps ≡ r → Onward r
+    → checked file b at ps .answer ≡ Passed
     → events b (piecesAfter file r ps) ≡ events b ps ++ checked file b at ps .events
 events-after file b at ps (Code kind address from n) e o c =
     let p : Piece = record { kind = kind; address = address; code = part file from n; fields = [] } in
     events-code b p ps refl
-    ∙ ap (λ (es : List Event). events b ps ++ es) (sym (code-events file b at ps kind address from n e ∙ placing-passed _ _ _ _ (code-passed file b at ps kind address from n e c) .2))
+    ∙ ap (λ (es : List Event). events b ps ++ es)
+    (sym (code-events file b at ps kind address from n e ∙ placing-passed _ _ _ _ (code-passed file b at ps kind address from n e c) .2))
 events-after file b at ps (Fixups fixup from n) e o c =
     fields-events b (fieldsOf fixup (part file from n)) ps (fixups-after file at (lastOf ps) fixup from n e)
-    ∙ ap (λ (es : List Event). events b ps ++ es) (sym (fixups-events file b at ps fixup from n e ∙ adjusting-all b _ _ _ _ (fixups-passed file b at ps fixup from n e c)))
+    ∙ ap (λ (es : List Event). events b ps ++ es)
+    (sym (fixups-events file b at ps fixup from n e ∙ adjusting-all b _ _ _ _ (fixups-passed file b at ps fixup from n e c)))
 events-after file b at ps (End entry next) e o c = absurd o
 events-after file b at ps (Faulty fault) e o c = absurd o
 
@@ -98,7 +103,8 @@ placed-after file b at ps kind address from n h =
     )
 
 pub adjusted-after : (b : Bases) (fs : List Field) (ps : List Piece) → Moving (lastOf ps)
-    → (placedIn (events b (withFields fs ps)) ≡ placedIn (events b ps)) × (adjustedIn (events b (withFields fs ps)) ≡ adjustedIn (events b ps) + length fs)
+    → (placedIn (events b (withFields fs ps)) ≡ placedIn (events b ps))
+    × (adjustedIn (events b (withFields fs ps)) ≡ adjustedIn (events b ps) + length fs)
 adjusted-after b fs ps m =
     let e = fields-events b fs ps m in
     let es = adjustments b (lastPlace b ps) fs in (
@@ -106,12 +112,14 @@ adjusted-after b fs ps m =
       ap adjustedIn e ∙ adjusted-append (events b ps) es ∙ omega (arith, adjusted-adjustments b (lastPlace b ps) fs),
     )
 
-fields-inside : (b : Bases) (fs : List Field) (ps : List Piece) → lastPlace b (withFields fs ps) + lastSize (withFields fs ps) ≡ lastPlace b ps + lastSize ps
+fields-inside : (b : Bases) (fs : List Field) (ps : List Piece)
+    → lastPlace b (withFields fs ps) + lastSize (withFields fs ps) ≡ lastPlace b ps + lastSize ps
 fields-inside b fs [] = refl
 fields-inside b fs (p ∷ ps) = refl
 
 -- every record that passes leads to where a walk can stand
-pub stands-on : (file : List ℕ) (b : Bases) (at : ℕ) (ps : List Piece) (r : Record) → at ≤ length file → Stands b at ps → recordAt file at ps ≡ r → Onward r
+pub stands-on : (file : List ℕ) (b : Bases) (at : ℕ) (ps : List Piece) (r : Record) → at ≤ length file → Stands b at ps
+    → recordAt file at ps ≡ r → Onward r
     → checked file b at ps .answer ≡ Passed → Stands b (nextOf r) (piecesAfter file r ps)
 stands-on file b at ps (Code kind address from n) l h e o c =
     let w = lies-as file at (lastOf ps) _ e in

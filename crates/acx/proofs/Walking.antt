@@ -63,7 +63,8 @@ onward len at (Faulty fault) w o = absurd o
 -- ---- the count does not matter
 
 -- two ways to go on that agree further on
-judge-same : (go go′ : ℕ → List Piece → Ran Verdict) (file : List ℕ) (b : Bases) (at : ℕ) (ps : List Piece) (es : List Event) (c : Check) (r : Record)
+judge-same : (go go′ : ℕ → List Piece → Ran Verdict) (file : List ℕ) (b : Bases) (at : ℕ) (ps : List Piece) (es : List Event) (c : Check)
+    (r : Record)
     → Where (length file) at r → ((e : ℕ) (qs : List Piece) → at + 2 ≤ e → e ≤ length file → go e qs ≡ go′ e qs)
     → judge go file b at ps es c r ≡ judge go′ file b at ps es c r
 judge-same go go′ file b at ps es (Failed fault) r w h = refl
@@ -79,15 +80,18 @@ unfolding walk
 enough file b zero k at ps l h i = absurd (omega arith)
 enough file b (suc j) zero at ps l h i = absurd (omega arith)
 enough file b (suc j) (suc k) at ps l h i =
-    judge-same (λ e qs. walk j file b e qs) (λ e qs. walk k file b e qs) file b at ps (checked file b at ps .events) (checked file b at ps .answer) (recordAt file at ps) (lies-as file at (lastOf ps) _ refl)
+    judge-same (λ e qs. walk j file b e qs) (λ e qs. walk k file b e qs) file b at ps (checked file b at ps .events)
+    (checked file b at ps .answer) (recordAt file at ps) (lies-as file at (lastOf ps) _ refl)
     (λ e qs p q. enough file b j k e qs q (omega arith) (omega arith))
 
 -- the records from an offset on: the one there decides, and those after it go on from where it leads
 pub from-step : (file : List ℕ) (b : Bases) (at : ℕ) (ps : List Piece) → at ≤ length file
-    → from file b at ps ≡ judge (λ e qs. from file b e qs) file b at ps (checked file b at ps .events) (checked file b at ps .answer) (recordAt file at ps)
+    → from file b at ps ≡ judge (λ e qs. from file b e qs) file b at ps (checked file b at ps .events) (checked file b at ps .answer)
+    (recordAt file at ps)
 unfolding from walk
 from-step file b at ps l =
-    judge-same (λ e qs. walk (length file - at) file b e qs) (λ e qs. walk (suc (length file - e)) file b e qs) file b at ps (checked file b at ps .events) (checked file b at ps .answer) (recordAt file at ps)
+    judge-same (λ e qs. walk (length file - at) file b e qs) (λ e qs. walk (suc (length file - e)) file b e qs) file b at ps
+    (checked file b at ps .events) (checked file b at ps .answer) (recordAt file at ps)
     (lies-as file at (lastOf ps) _ refl)
     (λ e qs p q. enough file b (length file - at) (suc (length file - e)) e qs q (omega arith) (omega arith))
 
@@ -100,7 +104,8 @@ from-onward file b at ps r l e o c =
     ∙ ap (λ (q : Record). judge (λ e qs. from file b e qs) file b at ps (checked file b at ps .events) Passed q) e
     ∙ goes r o
   where
-    goes : (r : Record) → Onward r → judge (λ e qs. from file b e qs) file b at ps (checked file b at ps .events) Passed r ≡ from file b (nextOf r) (piecesAfter file r ps)
+    goes : (r : Record) → Onward r
+        → judge (λ e qs. from file b e qs) file b at ps (checked file b at ps .events) Passed r ≡ from file b (nextOf r) (piecesAfter file r ps)
     goes (Code kind address from n) o = refl
     goes (Fixups fixup from n) o = refl
     goes (End entry next) o = absurd o
@@ -114,7 +119,8 @@ pub refused-accepted : (fault : Fault) (at : ℕ) (ps : List Piece) (start : Sta
 refused-accepted fault at ps start e = false≢true (ap isAccepted e)
 
 -- the end record does nothing
-pub end-none : (file : List ℕ) (b : Bases) (at : ℕ) (ps : List Piece) (entry : Entry) (next : ℕ) → recordAt file at ps ≡ End entry next → checked file b at ps .events ≡ []
+pub end-none : (file : List ℕ) (b : Bases) (at : ℕ) (ps : List Piece) (entry : Entry) (next : ℕ) → recordAt file at ps ≡ End entry next
+    → checked file b at ps .events ≡ []
 unfolding checked applied
 end-none file b at ps entry next e = rw e (ending-none b entry next (length file))
 
@@ -136,12 +142,15 @@ Ended P len b (accepted ps start) es = (at : ℕ) × (at ≤ len) × P at ps × 
 Ended P len b (refused fault at) es = Unit {0}
 
 module _ (file : List ℕ) (b : Bases) (P : ℕ → List Piece → Type 0)
-    (keeps : (at : ℕ) (ps : List Piece) (r : Record) → at ≤ length file → P at ps → recordAt file at ps ≡ r → Onward r → checked file b at ps .answer ≡ Passed
+    (keeps : (at : ℕ) (ps : List Piece) (r : Record) → at ≤ length file → P at ps → recordAt file at ps ≡ r → Onward r
+    → checked file b at ps .answer ≡ Passed
     → P (nextOf r) (piecesAfter file r ps)) where
-  ends : (go : ℕ → List Piece → Ran Verdict) (at : ℕ) (ps : List Piece) (c : Check) (r : Record) → at ≤ length file → P at ps → recordAt file at ps ≡ r
+  ends : (go : ℕ → List Piece → Ran Verdict) (at : ℕ) (ps : List Piece) (c : Check) (r : Record) → at ≤ length file → P at ps
+      → recordAt file at ps ≡ r
       → checked file b at ps .answer ≡ c
       → ((e : ℕ) (qs : List Piece) → e ≤ length file → P e qs → Ended P (length file) b (go e qs .answer) (go e qs .events))
-      → Ended P (length file) b (judge go file b at ps (checked file b at ps .events) c r .answer) (judge go file b at ps (checked file b at ps .events) c r .events)
+      → Ended P (length file) b (judge go file b at ps (checked file b at ps .events) c r .answer)
+      (judge go file b at ps (checked file b at ps .events) c r .events)
   ends go at ps (Failed fault) r l h e c g = tt
   ends go at ps Passed (Code kind address from n) l h e c g = g _ _ (lies-as file at (lastOf ps) _ e .1) (keeps at ps _ l h e tt c)
   ends go at ps Passed (Fixups fixup from n) l h e c g = g _ _ (lies-as file at (lastOf ps) _ e .1) (keeps at ps _ l h e tt c)
@@ -149,13 +158,15 @@ module _ (file : List ℕ) (b : Bases) (P : ℕ → List Piece → Type 0)
       (at, l, h, ap (λ (es : List Event). events b ps ++ es) (end-none file b at ps entry next e) ∙ append-nil (events b ps))
   ends go at ps Passed (Faulty fault) l h e c g = tt
 
-  walk-keeps : (k at : ℕ) (ps : List Piece) → at ≤ length file → P at ps → Ended P (length file) b (walk k file b at ps .answer) (walk k file b at ps .events)
+  walk-keeps : (k at : ℕ) (ps : List Piece) → at ≤ length file → P at ps
+      → Ended P (length file) b (walk k file b at ps .answer) (walk k file b at ps .events)
   unfolding walk
   walk-keeps zero at ps l h = tt
   walk-keeps (suc k) at ps l h =
       ends (λ e qs. walk k file b e qs) at ps (checked file b at ps .answer) (recordAt file at ps) l h refl refl (λ e qs m g. walk-keeps k e qs m g)
 
-  from-keeps : (at : ℕ) (ps : List Piece) → at ≤ length file → P at ps → Ended P (length file) b (from file b at ps .answer) (from file b at ps .events)
+  from-keeps : (at : ℕ) (ps : List Piece) → at ≤ length file → P at ps
+      → Ended P (length file) b (from file b at ps .answer) (from file b at ps .events)
   unfolding from
   from-keeps at ps l h = walk-keeps (suc (length file - at)) at ps l h
 

@@ -183,7 +183,8 @@ code-short : (file : List ℕ) (at : ℕ) (kind : Kind) → Bytes file → Short
 unfolding readCode
 code-short file at kind b =
     let n = b (at + 1) in
-    on-need Faulty Short none _ _ _ (λ _. on-need Faulty Short none _ _ _ (λ _. on-need Faulty Short none _ _ _ (λ _. record { few = omega arith })))
+    on-need Faulty Short none _ _ _
+    (λ _. on-need Faulty Short none _ _ _ (λ _. on-need Faulty Short none _ _ _ (λ _. record { few = omega arith })))
 
 -- a fixup record is no code
 fixups-short : (file : List ℕ) (at : ℕ) (last : Last) (kind : Kind) (fixup : Fixup) → Short (readFixups file at last kind fixup)

@@ -1,4 +1,5 @@
--- `acx::adjust_field` meets its contract: the index and the map decide as the definition says; the part of the map that is lent comes back marked, that of memory adjusted.
+-- `acx::adjust_field` meets its contract: the index and the map decide as the definition says; the part of the map that is lent comes back
+-- marked, that of memory adjusted.
 -- Assumes nothing.
 use mathlib.Core.List.{List}
 use mathlib.Core.Path.{sym, ap, _∙_}
@@ -50,7 +51,9 @@ returns-2 c =
     let i = c .before .before .before .before .before in
     let w = i .before .before .width in
     let a = i .before .before .before .before .before .args in
-    adjusting-twice _ _ _ _ _ _ _ _ (w .ensures) (i .if1 .left) (ap (λ (l : List ℕ). contains 3 l) (sym (lent-is (a .place + a .field .index) (w .result) (a .map .now))) ∙ sym (c .before .contains .ensures) ∙ c .if2 .taken)
+    adjusting-twice _ _ _ _ _ _ _ _ (w .ensures) (i .if1 .left)
+    (ap (λ (l : List ℕ). contains 3 l) (sym (lent-is (a .place + a .field .index) (w .result) (a .map .now)))
+    ∙ sym (c .before .contains .ensures) ∙ c .if2 .taken)
 
 sub-fill : tie.Need-sub-fill
 sub-fill c = search needs
@@ -96,12 +99,14 @@ returns-3 c =
     let w = i .before .before .width in
     let s = i .before .before .before .before .before in
     let a = s .args in
-    let free = ap (λ (l : List ℕ). contains 3 l) (sym (lent-is (a .place + a .field .index) (w .result) (a .map .now))) ∙ sym (t .before .contains .ensures) ∙ t .if2 .left in
+    let free = ap (λ (l : List ℕ). contains 3 l) (sym (lent-is (a .place + a .field .index) (w .result) (a .map .now)))
+    ∙ sym (t .before .contains .ensures) ∙ t .if2 .left in
     let room : a .place + a .field .index + w .result ≤ length (a .map .now) = omega (arith, s .pre, i .if1 .left) in
     let whole : a .place + a .size ≤ length (a .memory .now) = omega (arith, s .pre) in
     let inside = rw (w .ensures) at (i .if1 .left) in
     adjusting-done _ _ _ _ _ _ _ _ (w .ensures) _ _ (i .if1 .left) free
-    (added _ _ _ _ _ _ _ _ (c .before .before .before .before .before .if3 .taken) (c .before .before .before .amount .ensures) whole inside (c .before .before .add .ensures))
+    (added _ _ _ _ _ _ _ _ (c .before .before .before .before .before .if3 .taken) (c .before .before .before .amount .ensures) whole inside
+    (c .before .before .add .ensures))
     (filled _ _ 3 _ _ room (f .fill .ensures))
 
 same-length-4 : tie.Need-same-length-4
@@ -115,7 +120,8 @@ returns-4 c =
     let w = i .before .before .width in
     let s = i .before .before .before .before .before in
     let a = s .args in
-    let free = ap (λ (l : List ℕ). contains 3 l) (sym (lent-is (a .place + a .field .index) (w .result) (a .map .now))) ∙ sym (t .before .contains .ensures) ∙ t .if2 .left in
+    let free = ap (λ (l : List ℕ). contains 3 l) (sym (lent-is (a .place + a .field .index) (w .result) (a .map .now)))
+    ∙ sym (t .before .contains .ensures) ∙ t .if2 .left in
     let room : a .place + a .field .index + w .result ≤ length (a .map .now) = omega (arith, s .pre, i .if1 .left) in
     adjusting-done _ _ _ _ _ _ _ _ (w .ensures) _ _ (i .if1 .left) free (stayed _ _ _ (c .if3 .left)) (filled _ _ 3 _ _ room (f .fill .ensures))
 

@@ -1,4 +1,5 @@
--- `acx::adjust_fields` meets its contract: the definition's list of fields has come to the field at hand, with the memory and the map that the fields before it left (`Adjusting`).
+-- `acx::adjust_fields` meets its contract: the definition's list of fields has come to the field at hand, with the memory and the map that
+-- the fields before it left (`Adjusting`).
 -- Assumes nothing.
 use mathlib.Core.Path.{_≡_}
 use Prim.Native.Nat.{_-_, _≤_}
@@ -12,7 +13,9 @@ use Rattle.acx.proofs.adjust_fields.Statement.{statement}
 use Rattle.acx.proofs.adjust_fields.Tie as tie
 
 abbrev Inv-loop : tie.InvT-loop
-Inv-loop items fixup bases cursor write memory₀ map₀ step i₀ memory map i = (i ≤ length items) × (step ≡ itemSize fixup) × (length memory ≡ 65536) × (length map ≡ 65536) × Adjusting bases (cursor .place) (cursor .size) write (fieldsOf fixup items) memory₀ map₀ (fieldsOf fixup (drop i items)) memory map
+Inv-loop items fixup bases cursor write memory₀ map₀ step i₀ memory map i = (i ≤ length items) × (step ≡ itemSize fixup)
+    × (length memory ≡ 65536) × (length map ≡ 65536)
+    × Adjusting bases (cursor .place) (cursor .size) write (fieldsOf fixup items) memory₀ map₀ (fieldsOf fixup (drop i items)) memory map
 
 abbrev μ-loop : tie.MeasureT-loop
 μ-loop items fixup bases cursor write memory₀ map₀ step i₀ memory map i = length items - i
@@ -23,7 +26,7 @@ item-size-requires c κs = search needs
 loop-holds : tie.Need-loop-holds Inv-loop μ-loop
 loop-holds c =
     let s = c .before .before .before .before in
-    (omega arith, c .item-size .ensures, s .pre .2, s .pre .3, adjusting-none _ _ _ _ _ _ _)
+    (omega arith, c .item-size .ensures, s .pre .2, s .pre .3, adjusting-none)
 
 add-loop : tie.Need-add-loop Inv-loop μ-loop
 add-loop c =
@@ -55,7 +58,8 @@ returns c =
     let a = c .before .before .before .before .before .before .before in
     let f = a .before .before .before in
     let l = f .before .before .loop in
-    adjusting-fails _ _ _ _ _ _ _ _ _ _ _ _ _ _ _ (next-field _ _ _ _ _ (l .inv .1) (f .before .loop-test .taken) (f .field-at .ensures .0)) (l .inv .4) (a .adjust-field .ensures) _ (c .before .check .given .1)
+    adjusting-fails (next-field _ _ _ _ _ (l .inv .1) (f .before .loop-test .taken) (f .field-at .ensures .0)) (l .inv .4)
+    (a .adjust-field .ensures) (c .before .check .given .1)
 
 enum-told : tie.Need-enum-told Inv-loop μ-loop
 enum-told c = search needs
@@ -81,7 +85,8 @@ loop-again c =
       e,
       search needs,
       search needs,
-      adjusting-more _ _ _ _ _ _ _ _ _ _ _ _ _ _ _ (next-field _ _ _ _ _ e (f .before .loop-test .taken) (f .field-at .ensures .0)) (l .inv .4) (a .adjust-field .ensures) (c .enum-told .given .1),
+      adjusting-more (next-field _ _ _ _ _ e (f .before .loop-test .taken) (f .field-at .ensures .0)) (l .inv .4) (a .adjust-field .ensures)
+          (c .enum-told .given .1),
     )
 
 same-length-3 : tie.Need-same-length-3 Inv-loop μ-loop
@@ -93,7 +98,7 @@ same-length-4 c = search needs
 returns-2 : tie.Need-returns-2 Inv-loop μ-loop
 returns-2 c =
     let l = c .before .loop in
-    adjusting-end _ _ _ _ _ _ _ _ _ _ (last-field _ _ _ _ (l .inv .1) (c .loop-test .left)) (l .inv .4)
+    adjusting-end (last-field _ _ _ _ (l .inv .1) (c .loop-test .left)) (l .inv .4)
 
 pub adjust-fields-spec : {M : Type 1} → statement M
 adjust-fields-spec =

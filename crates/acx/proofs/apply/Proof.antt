@@ -89,7 +89,8 @@ returns c =
     let o = c .before .before .before .before in
     let l = o .before .before .before in
     let g = l .before .before in
-    applied-code _ _ _ _ _ _ _ _ _ _ _ _ _ _ _ _ _ (g .before .before .found .given .1) (g .place-of .ensures .0) (l .limit .ensures .0) (o .place-code .ensures)
+    applied-code _ _ _ _ _ _ _ _ _ _ _ _ _ _ _ _ _ (g .before .before .found .given .1) (g .place-of .ensures .0) (l .limit .ensures .0)
+    (o .place-code .ensures)
 
 same-length-3 : tie.Need-same-length-3
 same-length-3 c = search needs

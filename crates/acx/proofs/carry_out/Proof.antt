@@ -1,4 +1,5 @@
--- `acx::carry_out` meets its contract: the first walk left memory alone; where it refused, the map is cleared, and where it did not, the second walk does what it said.
+-- `acx::carry_out` meets its contract: the first walk left memory alone; where it refused, the map is cleared, and where it did not, the
+-- second walk does what it said.
 -- Assumes nothing.
 use mathlib.Core.Path.{_∙_}
 use borrow.Author.Needs.{needs}
@@ -26,7 +27,8 @@ returns c =
     let k = c .before .before .before .before .before in
     let o = k .before .before .before .before .before .before in
     let s = o .before .before .before .before .before .before in
-    carried-refused _ _ _ _ _ _ _ _ _ (o .walk-file .ensures) (k .checked .given .1) (cleared _ _ (o .walk-file .kept .1 .1 .1 .1 .1 .0 ∙ s .pre .2) (c .before .before .fill .ensures))
+    carried-refused (o .walk-file .ensures) (k .checked .given .1)
+    (cleared _ _ (o .walk-file .kept .1 .1 .1 .1 .1 .0 ∙ s .pre .2) (c .before .before .fill .ensures))
 
 enum-told : tie.Need-enum-told
 enum-told c = search needs
@@ -44,7 +46,7 @@ returns-2 : tie.Need-returns-2
 returns-2 c =
     let k = c .before .before .before .before .before .before .before in
     let o = k .before .before .before .before .before .before in
-    carried-accepted _ _ _ _ _ _ _ _ _ _ _ _ _ (o .walk-file .ensures) (k .enum-told .given .1) (c .before .before .before .before .walk-file2 .ensures)
+    carried-accepted (o .walk-file .ensures) (k .enum-told .given .1) (c .before .before .before .before .walk-file2 .ensures)
 
 pub carry-out-spec : {M : Type 1} → statement M
 carry-out-spec =

@@ -25,7 +25,8 @@ returns : tie.Need-returns
 returns c =
     let t = c .before .before .before .before .before in
     let s = t .before .before .before .before .before in
-    load-range _ _ _ _ _ (sym (t .before .in-range .ensures) ∙ not-true _ (t .if1 .taken)) (c .refused .ensures) (cleared _ _ (s .pre .1) (c .before .before .before .fill .ensures))
+    load-range _ _ _ _ _ (sym (t .before .in-range .ensures) ∙ not-true _ (t .if1 .taken)) (c .refused .ensures)
+    (cleared _ _ (s .pre .1) (c .before .before .before .fill .ensures))
 
 fill-requires-2 : tie.Need-fill-requires-2
 fill-requires-2 c κs = search needs
@@ -40,7 +41,9 @@ returns-2 : tie.Need-returns-2
 returns-2 c =
     let t = c .before .before .before .before .before .before in
     let s = t .before .before .before .before .before in
-    load-long _ _ _ (sym (t .before .in-range .ensures) ∙ not-false _ (t .if1 .left)) _ _ (c .before .before .before .before .before .if2 .taken) (c .refused2 .ensures) (cleared _ _ (s .pre .1) (c .before .before .before .fill2 .ensures))
+    load-long _ _ _ (sym (t .before .in-range .ensures) ∙ not-false _ (t .if1 .left)) _ _
+    (c .before .before .before .before .before .if2 .taken) (c .refused2 .ensures)
+    (cleared _ _ (s .pre .1) (c .before .before .before .fill2 .ensures))
 
 cast-t19 : tie.Need-cast-t19
 cast-t19 c =
@@ -72,7 +75,8 @@ returns-3 : tie.Need-returns-3
 returns-3 c =
     let f = c .before .before .before .before .before .before .before in
     let t = f .before .before in
-    load-carried _ _ _ (sym (t .before .in-range .ensures) ∙ not-false _ (t .if1 .left)) _ _ _ _ (f .before .if2 .left) (f .form-of .ensures) (c .before .before .before .before .carry-out .ensures)
+    load-carried _ _ _ (sym (t .before .in-range .ensures) ∙ not-false _ (t .if1 .left)) _ _ _ _ (f .before .if2 .left) (f .form-of .ensures)
+    (c .before .before .before .before .carry-out .ensures)
 
 pub load-sized-spec : {M : Type 1} → statement M
 load-sized-spec =

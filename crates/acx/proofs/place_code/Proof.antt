@@ -1,4 +1,5 @@
--- `acx::place_code` meets its contract: the room and the map decide as the definition says; the part of the map that is lent comes back marked, that of memory with the code in it.
+-- `acx::place_code` meets its contract: the room and the map decide as the definition says; the part of the map that is lent comes back
+-- marked, that of memory with the code in it.
 -- Assumes nothing.
 use mathlib.Core.Path.{sym, ap, _∙_}
 use Prim.Native.Nat.{_+_, _≤_}
@@ -38,7 +39,8 @@ returns-2 : tie.Need-returns-2
 returns-2 c =
     let z = c .before .is-zero in
     let a = c .before .before .before .before .before .before .before .before .args in
-    placing-taken _ _ _ _ _ _ (c .before .before .before .before .if1 .left) (ap allZero (sym (lent-is (a .place) (length (a .code .now)) (a .map .now))) ∙ sym (z .ensures) ∙ not-true _ (c .if2 .taken))
+    placing-taken _ _ _ _ _ _ (c .before .before .before .before .if1 .left)
+    (ap allZero (sym (lent-is (a .place) (length (a .code .now)) (a .map .now))) ∙ sym (z .ensures) ∙ not-true _ (c .if2 .taken))
 
 sub-fill : tie.Need-sub-fill
 sub-fill c = search needs
@@ -78,9 +80,12 @@ returns-3 c =
     let i = z .before .before .before in
     let s = i .before .before .before .before in
     let a = s .args in
-    let free = ap allZero (sym (lent-is (a .place) (length (a .code .now)) (a .map .now))) ∙ sym (z .is-zero .ensures) ∙ not-false _ (t .if2 .left) in
+    let free = ap allZero (sym (lent-is (a .place) (length (a .code .now)) (a .map .now))) ∙ sym (z .is-zero .ensures)
+    ∙ not-false _ (t .if2 .left) in
     let fits : a .place + length (a .code .now) ≤ 65536 = omega (arith, s .pre, i .if1 .left) in
-    placing-done _ _ _ _ _ _ _ _ (i .if1 .left) free (copied _ _ _ _ _ (c .before .before .before .before .if3 .taken) (omega (arith, s .pre)) (c .before .before .copy .ensures)) (filled _ _ 1 _ _ (omega (arith, s .pre)) (f .fill .ensures))
+    placing-done _ _ _ _ _ _ _ _ (i .if1 .left) free
+    (copied _ _ _ _ _ (c .before .before .before .before .if3 .taken) (omega (arith, s .pre)) (c .before .before .copy .ensures))
+    (filled _ _ 1 _ _ (omega (arith, s .pre)) (f .fill .ensures))
 
 same-length-4 : tie.Need-same-length-4
 same-length-4 c = search needs
@@ -93,7 +98,8 @@ returns-4 c =
     let i = z .before .before .before in
     let s = i .before .before .before .before in
     let a = s .args in
-    let free = ap allZero (sym (lent-is (a .place) (length (a .code .now)) (a .map .now))) ∙ sym (z .is-zero .ensures) ∙ not-false _ (t .if2 .left) in
+    let free = ap allZero (sym (lent-is (a .place) (length (a .code .now)) (a .map .now))) ∙ sym (z .is-zero .ensures)
+    ∙ not-false _ (t .if2 .left) in
     let fits : a .place + length (a .code .now) ≤ 65536 = omega (arith, s .pre, i .if1 .left) in
     placing-done _ _ _ _ _ _ _ _ (i .if1 .left) free (stayed _ _ _ (c .if3 .left)) (filled _ _ 1 _ _ (omega (arith, s .pre)) (f .fill .ensures))
 

@@ -10,7 +10,8 @@ use Rattle.acx.proofs.walk.Statement.{statement}
 use Rattle.acx.proofs.walk.Tie as tie
 
 abbrev Inv-loop : tie.InvT-loop
-Inv-loop file at bases write memory₀ map₀ cursor₀ memory map cursor = (length memory ≡ 65536) × (length map ≡ 65536) × Going file bases at write memory₀ cursor memory map
+Inv-loop file at bases write memory₀ map₀ cursor₀ memory map cursor = (length memory ≡ 65536) × (length map ≡ 65536)
+    × Going file bases at write memory₀ cursor memory map
 
 abbrev μ-loop : tie.MeasureT-loop
 μ-loop file at bases write memory₀ map₀ cursor₀ memory map cursor = length file - cursor .at
@@ -18,7 +19,7 @@ abbrev μ-loop : tie.MeasureT-loop
 loop-holds : tie.Need-loop-holds Inv-loop μ-loop
 loop-holds c =
     let s = c .before .before .before in
-    (s .pre .2, s .pre .3, going-first _ _ _ _ _ _ (s .pre .4) (s .pre .1))
+    (s .pre .2, s .pre .3, going-first (s .pre .4) (s .pre .1))
 
 read-requires : tie.Need-read-requires Inv-loop μ-loop
 read-requires c κs = search needs
@@ -27,7 +28,7 @@ apply-requires : tie.Need-apply-requires Inv-loop μ-loop
 apply-requires c κs =
     let l = c .before .before .before .loop in
     let s = c .before .before .before .before .before .before .before in
-    (s .pre .0, c .before .before .read .ensures, going-inside _ _ _ _ _ _ _ _ (l .inv .2), l .inv .0, l .inv .1)
+    (s .pre .0, c .before .before .read .ensures, going-inside (l .inv .2), l .inv .0, l .inv .1)
 
 enum-known-check : tie.Need-enum-known-check Inv-loop μ-loop
 enum-known-check c = search needs
@@ -49,7 +50,7 @@ returns c =
     let o = c .before .before .before .before .before .before .before .before in
     let f = o .before .before .before in
     let l = f .before .loop in
-    going-fails _ _ _ _ _ _ _ _ (l .inv .2) _ _ _ _ (f .read .ensures) (o .apply .ensures) _ (c .before .before .check .given .1)
+    going-fails (l .inv .2) (f .read .ensures) (o .apply .ensures) (c .before .before .check .given .1)
 
 enum-told : tie.Need-enum-told Inv-loop μ-loop
 enum-told c = search needs
@@ -63,8 +64,9 @@ accepted-requires c κs =
     let f = o .before .before .before in
     let l = f .before .loop in
     let s = f .before .before .before .before .before in
-    let k = going-counts _ _ _ _ _ _ _ _ (l .inv .2) in
-    let fits = going-start _ _ _ _ _ _ _ _ (l .inv .2) _ _ _ _ (f .read .ensures) (o .apply .ensures) _ _ (c .before .before .before .enum-told .given .1) (c .before .found .given .1) in
+    let k = going-counts (l .inv .2) in
+    let fits = going-start (l .inv .2) (f .read .ensures) (o .apply .ensures) (c .before .before .before .enum-told .given .1)
+    (c .before .found .given .1) in
     (fits, omega (arith, s .pre, k, l .inv .2 .in-file), omega (arith, s .pre, k, l .inv .2 .in-file))
 
 same-length-3 : tie.Need-same-length-3 Inv-loop μ-loop
@@ -79,7 +81,8 @@ returns-2 c =
     let f = o .before .before .before in
     let l = f .before .loop in
     rw (c .accepted .ensures)
-    (going-ends _ _ _ _ _ _ _ _ (l .inv .2) _ _ _ _ (f .read .ensures) (o .apply .ensures) _ _ (c .before .before .before .before .enum-told .given .1) (c .before .before .found .given .1))
+    (going-ends (l .inv .2) (f .read .ensures) (o .apply .ensures) (c .before .before .before .before .enum-told .given .1)
+    (c .before .before .found .given .1))
 
 advance-requires : tie.Need-advance-requires Inv-loop μ-loop
 advance-requires c κs =
@@ -87,17 +90,22 @@ advance-requires c κs =
     let f = o .before .before .before in
     let l = f .before .loop in
     let s = f .before .before .before .before .before in
-    let k = going-counts _ _ _ _ _ _ _ _ (l .inv .2) in
-    (omega (arith, s .pre, k, l .inv .2 .in-file), omega (arith, s .pre, k, l .inv .2 .in-file), going-ends-by _ _ _ _ _ _ _ _ (l .inv .2) _ _ _ _ (f .read .ensures) (o .apply .ensures) (s .pre .0))
+    let k = going-counts (l .inv .2) in (
+      omega (arith, s .pre, k, l .inv .2 .in-file),
+      omega (arith, s .pre, k, l .inv .2 .in-file),
+      going-ends-by (l .inv .2) (f .read .ensures)
+          (o .apply .ensures) (s .pre .0),
+    )
 
 loop-less : tie.Need-loop-less Inv-loop μ-loop
 loop-less c =
     let o = c .before .before .before .before .before .before .before .before in
     let f = o .before .before .before in
     let l = f .before .loop in
-    let on = going-onward _ _ _ _ _ _ _ _ (l .inv .2) _ _ _ _ (f .read .ensures) (o .apply .ensures) (c .before .before .enum-told .given .1) (c .before .match2 .keys2) in
-    let a = rw (← c .advance .ensures) at (going-further _ _ _ _ _ _ _ _ (l .inv .2) _ _ _ _ (f .read .ensures) (o .apply .ensures) on) in
-    let g = rw (← c .advance .ensures) at (going-on _ _ _ _ _ _ _ _ (l .inv .2) _ _ _ _ (f .read .ensures) (o .apply .ensures) (c .before .before .enum-told .given .1) on) in
+    let on = going-onward (l .inv .2) (f .read .ensures) (o .apply .ensures) (c .before .before .enum-told .given .1) (c .before .match2 .keys2) in
+    let a = rw (← c .advance .ensures) at (going-further (l .inv .2) (f .read .ensures) (o .apply .ensures) on) in
+    let g = rw (← c .advance .ensures) at
+    (going-on (l .inv .2) (f .read .ensures) (o .apply .ensures) (c .before .before .enum-told .given .1) on) in
     omega (arith, a, g .in-file)
 
 loop-again : tie.Need-loop-again Inv-loop μ-loop
@@ -105,8 +113,12 @@ loop-again c =
     let o = c .before .before .before .before .before .before .before .before in
     let f = o .before .before .before in
     let l = f .before .loop in
-    let on = going-onward _ _ _ _ _ _ _ _ (l .inv .2) _ _ _ _ (f .read .ensures) (o .apply .ensures) (c .before .before .enum-told .given .1) (c .before .match2 .keys2) in
-    (search needs, search needs, rw (c .advance .ensures) (going-on _ _ _ _ _ _ _ _ (l .inv .2) _ _ _ _ (f .read .ensures) (o .apply .ensures) (c .before .before .enum-told .given .1) on))
+    let on = going-onward (l .inv .2) (f .read .ensures) (o .apply .ensures) (c .before .before .enum-told .given .1) (c .before .match2 .keys2) in (
+      search needs,
+      search needs,
+      rw (c .advance .ensures)
+          (going-on (l .inv .2) (f .read .ensures) (o .apply .ensures) (c .before .before .enum-told .given .1) on),
+    )
 
 pub walk-spec : {M : Type 1} → statement M
 walk-spec =

@@ -26,7 +26,8 @@ returns : tie.Need-returns
 returns c =
     let f = c .before .before .before .before .before .before .before in
     let s = f .before .before .before .before .before in
-    file-refused _ _ _ _ _ _ (c .before .before .before .before .opening .ensures) _ _ _ (c .before .before .opened .given .1) (c .refused .ensures) (cleared _ _ (s .pre .2) (f .fill .ensures))
+    file-refused _ _ _ _ _ _ (c .before .before .before .before .opening .ensures) _ _ _ (c .before .before .opened .given .1)
+    (c .refused .ensures) (cleared _ _ (s .pre .2) (f .fill .ensures))
 
 enum-told : tie.Need-enum-told
 enum-told c = search needs
@@ -52,7 +53,9 @@ same-length-3 c = search needs
 returns-2 : tie.Need-returns-2
 returns-2 c =
     let g = c .before .before .before .before .before .before .before .before .before .before in
-    file-walked _ _ _ _ _ _ (g .opening .ensures) _ _ _ _ (c .before .before .before .before .before .before .before .before .enum-told .given .1) (c .before .before .before .before .before .before .before .opening-size .ensures) (c .before .before .before .before .walk .ensures)
+    file-walked _ _ _ _ _ _ (g .opening .ensures) _ _ _ _
+    (c .before .before .before .before .before .before .before .before .enum-told .given .1)
+    (c .before .before .before .before .before .before .before .opening-size .ensures) (c .before .before .before .before .walk .ensures)
 
 pub walk-file-spec : {M : Type 1} → statement M
 walk-file-spec =

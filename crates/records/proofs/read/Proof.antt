@@ -20,7 +20,8 @@ none-of-six : (t n : ℕ) → n ≤ t → t ≢ n → t ≢ n + 1 → t ≢ n + 
 none-of-six t n h h₀ h₁ h₂ h₃ h₄ h₅ = omega arith
 
 -- what its type says is what a record is read as
-as-type : (file : List ℕ) (at : ℕ) (last : Last) (t : ℕ) (r : Record) → at < length file → getD file at 0 ≡ t → r ≡ readAs file at last (getD types t unknown)
+as-type : (file : List ℕ) (at : ℕ) (last : Last) (t : ℕ) (r : Record) → at < length file → getD file at 0 ≡ t
+    → r ≡ readAs file at last (getD types t unknown)
     → r ≡ readOf file at last
 unfolding readOf need
 as-type file at last t r h e d = simp (lt-ltb _ _ h, e) d

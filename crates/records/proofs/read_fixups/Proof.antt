@@ -1,4 +1,5 @@
--- `records::read_fixups` meets its contract: each return is the branch of the definition that the tests and the answers of the two calls before it choose.
+-- `records::read_fixups` meets its contract: each return is the branch of the definition that the tests and the answers of the two calls
+-- before it choose.
 -- Assumes nothing.
 use borrow.Author.Needs.{needs}
 use borrow.Author.Tests.{le-leb, lt-leb, not-true, not-false}
