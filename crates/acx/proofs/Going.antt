@@ -31,15 +31,28 @@ use Rattle.acx.proofs.Events.{Reached, reached-none, reached-more}
 use Rattle.acx.proofs.Standing.{Stands, stands-first, stands-on, events-after, placed-after, adjusted-after}
 use Rattle.acx.proofs.Walking.{nextOf, piecesAfter, Onward, onward, from-step, from-onward, end-none}
 use Rattle.acx.specs.AtBases.{startOf, ending, applied}
+use Rattle.acx.specs.Cursor.{EndsBy, advanced}
 use Rattle.acx.specs.Events.{Event, marks, blank, placedIn, adjustedIn, Ran, Did}
 use Rattle.acx.specs.Pieces.{Piece, events}
-use Rattle.acx.specs.Walk.{Verdict, accepted, lastOf, lastSize, recordAt, checked, withFields, judge, from, reported, cursorOf, EndsBy, advanced}
+use Rattle.acx.specs.Walk.{Verdict, accepted, lastOf, lastPlace, lastSize, recordAt, checked, withFields, judge, from, reported}
 use Rattle.acx.specs.declared.Bases.{Bases}
 use Rattle.acx.specs.declared.Check.{Check}
 use Rattle.acx.specs.declared.Check.the-variants.{Passed, Failed}
 use Rattle.acx.specs.declared.Cursor.{Cursor}
 
 -- ---- the cursor
+
+-- where the program's cursor stands after some pieces
+abbrev pub cursorOf : Bases → ℕ → List Piece → Cursor
+cursorOf b at ps =
+    record {
+      at = at;
+      last = lastOf ps;
+      place = lastPlace b ps;
+      size = lastSize ps;
+      placed = placedIn (events b ps);
+      adjusted = adjustedIn (events b ps);
+    }
 
 cursor-same : (at : ℕ) (last : Last) (place n k i j s t : ℕ) → n ≡ k → i ≡ j → s ≡ t
     → _≡_ {A = Cursor} (record { at = at; last = last; place = place; size = n; placed = i; adjusted = s })

@@ -1,3 +1,4 @@
+-- Laws about the definitions of specs/. The loader keeps its contracts by:
 pub mod Events
 pub mod Checks
 pub mod Fields
@@ -6,10 +7,12 @@ pub mod Walking
 pub mod Standing
 pub mod Going
 pub mod Calling
+-- Demand 2, and what else holds of every accepted file:
 pub mod Lists
 pub mod Loads
 pub mod Marks
 pub mod Handlers
 pub mod Demand2
 pub mod Same
+-- Rows of the bench table:
 pub mod Bench

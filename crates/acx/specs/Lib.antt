@@ -1,6 +1,8 @@
+-- What the contracts of `acx` cite, in the order in which to read it; then demand 2, in the user's words.
 pub mod Events
 pub mod Pieces
 pub mod AtBases
 pub mod Walk
+pub mod Cursor
 pub mod Call
 pub mod Demand2

@@ -3,7 +3,7 @@
 -- after it looks at the count.
 -- Assumes nothing.
 use mathlib.Core.List.{List, [], _∷_, _++_}
-use Prim.Native.Nat.{ℕ, zero, suc, _+_, _-_, _/_, _≤_}
+use Prim.Native.Nat.{ℕ, zero, suc, _+_, _-_}
 use lib.Dec.{leb, eqb}
 use lib.ListN.{length}
 use Rattle.answer.specs.Checks.{need}
@@ -12,7 +12,7 @@ use Rattle.answer.specs.declared.Fault.the-variants.{WrongOpening, CutShort}
 use Rattle.answer.specs.declared.Outcome.{Outcome}
 use Rattle.answer.specs.declared.Outcome.the-variants.{Accepted, Refused}
 use Rattle.answer.specs.declared.Start.{Start}
-use Rattle.records.specs.Fields.{fieldsOf, itemSize}
+use Rattle.records.specs.Fields.{fieldsOf}
 use Rattle.records.specs.Records.{read}
 use Rattle.records.specs.declared.Field.{Field}
 use Rattle.records.specs.declared.Last.{Last}
@@ -23,11 +23,10 @@ use Rattle.words.specs.Numbers.{value}
 use Rattle.words.specs.Runs.{part}
 use Rattle.acx.specs.AtBases.{startOf, applied}
 use Rattle.acx.specs.Events.{Event, marks, blank, placedIn, adjustedIn, Ran}
-use Rattle.acx.specs.Pieces.{Piece, size, placeAt, placeOf, events}
+use Rattle.acx.specs.Pieces.{Piece, size, placeOf, events}
 use Rattle.acx.specs.declared.Bases.{Bases}
 use Rattle.acx.specs.declared.Check.{Check}
 use Rattle.acx.specs.declared.Check.the-variants.{Passed, Failed}
-use Rattle.acx.specs.declared.Cursor.{Cursor}
 use Rattle.acx.specs.declared.Form.{Form}
 use Rattle.acx.specs.declared.Form.the-variants.{Disk, Device}
 
@@ -74,7 +73,7 @@ judge go file b at ps es Passed (Fixups fixup from n) = go (from + n) (withField
 judge go file b at ps es Passed (End entry next) = record { answer = accepted ps (startOf b entry); events = events b ps ++ es }
 judge go file b at ps es Passed (Faulty fault) = record { answer = refused fault at; events = events b ps ++ es }
 
--- at most so many records, from an offset on, after the pieces ps
+-- at most so many records, from an offset on, after the pieces ps (by `from-step` the count never runs out)
 unfoldable pub walk : ℕ → List ℕ → Bases → ℕ → List Piece → Ran Verdict
 walk zero file b at ps = record { answer = refused CutShort at; events = events b ps }
 walk (suc k) file b at ps =
@@ -115,46 +114,3 @@ report (refused fault at) es = Refused fault at 0
 
 abbrev pub reported : Ran Verdict → Ran Outcome
 reported o = record { answer = report (o .answer) (o .events); events = o .events }
-
--- ---- the cursor, in which the program keeps where the walk stands
-
-abbrev pub cursorOf : Bases → ℕ → List Piece → Cursor
-cursorOf b at ps =
-    record {
-      at = at;
-      last = lastOf ps;
-      place = lastPlace b ps;
-      size = lastSize ps;
-      placed = placedIn (events b ps);
-      adjusted = adjustedIn (events b ps);
-    }
-
--- a record lies below an offset
-abbrev pub EndsBy : ℕ → Record → Type 0
-EndsBy offset (Code kind address from n) = from + n ≤ offset
-EndsBy offset (Fixups fixup from n) = from + n ≤ offset
-EndsBy offset (End entry next) = next ≤ offset
-EndsBy offset (Faulty fault) = Unit {0}
-
--- the cursor after a record that passed
-abbrev pub advanced : Bases → Cursor → Record → Cursor
-advanced b c (Code kind address from n) =
-    record {
-      at = from + n;
-      last = Of kind;
-      place = placeAt b kind address;
-      size = n;
-      placed = c .placed + n;
-      adjusted = c .adjusted;
-    }
-advanced b c (Fixups fixup from n) =
-    record {
-      at = from + n;
-      last = c .last;
-      place = c .place;
-      size = c .size;
-      placed = c .placed;
-      adjusted = c .adjusted + n / itemSize fixup;
-    }
-advanced b c (End entry next) = c
-advanced b c (Faulty fault) = c

@@ -22,7 +22,8 @@ ghost use Rattle.records.specs.Fields.{fieldsOf, widthOf};
 ghost use Rattle.acx.specs.Events.{blank, Did};
 ghost use Rattle.acx.specs.Pieces.{placeAt, limitOf, amountOf};
 ghost use Rattle.acx.specs.AtBases.{placing, adjusting, ending, startOf, applied};
-ghost use Rattle.acx.specs.Walk.{from, opening as openingOf, openingSize, judged, reported, EndsBy, advanced};
+ghost use Rattle.acx.specs.Walk.{from, opening as openingOf, openingSize, judged, reported};
+ghost use Rattle.acx.specs.Cursor.{EndsBy, advanced};
 ghost use Rattle.acx.specs.Call.{formOf, settings, usual, inRange, load as loadOf, Carried, Loaded};
 
 // The length of memory and of the map, and the most that a file has.

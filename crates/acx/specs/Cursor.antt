@@ -1,0 +1,40 @@
+-- The cursor, in which the program keeps where its walk stands. Only the contract of `advance` cites this.
+-- Assumes nothing.
+use Prim.Native.Nat.{ℕ, _+_, _/_, _≤_}
+use Rattle.records.specs.Fields.{itemSize}
+use Rattle.records.specs.declared.Last.the-variants.{Of}
+use Rattle.records.specs.declared.Record.{Record}
+use Rattle.records.specs.declared.Record.the-variants.{Code, Fixups, End, Faulty}
+use Rattle.acx.specs.Pieces.{placeAt}
+use Rattle.acx.specs.declared.Bases.{Bases}
+use Rattle.acx.specs.declared.Cursor.{Cursor}
+
+-- a record lies below an offset
+abbrev pub EndsBy : ℕ → Record → Type 0
+EndsBy offset (Code kind address from n) = from + n ≤ offset
+EndsBy offset (Fixups fixup from n) = from + n ≤ offset
+EndsBy offset (End entry next) = next ≤ offset
+EndsBy offset (Faulty fault) = Unit {0}
+
+-- the cursor after a record that passed
+abbrev pub advanced : Bases → Cursor → Record → Cursor
+advanced b c (Code kind address from n) =
+    record {
+      at = from + n;
+      last = Of kind;
+      place = placeAt b kind address;
+      size = n;
+      placed = c .placed + n;
+      adjusted = c .adjusted;
+    }
+advanced b c (Fixups fixup from n) =
+    record {
+      at = from + n;
+      last = c .last;
+      place = c .place;
+      size = c .size;
+      placed = c .placed;
+      adjusted = c .adjusted + n / itemSize fixup;
+    }
+advanced b c (End entry next) = c
+advanced b c (Faulty fault) = c
