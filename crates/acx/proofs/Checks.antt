@@ -21,7 +21,7 @@ use Rattle.words.specs.Numbers.{on, change}
 use Rattle.words.specs.Runs.{part, put, allZero, contains}
 use Rattle.acx.proofs.Events.{did-none}
 use Rattle.acx.specs.AtBases.{failed, passed, placing, adjusting}
-use Rattle.acx.specs.Events.{Event, place, markOne, marks, play, Ran, playIf, Did}
+use Rattle.acx.specs.Events.{Event, place, placedMark, adjustedMark, markOne, marks, play, Ran, playIf, Did}
 use Rattle.acx.specs.Pieces.{width, amountOf, adjustment, adjustments}
 use Rattle.acx.specs.declared.Bases.{Bases}
 use Rattle.acx.specs.declared.Check.{Check}
@@ -45,7 +45,7 @@ need-passed false fault o e = absurd (failed-passed fault e)
 -- ---- parts that were lent
 
 -- a part of the map that was filled with a mark
-pub filled : (a n v : ℕ) (p w : List ℕ) → a + n ≤ length p → w ≡ replicate (length (midOf a (a + n - a) p)) v
+filled : (a n v : ℕ) (p w : List ℕ) → a + n ≤ length p → w ≡ replicate (length (midOf a (a + n - a) p)) v
     → putMid a (a + n - a) p w ≡ put p a (replicate n v)
 filled a n v p w h e =
     let l : length (midOf a (a + n - a) p) ≡ n = ap length (lent-is a n p) ∙ length-part p a n h in
@@ -75,15 +75,20 @@ module _ (a limit : ℕ) (code : List ℕ) (write : Bool) (m p : List ℕ) where
   unfolding placing need
   placing-high h = rw (lt-leb _ _ h) (did-none _ write m p)
 
-  pub placing-taken : a + length code ≤ limit → allZero (part p a (length code)) ≡ false
+  pub placing-taken : a + length code ≤ limit → allZero (midOf a (a + length code - a) p) ≡ false
       → Did Check (placing a limit code p) write m p (Failed PiecesOverlap) m p
   unfolding placing need
-  placing-taken h z = rw (le-leb _ _ h, z) (did-none _ write m p)
+  placing-taken h z =
+      let z′ : allZero (part p a (length code)) ≡ false = rw (lent-is a (length code) p) at z in
+      rw (le-leb _ _ h, z′) (did-none _ write m p)
 
-  pub placing-done : (m′ p′ : List ℕ) → a + length code ≤ limit → allZero (part p a (length code)) ≡ true → m′ ≡ playIf write (place a code ∷ []) m
-      → p′ ≡ put p a (replicate (length code) 1) → Did Check (placing a limit code p) write m p Passed m′ p′
+  pub placing-done : (m′ w : List ℕ) → a + length code ≤ limit → a + length code ≤ length p → allZero (midOf a (a + length code - a) p) ≡ true
+      → w ≡ replicate (length (midOf a (a + length code - a) p)) placedMark → m′ ≡ playIf write (place a code ∷ []) m
+      → Did Check (placing a limit code p) write m p Passed m′ (putMid a (a + length code - a) p w)
   unfolding placing need marks
-  placing-done m′ p′ h z em ep = rw (le-leb _ _ h, z) (record { answer = refl; memory = em; map = ep })
+  placing-done m′ w h l z ew em =
+      let z′ : allZero (part p a (length code)) ≡ true = rw (lent-is a (length code) p) at z in
+      rw (le-leb _ _ h, z′) (record { answer = refl; memory = em; map = filled a (length code) placedMark p w l ew })
 
 -- code that passed has room below its limit, found nothing placed there, and is placed
 pub placing-passed : (a limit : ℕ) (code p : List ℕ) → placing a limit code p .answer ≡ Passed
@@ -109,26 +114,30 @@ module _ (b : Bases) (a n : ℕ) (f : Field) (write : Bool) (m p : List ℕ) (k 
   unfolding adjusting need
   adjusting-outside h = let g : n < f .index + width f = rw (← ek) h in rw (lt-leb _ _ g) (did-none _ write m p)
 
-  pub adjusting-twice : f .index + k ≤ n → contains 3 (part p (a + f .index) k) ≡ true
+  pub adjusting-twice : f .index + k ≤ n → contains adjustedMark (midOf (a + f .index) (a + f .index + k - (a + f .index)) p) ≡ true
       → Did Check (adjusting b a n (f ∷ []) p) write m p (Failed AdjustedTwice) m p
   unfolding adjusting need
   adjusting-twice h t =
       let g : f .index + width f ≤ n = rw (← ek) h in
-      let u : contains 3 (part p (a + f .index) (width f)) ≡ true = rw (← ek) t in
+      let u : contains adjustedMark (part p (a + f .index) (width f)) ≡ true = rw (lent-is (a + f .index) k p, ek) at t in
       rw (le-leb _ _ g, u) (did-none _ write m p)
 
-  pub adjusting-done : (m′ p′ : List ℕ) → f .index + k ≤ n → contains 3 (part p (a + f .index) k) ≡ false
+  pub adjusting-done : (m′ w : List ℕ) → f .index + k ≤ n → a + f .index + k ≤ length p
+      → contains adjustedMark (midOf (a + f .index) (a + f .index + k - (a + f .index)) p) ≡ false
+      → w ≡ replicate (length (midOf (a + f .index) (a + f .index + k - (a + f .index)) p)) adjustedMark
       → m′ ≡ playIf write (adjustment b a f ∷ []) m
-      → p′ ≡ put p (a + f .index) (replicate k 3) → Did Check (adjusting b a n (f ∷ []) p) write m p Passed m′ p′
+      → Did Check (adjusting b a n (f ∷ []) p) write m p Passed m′ (putMid (a + f .index) (a + f .index + k - (a + f .index)) p w)
   unfolding adjusting need marks
-  adjusting-done m′ p′ h t em ep =
+  adjusting-done m′ w h l t ew em =
       let g : f .index + width f ≤ n = rw (← ek) h in
-      let u : contains 3 (part p (a + f .index) (width f)) ≡ false = rw (← ek) t in
-      rw (le-leb _ _ g, u) (record { answer = refl; memory = em; map = ep ∙ ap (λ (j : ℕ). put p (a + f .index) (replicate j 3)) ek })
+      let u : contains adjustedMark (part p (a + f .index) (width f)) ≡ false = rw (lent-is (a + f .index) k p, ek) at t in
+      let e = filled (a + f .index) k adjustedMark p w l ew in
+      rw (le-leb _ _ g, u)
+      (record { answer = refl; memory = em; map = e ∙ ap (λ (j : ℕ). put p (a + f .index) (replicate j adjustedMark)) ek })
 
 -- a field that passed lies in the code, has no byte that was adjusted before, and is adjusted before the others
 pub adjusting-passed : (b : Bases) (a n : ℕ) (f : Field) (fs : List Field) (p : List ℕ) → adjusting b a n (f ∷ fs) p .answer ≡ Passed
-    → (f .index + width f ≤ n) × (contains 3 (part p (a + f .index) (width f)) ≡ false)
+    → (f .index + width f ≤ n) × (contains adjustedMark (part p (a + f .index) (width f)) ≡ false)
     × (adjusting b a n fs (markOne (adjustment b a f) p) .answer ≡ Passed)
     × (adjusting b a n (f ∷ fs) p .events ≡ adjustment b a f ∷ adjusting b a n fs (markOne (adjustment b a f) p) .events)
 unfolding adjusting
@@ -136,8 +145,13 @@ adjusting-passed b a n f fs p e =
     let x = need-passed _ _ _ e in
     let e₁ = ap (λ (o : Ran Check). o .answer) (sym (x .1)) ∙ e in
     let y = need-passed _ _ _ e₁ in
-    let e₂ = ap (λ (o : Ran Check). o .answer) (sym (y .1)) ∙ e₁ in
-    (leb-true _ _ (x .0), not-true (contains 3 (part p (a + f .index) (width f))) (y .0), e₂, ap (λ (o : Ran Check). o .events) (x .1 ∙ y .1))
+    let e₂ = ap (λ (o : Ran Check). o .answer) (sym (y .1)) ∙ e₁ in (
+      leb-true _ _ (x .0),
+      not-true (contains adjustedMark (part p (a + f .index) (width f))) (y .0),
+      e₂,
+      ap (λ (o : Ran Check). o .events)
+          (x .1 ∙ y .1),
+    )
   where
     not-true : (t : Bool) → not t ≡ true → t ≡ false
     not-true true h = sym h

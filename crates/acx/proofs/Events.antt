@@ -71,13 +71,6 @@ unfolding play marks
 did-none a true m p = record { answer = refl; memory = refl; map = refl }
 did-none a false m p = record { answer = refl; memory = refl; map = refl }
 
--- memory is written where write is true, and stays where it is false
-pub played : (write : Bool) (es : List Event) (m m′ : List ℕ) → write ≡ true → m′ ≡ play es m → m′ ≡ playIf write es m
-played write es m m′ w e = rw w e
-
-pub stayed : (write : Bool) (es : List Event) (m : List ℕ) → write ≡ false → m ≡ playIf write es m
-stayed write es m w = rw w
-
 -- where work stands after the events es: from memory m₀ and the map p₀ it has come to m and p
 pub record Reached (es : List Event) (write : Bool) (m₀ p₀ m p : List ℕ) : Type 0 where
   pub memory : m ≡ playIf write es m₀

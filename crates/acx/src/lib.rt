@@ -19,8 +19,8 @@ ghost use Rattle.answer.specs.Report.{address as addressOf};
 ghost use Rattle.answer.specs.declared.Outcome.the-variants.{Accepted, Refused};
 ghost use Rattle.records.specs.Records.{read as readOf};
 ghost use Rattle.records.specs.Fields.{fieldsOf, widthOf};
-ghost use Rattle.acx.specs.Events.{blank, Did};
-ghost use Rattle.acx.specs.Pieces.{placeAt, limitOf, amountOf};
+ghost use Rattle.acx.specs.Events.{place, blank, playIf, Did};
+ghost use Rattle.acx.specs.Pieces.{placeAt, limitOf, amountOf, adjustment};
 ghost use Rattle.acx.specs.AtBases.{placing, adjusting, ending, startOf, applied};
 ghost use Rattle.acx.specs.Walk.{from, opening as openingOf, openingSize, judged, reported};
 ghost use Rattle.acx.specs.Cursor.{EndsBy, advanced};
@@ -429,10 +429,19 @@ fn place_code(
         return Check::Failed(Fault::PiecesOverlap);
     }
     words::fill(&mut map[place..end], PLACED);
-    if write {
-        words::copy(&mut memory[place..end], code);
-    }
+    write_code(code, place, write, memory);
     Check::Passed
+}
+
+// The code in memory, where `write` is true.
+fn write_code(code: &[u8], at: usize, write: bool, memory: &mut [u8])
+    requires { ⌜ at + length (now code) ≤ length (now memory) ⌝ }
+    ensures { λ _. ⌜ now (memory .exit) ≡ playIf write (place at (now (code .entry)) ∷ []) (now (memory .entry)) ⌝ }
+{
+    if write {
+        let end = at + code.len();
+        words::copy(&mut memory[at..end], code);
+    }
 }
 
 // The fields of the last code record that a fixup record lists, one by one.
@@ -486,11 +495,19 @@ fn adjust_field(
         return Check::Failed(Fault::AdjustedTwice);
     }
     words::fill(&mut map[at..past], ADJUSTED);
-    if write {
-        let end = place + size;
-        add(&mut memory[place..end], field, amount(bases, field));
-    }
+    write_field(field, bases, place, size, write, memory);
     Check::Passed
+}
+
+// The field adjusted in memory, where `write` is true.
+fn write_field(field: Field, bases: Bases, at: usize, size: usize, write: bool, memory: &mut [u8])
+    requires { ⌜ (field .lsb < 256) × (field .index + widthOf (field .fixup) ≤ size) × (at + size ≤ length (now memory)) ⌝ }
+    ensures { λ _. ⌜ now (memory .exit) ≡ playIf write (adjustment bases at field ∷ []) (now (memory .entry)) ⌝ }
+{
+    if write {
+        let end = at + size;
+        add(&mut memory[at..end], field, amount(bases, field));
+    }
 }
 
 // An amount on a field of the code.

@@ -1,16 +1,10 @@
--- `acx::adjust_field` meets its contract: the index and the map decide as the definition says; the part of the map that is lent comes back
--- marked, that of memory adjusted.
+-- `acx::adjust_field` meets its contract: the index and the map decide as the definition says, and the part of the map that is lent comes
+-- back marked.
 -- Assumes nothing.
-use mathlib.Core.List.{List}
-use mathlib.Core.Path.{sym, ap, _∙_}
-use Prim.Native.Nat.{ℕ, _+_, _≤_}
+use mathlib.Core.Path.{sym, _∙_}
 use native.Mathlib.Omega.{arith}
 use borrow.Author.Needs.{needs}
-use lib.ListN.{length}
-use Rattle.words.proofs.Lent.{lent-is}
-use Rattle.words.specs.Runs.{contains}
-use Rattle.acx.proofs.Checks.{adjusting-outside, adjusting-twice, adjusting-done, filled, added, width-le}
-use Rattle.acx.proofs.Events.{stayed}
+use Rattle.acx.proofs.Checks.{width-le, adjusting-outside, adjusting-twice, adjusting-done}
 use Rattle.acx.proofs.adjust_field.Statement.{statement}
 use Rattle.acx.proofs.adjust_field.Tie as tie
 
@@ -49,11 +43,7 @@ same-length c = search needs
 returns-2 : tie.Need-returns-2
 returns-2 c =
     let i = c .before .before .before .before .before in
-    let w = i .before .before .width in
-    let a = i .before .before .before .before .before .args in
-    adjusting-twice _ _ _ _ _ _ _ _ (w .ensures) (i .if1 .left)
-    (ap (λ (l : List ℕ). contains 3 l) (sym (lent-is (a .place + a .field .index) (w .result) (a .map .now)))
-    ∙ sym (c .before .contains .ensures) ∙ c .if2 .taken)
+    adjusting-twice _ _ _ _ _ _ _ _ (i .before .before .width .ensures) (i .if1 .left) (sym (c .before .contains .ensures) ∙ c .if2 .taken)
 
 sub-fill : tie.Need-sub-fill
 sub-fill c = search needs
@@ -67,23 +57,8 @@ part-fill-end c = search needs
 fill-requires : tie.Need-fill-requires
 fill-requires c κs = search needs
 
-add-end : tie.Need-add-end
-add-end c = search needs
-
-sub-add : tie.Need-sub-add
-sub-add c = search needs
-
-part-add-start : tie.Need-part-add-start
-part-add-start c = search needs
-
-part-add-end : tie.Need-part-add-end
-part-add-end c = search needs
-
-amount-requires : tie.Need-amount-requires
-amount-requires c κs = search needs
-
-add-requires : tie.Need-add-requires
-add-requires c κs = search needs
+write-field-requires : tie.Need-write-field-requires
+write-field-requires c κs = search needs
 
 same-length-2 : tie.Need-same-length-2
 same-length-2 c = search needs
@@ -93,37 +68,12 @@ same-length-3 c = search needs
 
 returns-3 : tie.Need-returns-3
 returns-3 c =
-    let f = c .before .before .before .before .before .before .before .before in
+    let f = c .before .before .before .before .before .before in
     let t = f .before .before in
     let i = t .before .before .before .before .before in
-    let w = i .before .before .width in
     let s = i .before .before .before .before .before in
-    let a = s .args in
-    let free = ap (λ (l : List ℕ). contains 3 l) (sym (lent-is (a .place + a .field .index) (w .result) (a .map .now)))
-    ∙ sym (t .before .contains .ensures) ∙ t .if2 .left in
-    let room : a .place + a .field .index + w .result ≤ length (a .map .now) = omega (arith, s .pre, i .if1 .left) in
-    let whole : a .place + a .size ≤ length (a .memory .now) = omega (arith, s .pre) in
-    let inside = rw (w .ensures) at (i .if1 .left) in
-    adjusting-done _ _ _ _ _ _ _ _ (w .ensures) _ _ (i .if1 .left) free
-    (added _ _ _ _ _ _ _ _ (c .before .before .before .before .before .if3 .taken) (c .before .before .before .amount .ensures) whole inside
-    (c .before .before .add .ensures))
-    (filled _ _ 3 _ _ room (f .fill .ensures))
-
-same-length-4 : tie.Need-same-length-4
-same-length-4 c = search needs
-
-returns-4 : tie.Need-returns-4
-returns-4 c =
-    let f = c .before .before .before in
-    let t = f .before .before in
-    let i = t .before .before .before .before .before in
-    let w = i .before .before .width in
-    let s = i .before .before .before .before .before in
-    let a = s .args in
-    let free = ap (λ (l : List ℕ). contains 3 l) (sym (lent-is (a .place + a .field .index) (w .result) (a .map .now)))
-    ∙ sym (t .before .contains .ensures) ∙ t .if2 .left in
-    let room : a .place + a .field .index + w .result ≤ length (a .map .now) = omega (arith, s .pre, i .if1 .left) in
-    adjusting-done _ _ _ _ _ _ _ _ (w .ensures) _ _ (i .if1 .left) free (stayed _ _ _ (c .if3 .left)) (filled _ _ 3 _ _ room (f .fill .ensures))
+    adjusting-done _ _ _ _ _ _ _ _ (i .before .before .width .ensures) _ _ (i .if1 .left) (omega (arith, s .pre, i .if1 .left))
+    (sym (t .before .contains .ensures) ∙ t .if2 .left) (f .fill .ensures) (c .before .before .write-field .ensures)
 
 pub adjust-field-spec : {M : Type 1} → statement M
 adjust-field-spec =
@@ -144,14 +94,7 @@ adjust-field-spec =
     part-fill-start
     part-fill-end
     fill-requires
-    add-end
-    sub-add
-    part-add-start
-    part-add-end
-    amount-requires
-    add-requires
+    write-field-requires
     same-length-2
     same-length-3
-    returns-3
-    same-length-4
-    returns-4)
+    returns-3)
