@@ -34,7 +34,7 @@ pub record Result : Type 0 where
 abbrev pub got : Row → Result
 got w =
     let o = load (record { form = 1; main = w .main; zero = 128 }) (w .file) in
-    record { outcome = reported o .answer; memory = memoryAfter (o .answer) o blank; map = mapAfter (o .answer) o }
+    record { outcome = reported o .answer; memory = memoryAfter (o .answer) (o .events) blank; map = mapAfter (o .answer) (o .events) }
 
 abbrev pub wanted : Row → Result
 wanted w = record { outcome = w .outcome; memory = put blank (w .main) (w .memory); map = put blank (w .main) (w .map) }

@@ -94,21 +94,22 @@ range-bounds s e =
     let y = and-true (leb (s .form) 1) (leb (s .main) 65535) (x .0) in
     (leb-true _ _ (y .1), leb-true _ _ (x .1))
 
-module _ (s : Settings) (file m : List ℕ) where
-  pub load-range : (r : Outcome) (p′ : List ℕ) → inRange s ≡ false → r ≡ Refused SettingOutOfRange 0 0 → p′ ≡ blank → Carried (load s file) m r m p′
+module _ (s : Settings) (file : List ℕ) (write : Bool) (m : List ℕ) where
+  pub call-range : (r : Outcome) (p : List ℕ) → inRange s ≡ false → r ≡ Refused SettingOutOfRange 0 0 → p ≡ blank
+      → Did Outcome (reported (load s file)) write m blank r m p
   unfolding load need
-  load-range r p′ h er ep = rw h (record { outcome = er; memory = refl; map = ep })
+  call-range r p h er ep = rw (h, er, ep) (did-none _ write m blank)
 
   module _ (known : inRange s ≡ true) where
-    pub load-long : (r : Outcome) (p′ : List ℕ) → 65536 < length file → r ≡ Refused FileTooLong 0 0 → p′ ≡ blank → Carried (load s file) m r m p′
+    pub call-long : (r : Outcome) (p : List ℕ) → 65536 < length file → r ≡ Refused FileTooLong 0 0 → p ≡ blank
+        → Did Outcome (reported (load s file)) write m blank r m p
     unfolding load need
-    load-long r p′ h er ep = rw (known, lt-leb _ _ h) (record { outcome = er; memory = refl; map = ep })
+    call-long r p h er ep = rw (known, lt-leb _ _ h, er, ep) (did-none _ write m blank)
 
-    pub load-carried : (form : Form) (r : Outcome) (m′ p′ : List ℕ) → length file ≤ 65536 → form ≡ formOf (s .form)
-        → Carried (judged form file (basesOf s)) m r m′ p′
-        → Carried (load s file) m r m′ p′
+    pub call-walked : (form : Form) (r : Outcome) (m′ p′ : List ℕ) → length file ≤ 65536 → form ≡ formOf (s .form)
+        → Did Outcome (reported (judged form file (basesOf s))) write m blank r m′ p′ → Did Outcome (reported (load s file)) write m blank r m′ p′
     unfolding load need
-    load-carried form r m′ p′ h ef d = rw (known, le-leb _ _ h, ← ef) d
+    call-walked form r m′ p′ h ef d = rw (known, le-leb _ _ h, ← ef) d
 
 -- ---- the counts
 

@@ -123,12 +123,12 @@ call-demand2 s file m p r m′ p′ d start placed adjusted names low e =
     by (refused fault at) f a c o = absurd (false≢true (ap isRefused o))
     by (accepted ps begin) f a c o =
         let k = judged (formOf (s .form)) file (basesOf s) in
-        let em : m′ ≡ play (k .events) m = d .memory ∙ ap (λ (q : Ran Verdict). memoryAfter (q .answer) q m) c
-        ∙ ap (λ (v : Verdict). memoryAfter v k m) f in
+        let em : m′ ≡ play (k .events) m = d .memory ∙ ap (λ (q : Ran Verdict). memoryAfter (q .answer) (q .events) m) c
+        ∙ ap (λ (v : Verdict). memoryAfter v (k .events) m) f in
         let ep : p′ ≡ marks (k .events) blank =
         d .map
         ∙ rw (eq-eqb _ _ (a .memory), eq-eqb _ _ (a .map))
-        (ap (λ (q : Ran Verdict). mapAfter (q .answer) q) c ∙ ap (λ (v : Verdict). mapAfter v k) f) in
+        (ap (λ (q : Ran Verdict). mapAfter (q .answer) (q .events)) c ∙ ap (λ (v : Verdict). mapAfter v (k .events)) f) in
         let en : placed ≡ placedIn (k .events) = ap placedOf o in
         let ea : adjusted ≡ adjustedIn (k .events) = ap adjustedOf o in
         record {

@@ -10,7 +10,7 @@ use Rattle.answer.specs.Checks.{need}
 use Rattle.answer.specs.declared.Fault.the-variants.{WrongBuffer, SettingOutOfRange, FileTooLong}
 use Rattle.answer.specs.declared.Outcome.{Outcome}
 use Rattle.answer.specs.declared.Outcome.the-variants.{Accepted, Refused}
-use Rattle.acx.specs.Events.{play, marks, blank, Ran}
+use Rattle.acx.specs.Events.{Event, play, marks, blank, Ran}
 use Rattle.acx.specs.Walk.{Verdict, accepted, refused, atOnce, judged, reported}
 use Rattle.acx.specs.declared.Bases.{Bases}
 use Rattle.acx.specs.declared.Form.{Form}
@@ -57,20 +57,20 @@ unfoldable pub call : Settings → List ℕ → List ℕ → List ℕ → Ran Ve
 call s file memory map = need atOnce (sized memory map) WrongBuffer (load s file)
 
 -- memory after a load: an acceptance plays its events, "A refusal leaves program memory untouched"
-abbrev pub memoryAfter : Verdict → Ran Verdict → List ℕ → List ℕ
-memoryAfter (accepted ps start) o memory = play (o .events) memory
-memoryAfter (refused fault at) o memory = memory
+abbrev pub memoryAfter : Verdict → List Event → List ℕ → List ℕ
+memoryAfter (accepted ps start) es memory = play es memory
+memoryAfter (refused fault at) es memory = memory
 
 -- the map after a load: "The map holds the marks"; "Every other refusal leaves .. the map all zero"
-abbrev pub mapAfter : Verdict → Ran Verdict → List ℕ
-mapAfter (accepted ps start) o = marks (o .events) blank
-mapAfter (refused fault at) o = blank
+abbrev pub mapAfter : Verdict → List Event → List ℕ
+mapAfter (accepted ps start) es = marks es blank
+mapAfter (refused fault at) es = blank
 
 -- What a load with the right buffers does: it found memory m, and answers r and leaves m′ and the map p′, as o says.
 pub record Carried (o : Ran Verdict) (m : List ℕ) (r : Outcome) (m′ p′ : List ℕ) : Type 0 where
   pub outcome : r ≡ reported o .answer
-  pub memory : m′ ≡ memoryAfter (o .answer) o m
-  pub map : p′ ≡ mapAfter (o .answer) o
+  pub memory : m′ ≡ memoryAfter (o .answer) (o .events) m
+  pub map : p′ ≡ mapAfter (o .answer) (o .events)
 
 -- "Refusal 1 changes nothing"
 abbrev pub ifSized : Bool → List ℕ → List ℕ → List ℕ
@@ -88,8 +88,8 @@ adjustedOf (Refused fault offset side) = 0
 -- What a call promises: it found memory m and the map p, and answers r and leaves m′ and p′.
 pub record Loaded (s : Settings) (file m p : List ℕ) (r : Outcome) (m′ p′ : List ℕ) : Type 0 where
   pub outcome : r ≡ reported (call s file m p) .answer
-  pub memory : m′ ≡ memoryAfter (call s file m p .answer) (call s file m p) m
-  pub map : p′ ≡ ifSized (sized m p) (mapAfter (call s file m p .answer) (call s file m p)) p
+  pub memory : m′ ≡ memoryAfter (call s file m p .answer) (call s file m p .events) m
+  pub map : p′ ≡ ifSized (sized m p) (mapAfter (call s file m p .answer) (call s file m p .events)) p
   -- "neither exceeds the file's length"
   pub placed-fits : placedOf r ≤ length file
   pub adjusted-fits : adjustedOf r ≤ length file

@@ -98,24 +98,33 @@ pub fn load_usual(form: u32, file: &[u8], memory: &mut [u8], map: &mut [u8]) -> 
     load(form, file, USUAL_MAIN_BASE, USUAL_ZERO_BASE, memory, map)
 }
 
-// The whole file, checked, and carried out where `write` is true. The map holds the marks up to the end or the fault.
-pub fn walk_file(
-    form: Form,
+// A load that only checks, or also writes memory where `write` is true: the settings, then the file's length, then the file. The map is left
+// with the marks up to the end or the fault.
+pub fn walk_call(
+    form: u32,
     file: &[u8],
-    bases: Bases,
+    main_base: u32,
+    zero_base: u32,
     write: bool,
     memory: &mut [u8],
     map: &mut [u8],
 ) -> Outcome
-    requires { ⌜ (length (now file) ≤ 65536) × (length (now memory) ≡ 65536) × (length (now map) ≡ 65536) ⌝ }
-    ensures { λ r. ⌜ Did Outcome (reported (judged form (now (file .entry)) bases)) write (now (memory .entry)) blank r (now (memory .exit)) (now (map .exit)) ⌝ }
+    requires { ⌜ (length (now memory) ≡ 65536) × (length (now map) ≡ 65536) ⌝ }
+    ensures { λ r. ⌜ Did Outcome (reported (loadOf (settings form «main_base» «zero_base») (now (file .entry)))) write (now (memory .entry)) blank r (now (memory .exit)) (now (map .exit)) ⌝ }
 {
     words::fill(map, 0);
-    let opened = opening(form, file);
-    if let Check::Failed(fault) = opened {
-        return refused(fault);
+    let known = in_range(form, main_base, zero_base);
+    if !known {
+        return refused(Fault::SettingOutOfRange);
     }
-    walk(file, opening_size(form), bases, write, memory, map)
+    if FILE < file.len() {
+        return refused(Fault::FileTooLong);
+    }
+    let bases = Bases {
+        main: main_base as u16,
+        zero: zero_base as u16,
+    };
+    walk_file(form_of(form), file, bases, write, memory, map)
 }
 
 // What is put on a field.
@@ -132,7 +141,7 @@ pub fn amount(bases: Bases, field: Field) -> u16
     }
 }
 
-// A load with the right buffers: the settings, then the file's length, then the file.
+// A load with the right buffers: checked first, and written only where nothing is refused.
 fn load_sized(
     form: u32,
     file: &[u8],
@@ -144,20 +153,20 @@ fn load_sized(
     requires { ⌜ (length (now memory) ≡ 65536) × (length (now map) ≡ 65536) ⌝ }
     ensures { λ r. ⌜ Carried (loadOf (settings form «main_base» «zero_base») (now (file .entry))) (now (memory .entry)) r (now (memory .exit)) (now (map .exit)) ⌝ }
 {
-    let known = in_range(form, main_base, zero_base);
-    if !known {
+    let checked = walk_call(form, file, main_base, zero_base, false, memory, map);
+    if let Outcome::Refused {
+        fault,
+        offset,
+        side,
+    } = checked {
         words::fill(map, 0);
-        return refused(Fault::SettingOutOfRange);
+        return Outcome::Refused {
+            fault,
+            offset,
+            side,
+        };
     }
-    if FILE < file.len() {
-        words::fill(map, 0);
-        return refused(Fault::FileTooLong);
-    }
-    let bases = Bases {
-        main: main_base as u16,
-        zero: zero_base as u16,
-    };
-    carry_out(form_of(form), file, bases, memory, map)
+    walk_call(form, file, main_base, zero_base, true, memory, map)
 }
 
 // Whether the settings of a call are in their ranges.
@@ -183,27 +192,6 @@ fn form_of(form: u32) -> Form
     }
 }
 
-// The file checked first, and carried out only where nothing is refused.
-fn carry_out(form: Form, file: &[u8], bases: Bases, memory: &mut [u8], map: &mut [u8]) -> Outcome
-    requires { ⌜ (length (now file) ≤ 65536) × (length (now memory) ≡ 65536) × (length (now map) ≡ 65536) ⌝ }
-    ensures { λ r. ⌜ Carried (judged form (now (file .entry)) bases) (now (memory .entry)) r (now (memory .exit)) (now (map .exit)) ⌝ }
-{
-    let checked = walk_file(form, file, bases, false, memory, map);
-    if let Outcome::Refused {
-        fault,
-        offset,
-        side,
-    } = checked {
-        words::fill(map, 0);
-        return Outcome::Refused {
-            fault,
-            offset,
-            side,
-        };
-    }
-    walk_file(form, file, bases, true, memory, map)
-}
-
 // A refusal of the file as a whole.
 fn refused(fault: Fault) -> Outcome
     ensures { λ r. ⌜ r ≡ Refused fault 0 0 ⌝ }
@@ -213,6 +201,25 @@ fn refused(fault: Fault) -> Outcome
         offset: 0,
         side: 0,
     }
+}
+
+// The file over a clear map: its opening, then its records.
+fn walk_file(
+    form: Form,
+    file: &[u8],
+    bases: Bases,
+    write: bool,
+    memory: &mut [u8],
+    map: &mut [u8],
+) -> Outcome
+    requires { ⌜ (length (now file) ≤ 65536) × (length (now memory) ≡ 65536) × (length (now map) ≡ 65536) × (now map ≡ blank) ⌝ }
+    ensures { λ r. ⌜ Did Outcome (reported (judged form (now (file .entry)) bases)) write (now (memory .entry)) blank r (now (memory .exit)) (now (map .exit)) ⌝ }
+{
+    let opened = opening(form, file);
+    if let Check::Failed(fault) = opened {
+        return refused(fault);
+    }
+    walk(file, opening_size(form), bases, write, memory, map)
 }
 
 // Whether the file opens as its form says.
