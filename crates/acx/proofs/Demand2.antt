@@ -103,7 +103,7 @@ call-judged s file m p e =
     (record { memory = eqb-true _ _ (b .0); map = eqb-true _ _ (b .1); settings = y .0; fits = leb-true _ _ (z .0) }, x .1 ∙ y .1 ∙ z .1)
 
 -- a call as asked comes to what the file comes to
-asked-judged : (s : Settings) (file m p : List ℕ) → Asked s file m p → call s file m p ≡ judged (formOf (s .form)) file (basesOf s)
+pub asked-judged : (s : Settings) (file m p : List ℕ) → Asked s file m p → call s file m p ≡ judged (formOf (s .form)) file (basesOf s)
 unfolding call load need
 asked-judged s file m p a = rw (eq-eqb _ _ (a .memory), eq-eqb _ _ (a .map), a .settings, le-leb _ _ (a .fits)) refl
 

@@ -13,6 +13,7 @@ pub mod Loads
 pub mod Marks
 pub mod Handlers
 pub mod Demand2
+pub mod Benches
 pub mod Same
 -- Rows of the bench table:
 pub mod Bench

@@ -1,4 +1,4 @@
--- What the contracts of `acx` cite, in the order in which to read it; then demand 2, in the user's words.
+-- What the contracts of `acx` cite, in the order in which to read it; then what that comes to, in the user's words.
 pub mod Events
 pub mod Pieces
 pub mod AtBases
@@ -6,3 +6,4 @@ pub mod Walk
 pub mod Cursor
 pub mod Call
 pub mod Demand2
+pub mod Benches

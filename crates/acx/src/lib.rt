@@ -26,11 +26,13 @@ ghost use Rattle.acx.specs.Walk.{from, opening as openingOf, openingSize
 ghost use Rattle.acx.specs.Cursor.{EndsBy, advanced};
 ghost use Rattle.acx.specs.Call.{formOf, settings, usual, inRange, load as loadOf, Carried, Loaded};
 
-// The length of memory and of the map, and the most that a file has.
+// The length of memory and of the map.
 const MEMORY: usize = 65536;
 
+// Where zero page ends.
 const ZERO_PAGE: usize = 256;
 
+// The most bytes that a file has.
 const FILE: usize = 65536;
 
 // The marks of the map.
