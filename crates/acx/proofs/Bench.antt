@@ -9,7 +9,7 @@ use Rattle.answer.specs.declared.Outcome.{Outcome}
 use Rattle.answer.specs.declared.Outcome.the-variants.{Accepted, Refused}
 use Rattle.answer.specs.declared.Start.the-variants.{Absent, At}
 use Rattle.records.specs.Fields.{fieldsOf}
-use Rattle.records.specs.Records.{readCode, readFixups, readEnd, read}
+use Rattle.records.specs.Records.{readCode, readItems, readFixups, readEnd, read}
 use Rattle.words.specs.Numbers.{number, value, digits, store, on, change}
 use Rattle.words.specs.Runs.{part, put, allZero, contains}
 use Rattle.acx.specs.AtBases.{placing, adjusting, ending, applied}
@@ -87,5 +87,5 @@ rows =
     ∷ []
 
 pub bench : gots rows ≡ wants rows
-unfolding rows number value digits store on change part put allZero contains fieldsOf need readCode readFixups readEnd read play marks blank placedIn adjustedIn adjustments events amountOf placing adjusting ending applied checked walk from judged opening load
+unfolding rows number value digits store on change part put allZero contains fieldsOf need readCode readItems readFixups readEnd read play marks blank placedIn adjustedIn adjustments events amountOf placing adjusting ending applied checked walk from judged opening load
 bench = refl

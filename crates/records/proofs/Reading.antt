@@ -10,7 +10,7 @@ use lib.ListN.{length, getD}
 use Rattle.answer.proofs.Checks.{on-need}
 use Rattle.answer.specs.declared.Fault.{Fault}
 use Rattle.words.specs.Runs.{Bytes}
-use Rattle.records.specs.Records.{RecordType, code, fixups, end, unknown, types, suits, readCode, readFixups, readEnd, readAs, read}
+use Rattle.records.specs.Records.{RecordType, code, fixups, end, unknown, types, suits, readCode, readItems, readFixups, readEnd, readAs, read}
 use Rattle.records.specs.declared.Fixup.{Fixup}
 use Rattle.records.specs.declared.Kind.{Kind}
 use Rattle.records.specs.declared.Kind.the-variants.{Main, ZeroPage, Absolute}
@@ -48,7 +48,7 @@ code-lies file at kind =
 
 -- a fixup record's items
 fixups-lie : (file : List ℕ) (at : ℕ) (last : Last) (kind : Kind) (fixup : Fixup) → Lies (length file) at (readFixups file at last kind fixup)
-unfolding readFixups
+unfolding readFixups readItems
 fixups-lie file at last kind fixup =
     let P = Lies (length file) at in
     on-need Faulty P (bad _ _) _ _ _
@@ -128,7 +128,7 @@ code-follows file at last kind =
 
 -- a fixup record asks for code that moves
 fixups-follow : (file : List ℕ) (at : ℕ) (last : Last) (kind : Kind) (fixup : Fixup) → Follows last (readFixups file at last kind fixup)
-unfolding readFixups
+unfolding readFixups readItems
 fixups-follow file at last kind fixup =
     let P = Follows last in
     on-need Faulty P (free _) _ _ _
@@ -188,7 +188,7 @@ code-short file at kind b =
 
 -- a fixup record is no code
 fixups-short : (file : List ℕ) (at : ℕ) (last : Last) (kind : Kind) (fixup : Fixup) → Short (readFixups file at last kind fixup)
-unfolding readFixups
+unfolding readFixups readItems
 fixups-short file at last kind fixup =
     on-need Faulty Short none _ _ _
     (λ _. on-need Faulty Short none _ _ _

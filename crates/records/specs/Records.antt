@@ -72,15 +72,20 @@ lengthAllowed Page n = leb 1 n && leb n 253
 lengthAllowed Word n = leb 1 n && leb n 253
 lengthAllowed High n = eqb (n % 2) 0 && leb n 254
 
--- "Fixups: length byte present (5); the last code record before it of the right kind (18) .. Length .. (9). Bytes present (5)."
+-- "Length .. (9). Bytes present (5)."
+unfoldable pub readItems : List ℕ → ℕ → Fixup → Record
+readItems file at fixup =
+    let n = getD file (at + 1) 0 in
+    need Faulty (lengthAllowed fixup n) LengthNotAllowed
+    (need Faulty (leb (at + 2 + n) (length file)) CutShort
+    (Fixups fixup (at + 2) n))
+
+-- "Fixups: length byte present (5); the last code record before it of the right kind (18)", then the items
 unfoldable pub readFixups : List ℕ → ℕ → Last → Kind → Fixup → Record
 readFixups file at last kind fixup =
-    let n = getD file (at + 1) 0 in
     need Faulty (leb (at + 2) (length file)) CutShort
     (need Faulty (suits kind last) FixupUnsuited
-    (need Faulty (lengthAllowed fixup n) LengthNotAllowed
-    (need Faulty (leb (at + 2 + n) (length file)) CutShort
-    (Fixups fixup (at + 2) n))))
+    (readItems file at fixup))
 
 -- "flag 0 none, 1 absolute, 2 plus main base (6)"
 abbrev pub entries : ℕ → List Entry

@@ -4,7 +4,7 @@ use answer::Fault;
 ghost use mathlib.Core.Path.{_≡_};
 ghost use Prim.Native.Nat.{_+_, _<_, _≤_};
 ghost use lib.ListN.{length};
-ghost use Rattle.records.specs.Records.{suits as suitsOf, lengthAllowed, readCode, readFixups, readEnd, read as readOf};
+ghost use Rattle.records.specs.Records.{suits as suitsOf, lengthAllowed, readCode, readItems, readFixups, readEnd, read as readOf};
 ghost use Rattle.records.specs.Fields.{itemSize, widthOf, fieldAt};
 
 // What a code record's address counts from: the main base, the zero-page base, or nothing.
@@ -124,19 +124,7 @@ fn read_fixups(file: &[u8], at: usize, last: Last, kind: Kind, fixup: Fixup) -> 
     if !suited {
         return Record::Faulty(Fault::FixupUnsuited);
     }
-    let length = words::wide(file[at + 1]);
-    let allowed = length_allowed(fixup, length);
-    if !allowed {
-        return Record::Faulty(Fault::LengthNotAllowed);
-    }
-    if file.len() < at + 2 + length {
-        return Record::Faulty(Fault::CutShort);
-    }
-    Record::Fixups {
-        fixup,
-        from: at + 2,
-        size: length,
-    }
+    read_items(file, at, fixup)
 }
 
 // Whether a fixup record for code of a kind may follow the last code record.
@@ -158,6 +146,26 @@ fn suits(kind: Kind, last: Last) -> bool
             },
             Kind::Absolute => false,
         },
+    }
+}
+
+// The items of a fixup record: their length, then the bytes themselves.
+fn read_items(file: &[u8], at: usize, fixup: Fixup) -> Record
+    requires { ⌜ (at + 2 ≤ length (now file)) × (length (now file) ≤ 65536) ⌝ }
+    ensures { λ r. ⌜ r ≡ readItems (now (file .entry)) at fixup ⌝ }
+{
+    let length = words::wide(file[at + 1]);
+    let allowed = length_allowed(fixup, length);
+    if !allowed {
+        return Record::Faulty(Fault::LengthNotAllowed);
+    }
+    if file.len() < at + 2 + length {
+        return Record::Faulty(Fault::CutShort);
+    }
+    Record::Fixups {
+        fixup,
+        from: at + 2,
+        size: length,
     }
 }
 
