@@ -15,9 +15,10 @@ use Rattle.records.specs.declared.Record.the-variants.{Code, Fixups, End, Fault
 use Rattle.words.proofs.Runs.{length-part}
 use Rattle.words.specs.Runs.{part}
 use Rattle.acx.proofs.Checks.{placing-passed}
+use Rattle.acx.proofs.Edits.{Inside}
 use Rattle.acx.proofs.Events.{length-marks}
 use Rattle.acx.proofs.Lists.{each-map, each-append, pairwise-append}
-use Rattle.acx.proofs.Loads.{Inside, Fits}
+use Rattle.acx.proofs.Loads.{Fits}
 use Rattle.acx.proofs.Marks.{length-blank, marks-fields, marks-some, code-apart, fields-fresh}
 use Rattle.acx.proofs.Standing.{limit-le, code-passed, fixups-passed, Stands, stands-first, stands-on}
 use Rattle.acx.proofs.Walking.{piecesAfter, Onward, accepted-keeps}

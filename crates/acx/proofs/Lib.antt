@@ -5,10 +5,12 @@ pub mod Fields
 pub mod Applying
 pub mod Walking
 pub mod Standing
+pub mod Cursors
 pub mod Going
 pub mod Calling
 -- Demand 2, and what else holds of every accepted file:
 pub mod Lists
+pub mod Edits
 pub mod Loads
 pub mod Marks
 pub mod Handlers

@@ -5,79 +5,33 @@ use mathlib.Core.Path.{_≡_, refl, sym, ap, _∙_}
 use Prim.Native.Nat.{ℕ, _+_, _≤_, _<_}
 use lib.ListN.{length, getD}
 use Rattle.records.specs.declared.Field.{Field}
-use Rattle.words.proofs.Changes.{length-change, bytes-change, change-outside, value-change, value-change-apart, change-in-put, value-part}
+use Rattle.words.proofs.Changes.{length-change, change-in-put, value-part}
 use Rattle.words.proofs.Numbers.{on-lt}
 use Rattle.words.proofs.Runs.{length-put, put-outside, part-at, part-put, part-put-apart, bytes-put}
 use Rattle.words.specs.Numbers.{value, on, change}
 use Rattle.words.specs.Runs.{Bytes, part, put}
+use Rattle.acx.proofs.Edits.{Inside, Fitting, length-edited, bytes-edited, edited-plain, edited-each}
 use Rattle.acx.proofs.Events.{play-append}
 use Rattle.acx.proofs.Lists.{each-map, each-zip, each-zip3}
 use Rattle.acx.specs.Demand2.{Each, Pairwise, Placed, In, PiecesApart, FieldsApart}
 use Rattle.acx.specs.Events.{place, play}
-use Rattle.acx.specs.Pieces.{Piece, size, placeOf, width, amountOf, adjustments, events}
+use Rattle.acx.specs.Pieces.{Piece, size, placeOf, width, amountOf, edited, adjustments, events}
 use Rattle.acx.specs.declared.Bases.{Bases}
 
 -- ---- the fields of a run of code bytes
 
--- the field lies in n code bytes
-abbrev pub Inside : ℕ → Field → Type 0
-Inside n f = f .index + width f ≤ n
+-- a field's number with the amount of b on
+abbrev pub added : Bases → Field → ℕ → ℕ
+added b f v = on (width f) (amountOf b f) v
 
--- the amounts of b on the fields, the first one first
-unfoldable pub ons : Bases → List Field → List ℕ → List ℕ
-ons b [] bs = bs
-ons b (f ∷ fs) bs = ons b fs (change (width f) (on (width f) (amountOf b f)) bs (f .index))
+pub added-fits : (b : Bases) → Fitting (added b)
+added-fits b f v = on-lt (width f) (amountOf b f) v
 
 module _ (b : Bases) where
-  -- adjusted code is as long as it was
-  pub length-ons : (fs : List Field) (bs : List ℕ) → length (ons b fs bs) ≡ length bs
-  unfolding ons
-  length-ons [] bs = refl
-  length-ons (f ∷ fs) bs = length-ons fs _ ∙ length-change (width f) (on (width f) (amountOf b f)) bs (f .index)
-
-  -- and its bytes are bytes
-  pub bytes-ons : (fs : List Field) (bs : List ℕ) → Bytes bs → Bytes (ons b fs bs)
-  unfolding ons
-  bytes-ons [] bs h = h
-  bytes-ons (f ∷ fs) bs h = bytes-ons fs _ (bytes-change (width f) (on (width f) (amountOf b f)) bs (f .index) h)
-
-  -- a byte in no field stays
-  pub ons-plain : (fs : List Field) (bs : List ℕ) (j : ℕ) → Each (λ f. ¬ In j f) fs → getD (ons b fs bs) j 0 ≡ getD bs j 0
-  unfolding ons
-  ons-plain [] bs j h = refl
-  ons-plain (f ∷ fs) bs j h = ons-plain fs _ j (h .1) ∙ change-outside (width f) (on (width f) (amountOf b f)) bs (f .index) j (h .0)
-
-  -- the number of a field apart from all stays
-  pub ons-apart : (f : Field) (fs : List Field) (bs : List ℕ) → Inside (length bs) f → Each (FieldsApart f) fs
-      → value (width f) (ons b fs bs) (f .index) ≡ value (width f) bs (f .index)
-  unfolding ons
-  ons-apart f [] bs i h = refl
-  ons-apart f (g ∷ fs) bs i h =
-      let l : length (change (width g) (on (width g) (amountOf b g)) bs (g .index)) ≡ length bs =
-      length-change (width g) (on (width g) (amountOf b g)) bs (g .index) in
-      ons-apart f fs _ (rw l i) (h .1)
-      ∙ value-change-apart (width g) (on (width g) (amountOf b g)) bs (g .index) (width f) (f .index) i (λ x v w. h .0 x w v)
-
-  -- each of fields that lie apart has its amount on
-  pub ons-each : (fs : List Field) (bs : List ℕ) → Each (Inside (length bs)) fs → Pairwise FieldsApart fs
-      → Each (λ f. value (width f) (ons b fs bs) (f .index) ≡ on (width f) (amountOf b f) (value (width f) bs (f .index))) fs
-  unfolding ons
-  ons-each [] bs i d = tt
-  ons-each (f ∷ fs) bs i d =
-      let k = width f in
-      let g = on k (amountOf b f) in
-      let cs : List ℕ = change k g bs (f .index) in
-      let l : length cs ≡ length bs = length-change k g bs (f .index) in (
-        ons-apart f fs cs (rw l (i .0)) (d .0) ∙ value-change k g bs (f .index) (i .0) (on-lt k (amountOf b f) (value k bs (f .index))),
-        each-zip3
-            (λ q j a e. e ∙ ap (on (width q) (amountOf b q)) (value-change-apart k g bs (f .index) (width q) (q .index) j a))
-            fs (i .1) (d .0) (ons-each fs cs (rw l (i .1)) (d .1)),
-      )
-
   -- the adjustments of code that was put down are those of the code
   pub play-adjustments : (fs : List Field) (a : ℕ) (bs m : List ℕ) → Each (Inside (length bs)) fs → a + length bs ≤ length m
-      → play (adjustments b a fs) (put m a bs) ≡ put m a (ons b fs bs)
-  unfolding play adjustments ons
+      → play (adjustments b a fs) (put m a bs) ≡ put m a (edited (added b) fs bs)
+  unfolding play adjustments edited
   play-adjustments [] a bs m i l = refl
   play-adjustments (f ∷ fs) a bs m i l =
       let k = width f in
@@ -129,7 +83,7 @@ module _ (g : Piece → List ℕ) (same : (p : Piece) → length (g p) ≡ size 
 
 -- the bytes that a load leaves at a piece's place
 abbrev pub loaded : Bases → Piece → List ℕ
-loaded b p = ons b (p .fields) (p .code)
+loaded b p = edited (added b) (p .fields) (p .code)
 
 -- memory with the pieces in it
 abbrev pub laid : Bases → List Piece → List ℕ → List ℕ
@@ -138,7 +92,7 @@ laid b ps m = lay (loaded b) b ps m
 module _ (b : Bases) where
   -- a piece as it is loaded has its length
   pub length-loaded : (p : Piece) → length (loaded b p) ≡ size p
-  length-loaded p = length-ons b (p .fields) (p .code)
+  length-loaded p = length-edited (added b) (p .fields) (p .code)
 
   -- memory stays as long as it was
   pub length-laid : (ps : List Piece) (m : List ℕ) → length (laid b ps m) ≡ length m
@@ -149,7 +103,7 @@ module _ (b : Bases) where
   unfolding lay
   bytes-laid [] m h i = i
   bytes-laid (p ∷ ps) m h i =
-      bytes-put (laid b ps m) (placeOf b p) (loaded b p) (bytes-ons b (p .fields) (p .code) (h .0)) (bytes-laid ps m (h .1) i)
+      bytes-put (laid b ps m) (placeOf b p) (loaded b p) (bytes-edited (added b) (p .fields) (p .code) (h .0)) (bytes-laid ps m (h .1) i)
 
   -- the events of pieces that fit leave the pieces in memory
   pub play-laid : (ps : List Piece) (m : List ℕ) → Each (Fits b (length m)) ps → Each (λ p. Each (Inside (size p)) (p .fields)) ps
@@ -177,7 +131,7 @@ module _ (b : Bases) where
     laid-plain =
         each-map
         (λ p e j h w. sym (part-at (laid b ps m) (placeOf b p) (size p) j h) ∙ ap (λ (l : List ℕ). getD l j 0) e
-        ∙ ons-plain b (p .fields) (p .code) j w)
+        ∙ edited-plain (added b) (p .fields) (p .code) j w)
         ps laid-parts
 
     -- each field has its amount on
@@ -200,4 +154,4 @@ module _ (b : Bases) where
             each-zip
             (λ f i v. sym (value-part (width f) (laid b ps m) (placeOf b p) (size p) (f .index) (rw (length-laid ps m) (h .0)) i)
             ∙ ap (λ (l : List ℕ). value (width f) l (f .index)) e ∙ v)
-            (p .fields) (h .1) (ons-each b (p .fields) (p .code) (h .1) a)
+            (p .fields) (h .1) (edited-each (added b) (added-fits b) (p .fields) (p .code) (h .1) a)

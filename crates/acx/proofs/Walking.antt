@@ -118,6 +118,14 @@ isAccepted (refused fault at) = false
 pub refused-accepted : (fault : Fault) (at : ℕ) (ps : List Piece) (start : Start) → refused fault at ≡ accepted ps start → ⊥
 refused-accepted fault at ps start e = false≢true (ap isAccepted e)
 
+abbrev piecesIn : Verdict → List Piece
+piecesIn (accepted ps start) = ps
+piecesIn (refused fault at) = []
+
+-- a verdict has one list of pieces
+pub accepted-pieces : (ps qs : List Piece) (start start′ : Start) → accepted ps start ≡ accepted qs start′ → ps ≡ qs
+accepted-pieces ps qs start start′ e = ap piecesIn e
+
 -- the end record does nothing
 pub end-none : (file : List ℕ) (b : Bases) (at : ℕ) (ps : List Piece) (entry : Entry) (next : ℕ) → recordAt file at ps ≡ End entry next
     → checked file b at ps .events ≡ []

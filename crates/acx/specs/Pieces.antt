@@ -9,6 +9,7 @@ use Rattle.records.specs.declared.Fixup.{Fixup}
 use Rattle.records.specs.declared.Fixup.the-variants.{Low, Page, Word, High}
 use Rattle.records.specs.declared.Kind.{Kind}
 use Rattle.records.specs.declared.Kind.the-variants.{Main, ZeroPage, Absolute}
+use Rattle.words.specs.Numbers.{change}
 use Rattle.acx.specs.Events.{Event, place, adjust}
 use Rattle.acx.specs.declared.Bases.{Bases}
 
@@ -49,6 +50,11 @@ amountBy b lsb High = (lsb + b .main) / 256
 -- "The amount of a field is main base for 02, 03, 06 and 07, zero-page base for 04 and 05, floor((LSB + main base) / 256) for 08 and 09"
 unfoldable pub amountOf : Bases → Field → ℕ
 amountOf b f = amountBy b (f .lsb) (f .fixup)
+
+-- a run of code bytes in which g has replaced the number of each field, the first field first
+unfoldable pub edited : (Field → ℕ → ℕ) → List Field → List ℕ → List ℕ
+edited g [] bytes = bytes
+edited g (f ∷ fs) bytes = edited g fs (change (width f) (g f) bytes (f .index))
 
 -- a field of the code at a place adjusted
 abbrev pub adjustment : Bases → ℕ → Field → Event

@@ -16,14 +16,14 @@ ghost use Prim.Native.Nat.{_+_, _<_, _≤_};
 ghost use lib.ListN.{length};
 ghost use Rattle.words.specs.Numbers.{on, change};
 ghost use Rattle.answer.specs.Report.{address as addressOf};
-ghost use Rattle.answer.specs.declared.Outcome.the-variants.{Accepted, Refused};
+ghost use Rattle.answer.specs.declared.Outcome.the-variants.{Accepted};
 ghost use Rattle.records.specs.Records.{read as readOf};
 ghost use Rattle.records.specs.Fields.{fieldsOf, widthOf};
 ghost use Rattle.acx.specs.Events.{place, blank, playIf, Did};
 ghost use Rattle.acx.specs.Pieces.{placeAt, limitOf, amountOf, adjustment};
 ghost use Rattle.acx.specs.AtBases.{placing, adjusting, ending, startOf, applied};
 ghost use Rattle.acx.specs.Walk.{from, opening as openingOf, openingSize, judged, reported};
-ghost use Rattle.acx.specs.Cursor.{EndsBy, advanced};
+ghost use Rattle.acx.specs.Cursor.{begun, EndsBy, advanced};
 ghost use Rattle.acx.specs.Call.{formOf, settings, usual, inRange, load as loadOf, Carried, Loaded};
 
 // The length of memory and of the map.
@@ -85,10 +85,10 @@ pub fn load(
     ensures { λ r. ⌜ Loaded (settings form «main_base» «zero_base») (now (file .entry)) (now (memory .entry)) (now (map .entry)) r (now (memory .exit)) (now (map .exit)) ⌝ }
 {
     if memory.len() != MEMORY {
-        return refused(Fault::WrongBuffer);
+        return answer::refused(Fault::WrongBuffer);
     }
     if map.len() != MEMORY {
-        return refused(Fault::WrongBuffer);
+        return answer::refused(Fault::WrongBuffer);
     }
     load_sized(form, file, main_base, zero_base, memory, map)
 }
@@ -117,16 +117,83 @@ pub fn walk_call(
     words::fill(map, 0);
     let known = in_range(form, main_base, zero_base);
     if !known {
-        return refused(Fault::SettingOutOfRange);
+        return answer::refused(Fault::SettingOutOfRange);
     }
     if FILE < file.len() {
-        return refused(Fault::FileTooLong);
+        return answer::refused(Fault::FileTooLong);
     }
     let bases = Bases {
         main: main_base as u16,
         zero: zero_base as u16,
     };
     walk_file(form_of(form), file, bases, write, memory, map)
+}
+
+// The form of a call.
+pub fn form_of(form: u32) -> Form
+    ensures { λ r. ⌜ r ≡ formOf form ⌝ }
+{
+    match form {
+        0 => Form::Disk,
+        _ => Form::Device,
+    }
+}
+
+// Where the records begin.
+pub fn opening_size(form: Form) -> usize
+    ensures { λ r. ⌜ r ≡ openingSize form ⌝ }
+{
+    match form {
+        Form::Disk => 2,
+        Form::Device => 0,
+    }
+}
+
+// The cursor of a walk that begins at `at`.
+pub fn begin(at: usize) -> Cursor
+    ensures { λ r. ⌜ r ≡ begun at ⌝ }
+{
+    Cursor {
+        at,
+        last: Last::Nothing,
+        place: 0,
+        size: 0,
+        placed: 0,
+        adjusted: 0,
+    }
+}
+
+// The cursor after a record that passed.
+pub fn advance(bases: Bases, cursor: Cursor, found: Record) -> Cursor
+    requires { ⌜ (cursor .placed ≤ 65536) × (cursor .adjusted ≤ 65536) × EndsBy 65536 found ⌝ }
+    ensures { λ r. ⌜ r ≡ advanced bases cursor found ⌝ }
+{
+    let last = cursor.last;
+    match found {
+        Record::Code {
+            kind,
+            address,
+            from,
+            size,
+        } => Cursor {
+            at: from + size,
+            last: Last::Of(kind),
+            place: place_of(bases, kind, address),
+            size,
+            placed: cursor.placed + size,
+            adjusted: cursor.adjusted,
+        },
+        Record::Fixups { fixup, from, size } => Cursor {
+            at: from + size,
+            last,
+            place: cursor.place,
+            size: cursor.size,
+            placed: cursor.placed,
+            adjusted: cursor.adjusted + size / records::item_size(fixup),
+        },
+        Record::End { entry, next } => cursor,
+        Record::Faulty(fault) => cursor,
+    }
 }
 
 // What is put on a field.
@@ -140,6 +207,20 @@ pub fn amount(bases: Bases, field: Field) -> u16
         Fixup::Page => bases.zero,
         Fixup::Word => bases.main,
         Fixup::High => ((field.lsb + bases.main as usize) / 256) as u16,
+    }
+}
+
+// An amount on a field of the code.
+pub fn add(code: &mut [u8], field: Field, amount: u16)
+    requires { ⌜ field .index + widthOf (field .fixup) ≤ length (now code) ⌝ }
+    ensures { λ _. ⌜ now (code .exit) ≡ change (widthOf (field .fixup)) (on (widthOf (field .fixup)) amount) (now (code .entry)) (field .index) ⌝ }
+{
+    let fixup = field.fixup;
+    match fixup {
+        Fixup::Low => words::add_to_byte(code, field.index, amount),
+        Fixup::Page => words::add_to_byte(code, field.index, amount),
+        Fixup::Word => words::add_to_word(code, field.index, amount),
+        Fixup::High => words::add_to_byte(code, field.index, amount),
     }
 }
 
@@ -184,27 +265,6 @@ fn in_range(form: u32, main_base: u32, zero_base: u32) -> bool
     zero_base <= 255
 }
 
-// The form of a call.
-fn form_of(form: u32) -> Form
-    ensures { λ r. ⌜ r ≡ formOf form ⌝ }
-{
-    match form {
-        0 => Form::Disk,
-        _ => Form::Device,
-    }
-}
-
-// A refusal of the file as a whole.
-fn refused(fault: Fault) -> Outcome
-    ensures { λ r. ⌜ r ≡ Refused fault 0 0 ⌝ }
-{
-    Outcome::Refused {
-        fault,
-        offset: 0,
-        side: 0,
-    }
-}
-
 // The file over a clear map: its opening, then its records.
 fn walk_file(
     form: Form,
@@ -219,7 +279,7 @@ fn walk_file(
 {
     let opened = opening(form, file);
     if let Check::Failed(fault) = opened {
-        return refused(fault);
+        return answer::refused(fault);
     }
     walk(file, opening_size(form), bases, write, memory, map)
 }
@@ -243,16 +303,6 @@ fn opening(form: Form, file: &[u8]) -> Check
     }
 }
 
-// Where the records begin.
-fn opening_size(form: Form) -> usize
-    ensures { λ r. ⌜ r ≡ openingSize form ⌝ }
-{
-    match form {
-        Form::Disk => 2,
-        Form::Device => 0,
-    }
-}
-
 // All records from `at` on, over a clear map.
 fn walk(
     file: &[u8],
@@ -265,14 +315,7 @@ fn walk(
     requires { ⌜ (length (now file) ≤ 65536) × (at ≤ length (now file)) × (length (now memory) ≡ 65536) × (length (now map) ≡ 65536) × (now map ≡ blank) ⌝ }
     ensures { λ r. ⌜ Did Outcome (reported (from (now (file .entry)) bases at [])) write (now (memory .entry)) blank r (now (memory .exit)) (now (map .exit)) ⌝ }
 {
-    let mut cursor = Cursor {
-        at,
-        last: Last::Nothing,
-        place: 0,
-        size: 0,
-        placed: 0,
-        adjusted: 0,
-    };
+    let mut cursor = begin(at);
     loop {
         let last = cursor.last;
         let found = records::read(file, cursor.at, last);
@@ -326,39 +369,6 @@ fn start_address(bases: Bases, entry: Entry) -> usize
         Entry::Nowhere => 0,
         Entry::Fixed(address) => address as usize,
         Entry::Relative(address) => bases.main as usize + address as usize,
-    }
-}
-
-// The cursor after a record that passed.
-fn advance(bases: Bases, cursor: Cursor, found: Record) -> Cursor
-    requires { ⌜ (cursor .placed ≤ 65536) × (cursor .adjusted ≤ 65536) × EndsBy 65536 found ⌝ }
-    ensures { λ r. ⌜ r ≡ advanced bases cursor found ⌝ }
-{
-    let last = cursor.last;
-    match found {
-        Record::Code {
-            kind,
-            address,
-            from,
-            size,
-        } => Cursor {
-            at: from + size,
-            last: Last::Of(kind),
-            place: place_of(bases, kind, address),
-            size,
-            placed: cursor.placed + size,
-            adjusted: cursor.adjusted,
-        },
-        Record::Fixups { fixup, from, size } => Cursor {
-            at: from + size,
-            last,
-            place: cursor.place,
-            size: cursor.size,
-            placed: cursor.placed,
-            adjusted: cursor.adjusted + size / records::item_size(fixup),
-        },
-        Record::End { entry, next } => cursor,
-        Record::Faulty(fault) => cursor,
     }
 }
 
@@ -516,20 +526,6 @@ fn write_field(field: Field, bases: Bases, at: usize, size: usize, write: bool, 
     if write {
         let end = at + size;
         add(&mut memory[at..end], field, amount(bases, field));
-    }
-}
-
-// An amount on a field of the code.
-fn add(code: &mut [u8], field: Field, amount: u16)
-    requires { ⌜ field .index + widthOf (field .fixup) ≤ length (now code) ⌝ }
-    ensures { λ _. ⌜ now (code .exit) ≡ change (widthOf (field .fixup)) (on (widthOf (field .fixup)) amount) (now (code .entry)) (field .index) ⌝ }
-{
-    let fixup = field.fixup;
-    match fixup {
-        Fixup::Low => words::add_to_byte(code, field.index, amount),
-        Fixup::Page => words::add_to_byte(code, field.index, amount),
-        Fixup::Word => words::add_to_word(code, field.index, amount),
-        Fixup::High => words::add_to_byte(code, field.index, amount),
     }
 }
 

@@ -2,6 +2,7 @@
 // It knows no file format. The numbers of the faults stand in one place, specs/Report.antt.
 ghost use mathlib.Core.Path.{_≡_};
 ghost use lib.ListN.{length};
+ghost use Rattle.answer.specs.declared.Outcome.the-variants.{Refused};
 ghost use Rattle.answer.specs.Report.{numberOf, numbersOf, reported, answerLength, answerBytes};
 
 // What is wrong: a variant for each row of the table "Numbers a bench can show", in its order.
@@ -52,6 +53,17 @@ pub enum Outcome {
 
 // The numbers of an answer: number, offset, side, start present, start address, placed, adjusted, new names, low.
 pub type Numbers = [u32; 9];
+
+// A refusal that no block or record is blamed for.
+pub fn refused(fault: Fault) -> Outcome
+    ensures { λ r. ⌜ r ≡ Refused fault 0 0 ⌝ }
+{
+    Outcome::Refused {
+        fault,
+        offset: 0,
+        side: 0,
+    }
+}
 
 // The number of a fault.
 pub fn fault_number(fault: Fault) -> u32
