@@ -10,10 +10,10 @@ use Rattle.answer.specs.Checks.{need}
 use Rattle.answer.specs.declared.Fault.{Fault}
 use Rattle.answer.specs.declared.Fault.the-variants.{WrongBuffer}
 use Rattle.answer.specs.declared.Outcome.{Outcome}
-use Rattle.answer.specs.declared.Outcome.the-variants.{Accepted, Refused}
+use Rattle.answer.specs.declared.Outcome.the-variants.{Refused}
 use Rattle.answer.specs.declared.Start.{Start}
 use Rattle.words.specs.Runs.{part}
-use Rattle.acx.proofs.Calling.{isRefused}
+use Rattle.acx.proofs.Calling.{isRefused, faultIn}
 use Rattle.acx.proofs.Demand2.{asked-judged}
 use Rattle.acx.proofs.Handlers.{fits-memory, handled}
 use Rattle.acx.proofs.Lists.{each-zip}
@@ -26,10 +26,6 @@ use Rattle.acx.specs.Pieces.{Piece, size, placeOf, events}
 use Rattle.acx.specs.Walk.{Verdict, accepted, refused, atOnce, judged, report, reported}
 
 -- ---- refused
-
-abbrev faultIn : Outcome → Fault
-faultIn (Accepted start placed adjusted names low) = WrongBuffer
-faultIn (Refused fault offset side) = fault
 
 -- what was refused plays nothing
 refused-memory : (v : Verdict) (es : List Event) (m : List ℕ) → isRefused (report v es) ≡ true → memoryAfter v es m ≡ m

@@ -16,9 +16,10 @@ use Rattle.answer.specs.declared.Outcome.the-variants.{Accepted, Refused}
 use Rattle.answer.specs.declared.Start.{Start}
 use Rattle.acx.proofs.Events.{did-none}
 use Rattle.acx.proofs.Standing.{Stands, stands-first, stands-on}
-use Rattle.acx.proofs.Walking.{accepted-keeps}
+use Rattle.acx.proofs.Walking.{refused-accepted, accepted-keeps}
 use Rattle.acx.specs.Call.{formOf, Settings, inRange, basesOf, sized, load, call, Carried, placedOf, adjustedOf, Loaded}
 use Rattle.acx.specs.Events.{play, blank, Ran, Did}
+use Rattle.acx.specs.Pieces.{Piece}
 use Rattle.acx.specs.Walk.{Verdict, accepted, refused, atOnce, from, opening, openingSize, judged, report, reported}
 use Rattle.acx.specs.declared.Bases.{Bases}
 use Rattle.acx.specs.declared.Check.{Check}
@@ -58,6 +59,11 @@ module _ (form : Form) (file : List ℕ) (b : Bases) (write : Bool) (m : List �
 abbrev pub isRefused : Outcome → Bool
 isRefused (Accepted start placed adjusted names low) = false
 isRefused (Refused fault offset side) = true
+
+-- the fault of a refusal
+abbrev pub faultIn : Outcome → Fault
+faultIn (Accepted start placed adjusted names low) = WrongBuffer
+faultIn (Refused fault offset side) = fault
 
 module _ {m m₁ p₁ : List ℕ} {r : Outcome} where
   -- (memory was not written while the file was checked)
@@ -111,6 +117,26 @@ module _ (s : Settings) (file : List ℕ) (write : Bool) (m : List ℕ) where
     unfolding load need
     call-walked form r m′ p′ h ef d = rw (known, le-leb _ _ h, ← ef) d
 
+-- what an accepted load comes to: the settings are in range, the file is not too long, and its rules decide
+pub record Follows (s : Settings) (file : List ℕ) : Type 0 where
+  pub range : inRange s ≡ true
+  pub fits : length file ≤ 65536
+  pub by-rules : load s file ≡ judged (formOf (s .form)) file (basesOf s)
+
+pub load-follows : (s : Settings) (file : List ℕ) (ps : List Piece) (start : Start) → load s file .answer ≡ accepted ps start → Follows s file
+unfolding load need
+load-follows s file ps start e = by (inRange s) (leb (length file) 65536) refl refl e
+  where
+    o : Ran Verdict
+    o = judged (formOf (s .form)) file (basesOf s)
+
+    by : (c d : Bool) → inRange s ≡ c → leb (length file) 65536 ≡ d
+        → need atOnce c SettingOutOfRange (need atOnce d FileTooLong o) .answer ≡ accepted ps start
+        → Follows s file
+    by true true h k e = record { range = h; fits = leb-true _ _ k; by-rules = rw (h, k) refl }
+    by true false h k e = absurd (refused-accepted FileTooLong 0 ps start e)
+    by false d h k e = absurd (refused-accepted SettingOutOfRange 0 ps start e)
+
 -- ---- the counts
 
 judged-counts : (form : Form) (file : List ℕ) (b : Bases)
@@ -126,16 +152,16 @@ judged-counts form file b = by (judged form file b .answer) refl
     by (refused fault at) e = (omega arith, omega arith)
 
 -- neither count of an outcome exceeds the file's length
-record Few (n : ℕ) (o : Ran Verdict) : Type 0 where
-  placed : placedOf (reported o .answer) ≤ n
-  adjusted : adjustedOf (reported o .answer) ≤ n
+pub record Few (n : ℕ) (o : Ran Verdict) : Type 0 where
+  pub placed : placedOf (reported o .answer) ≤ n
+  pub adjusted : adjustedOf (reported o .answer) ≤ n
 
 few-need : (n : ℕ) (c : Bool) (fault : Fault) (o : Ran Verdict) → Few n o → Few n (need atOnce c fault o)
 unfolding need
 few-need n true fault o h = h
 few-need n false fault o h = record { placed = omega arith; adjusted = omega arith }
 
-load-few : (s : Settings) (file : List ℕ) → Few (length file) (load s file)
+pub load-few : (s : Settings) (file : List ℕ) → Few (length file) (load s file)
 unfolding load
 load-few s file =
     let k = judged-counts (formOf (s .form)) file (basesOf s) in

@@ -21,10 +21,8 @@ use Rattle.records.specs.declared.Record.{Record}
 use Rattle.records.specs.declared.Record.the-variants.{Code, Fixups, End, Faulty}
 use Rattle.words.proofs.Runs.{length-part}
 use Rattle.words.specs.Runs.{part}
-use Rattle.acx.proofs.Checks.{failed-passed}
 use Rattle.acx.proofs.Standing.{Stands, stands-first, stands-on, placed-after, adjusted-after}
 use Rattle.acx.proofs.Walking.{nextOf, piecesAfter, Onward, onward, from-step, from-onward, refused-accepted, accepted-pieces}
-use Rattle.acx.specs.AtBases.{applied}
 use Rattle.acx.specs.Cursor.{begun, EndsBy, advanced}
 use Rattle.acx.specs.Events.{placedIn, adjustedIn, Ran}
 use Rattle.acx.specs.Pieces.{Piece, events}
@@ -75,7 +73,7 @@ advanced-is file b at ps (Fixups fixup from n) e o =
 advanced-is file b at ps (End entry next) e o = absurd o
 advanced-is file b at ps (Faulty fault) e o = absurd o
 
-advanced-at : (b : Bases) (c : Cursor) (r : Record) → Onward r → advanced b c r .at ≡ nextOf r
+pub advanced-at : (b : Bases) (c : Cursor) (r : Record) → Onward r → advanced b c r .at ≡ nextOf r
 advanced-at b c (Code kind address from n) o = refl
 advanced-at b c (Fixups fixup from n) o = refl
 advanced-at b c (End entry next) o = absurd o
@@ -133,7 +131,8 @@ module _ {file : List ℕ} {b : Bases} {first : ℕ} where
                 ∙ ap (λ (i : ℕ). cursorOf b i (piecesAfter file found ps)) at;
             in-file = rw (← at) (ahead .1);
             stands = rw (← at) (stands-on file b (c .at) ps found (x .in-file) (x .stands) is o ok);
-            same = x .same ∙ from-onward file b (c .at) ps found (x .in-file) is o ok ∙ ap (λ (i : ℕ). from file b i (piecesAfter file found ps)) at;
+            same = x .same ∙ from-onward file b (c .at) ps found (x .in-file) is o ok
+                ∙ ap (λ (i : ℕ). from file b i (piecesAfter file found ps)) at;
           }
 
       -- the cursor moves on
@@ -166,7 +165,8 @@ module _ {file : List ℕ} {b : Bases} {first : ℕ} where
         as-found =
             sym (ap (λ (q : Record). judge (λ e qs. from file b e qs) file b (c .at) ps (checked file b (c .at) ps .events) Passed q .answer) is)
             ∙ sym (ap
-            (λ (k : Check). judge (λ e qs. from file b e qs) file b (c .at) ps (checked file b (c .at) ps .events) k (recordAt file (c .at) ps) .answer)
+            (λ (k : Check). judge (λ e qs. from file b e qs) file b (c .at) ps (checked file b (c .at) ps .events) k
+            (recordAt file (c .at) ps) .answer)
             came-passes)
             ∙ one
 

@@ -1,6 +1,6 @@
 -- A run of code bytes with its fields replaced: what stays, what each field holds, and that two rounds of it are one.
 -- Assumes nothing.
-use mathlib.Core.List.{List, [], _∷_}
+use mathlib.Core.List.{List, [], _∷_, _++_}
 use mathlib.Core.Path.{_≡_, refl, ap, _∙_}
 use Prim.Native.Nat.{ℕ, _+_, _^_, _≤_, _<_}
 use lib.ListN.{length, getD}
@@ -32,6 +32,12 @@ module _ (g : Field → ℕ → ℕ) where
   unfolding edited
   bytes-edited [] bs h = h
   bytes-edited (f ∷ fs) bs h = bytes-edited fs _ (bytes-change (width f) (g f) bs (f .index) h)
+
+  -- some fields, and then others
+  pub edited-append : (fs hs : List Field) (bs : List ℕ) → edited g (fs ++ hs) bs ≡ edited g hs (edited g fs bs)
+  unfolding edited
+  edited-append [] hs bs = refl
+  edited-append (f ∷ fs) hs bs = edited-append fs hs _
 
   -- a byte in no field stays
   pub edited-plain : (fs : List Field) (bs : List ℕ) (j : ℕ) → Each (λ f. ¬ In j f) fs → getD (edited g fs bs) j 0 ≡ getD bs j 0

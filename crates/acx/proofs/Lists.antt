@@ -4,6 +4,11 @@ use mathlib.Core.List.{List, [], _∷_, _++_}
 use Rattle.acx.specs.Demand2.{Each, Pairwise}
 
 module _ {A : Type 0} where
+  -- what holds of all elements holds of each
+  pub each-all : {P : A → Type 0} → ((x : A) → P x) → (l : List A) → Each P l
+  each-all f [] = tt
+  each-all f (x ∷ l) = (f x, each-all f l)
+
   -- what follows from a statement holds where it does
   pub each-map : {P Q : A → Type 0} → ((x : A) → P x → Q x) → (l : List A) → Each P l → Each Q l
   each-map f [] h = tt

@@ -12,7 +12,7 @@ use Rattle.words.specs.Numbers.{value, on, change}
 use Rattle.words.specs.Runs.{Bytes, part, put}
 use Rattle.acx.proofs.Edits.{Inside, Fitting, length-edited, bytes-edited, edited-plain, edited-each}
 use Rattle.acx.proofs.Events.{play-append}
-use Rattle.acx.proofs.Lists.{each-map, each-zip, each-zip3}
+use Rattle.acx.proofs.Lists.{each-all, each-map, each-zip, each-zip3}
 use Rattle.acx.specs.Demand2.{Each, Pairwise, Placed, In, PiecesApart, FieldsApart}
 use Rattle.acx.specs.Events.{place, play}
 use Rattle.acx.specs.Pieces.{Piece, size, placeOf, width, amountOf, edited, adjustments, events}
@@ -51,32 +51,43 @@ unfoldable pub lay : (Piece → List ℕ) → Bases → List Piece → List ℕ 
 lay g b [] m = m
 lay g b (p ∷ ps) m = put (lay g b ps m) (placeOf b p) (g p)
 
--- runs as long as the pieces
-module _ (g : Piece → List ℕ) (same : (p : Piece) → length (g p) ≡ size p) (b : Bases) where
+-- the run of a piece is as long as the piece
+abbrev pub AsLong : (Piece → List ℕ) → Piece → Type 0
+AsLong g p = length (g p) ≡ size p
+
+module _ (g : Piece → List ℕ) (b : Bases) where
   -- nothing gets longer
   pub length-lay : (ps : List Piece) (m : List ℕ) → length (lay g b ps m) ≡ length m
   unfolding lay
   length-lay [] m = refl
   length-lay (p ∷ ps) m = length-put (lay g b ps m) (placeOf b p) (g p) ∙ length-lay ps m
 
-  -- an address in no piece's place keeps its byte
-  pub lay-outside : (ps : List Piece) (m : List ℕ) (x : ℕ) → Each (λ p. ¬ Placed b x p) ps → getD (lay g b ps m) x 0 ≡ getD m x 0
+  -- bytes stay bytes
+  pub bytes-lay : (ps : List Piece) (m : List ℕ) → Each (λ p. Bytes (g p)) ps → Bytes m → Bytes (lay g b ps m)
   unfolding lay
-  lay-outside [] m x h = refl
-  lay-outside (p ∷ ps) m x h = put-outside (lay g b ps m) (placeOf b p) (g p) x (rw (same p) (h .0)) ∙ lay-outside ps m x (h .1)
+  bytes-lay [] m h i = i
+  bytes-lay (p ∷ ps) m h i = bytes-put (lay g b ps m) (placeOf b p) (g p) (h .0) (bytes-lay ps m (h .1) i)
+
+  -- an address in no piece's place keeps its byte
+  pub lay-outside : (ps : List Piece) (m : List ℕ) (x : ℕ) → Each (AsLong g) ps → Each (λ p. ¬ Placed b x p) ps
+      → getD (lay g b ps m) x 0 ≡ getD m x 0
+  unfolding lay
+  lay-outside [] m x s h = refl
+  lay-outside (p ∷ ps) m x s h = put-outside (lay g b ps m) (placeOf b p) (g p) x (rw (s .0) (h .0)) ∙ lay-outside ps m x (s .1) (h .1)
 
   -- at the place of each of pieces that lie apart stands its run
-  pub lay-parts : (ps : List Piece) (m : List ℕ) → Each (Fits b (length m)) ps → Pairwise (PiecesApart b) ps
+  pub lay-parts : (ps : List Piece) (m : List ℕ) → Each (AsLong g) ps → Each (Fits b (length m)) ps → Pairwise (PiecesApart b) ps
       → Each (λ p. part (lay g b ps m) (placeOf b p) (size p) ≡ g p) ps
   unfolding lay
-  lay-parts [] m f d = tt
-  lay-parts (p ∷ ps) m f d =
+  lay-parts [] m s f d = tt
+  lay-parts (p ∷ ps) m s f d =
       let l : List ℕ = lay g b ps m in
-      let n : length l ≡ length m = length-lay ps m in (
-        ap (λ (k : ℕ). part (put l (placeOf b p) (g p)) (placeOf b p) k) (sym (same p)) ∙ part-put l (placeOf b p) (g p) (rw (same p, n) (f .0)),
+      let n : length l ≡ length m = length-lay ps m in
+      let t : length (g p) ≡ size p = s .0 in (
+        ap (λ (k : ℕ). part (put l (placeOf b p) (g p)) (placeOf b p) k) (sym t) ∙ part-put l (placeOf b p) (g p) (rw (t, n) (f .0)),
         each-zip3
-            (λ q i a e. part-put-apart l (placeOf b p) (g p) (placeOf b q) (size q) (rw n i) (rw (same p) a) ∙ e)
-            ps (f .1) (d .0) (lay-parts ps m (f .1) (d .1)),
+            (λ q i a e. part-put-apart l (placeOf b p) (g p) (placeOf b q) (size q) (rw n i) (rw t a) ∙ e)
+            ps (f .1) (d .0) (lay-parts ps m (s .1) (f .1) (d .1)),
       )
 
 -- ---- memory
@@ -96,14 +107,11 @@ module _ (b : Bases) where
 
   -- memory stays as long as it was
   pub length-laid : (ps : List Piece) (m : List ℕ) → length (laid b ps m) ≡ length m
-  length-laid ps m = length-lay (loaded b) length-loaded b ps m
+  length-laid ps m = length-lay (loaded b) b ps m
 
   -- and its bytes stay bytes
   pub bytes-laid : (ps : List Piece) (m : List ℕ) → Each (λ p. Bytes (p .code)) ps → Bytes m → Bytes (laid b ps m)
-  unfolding lay
-  bytes-laid [] m h i = i
-  bytes-laid (p ∷ ps) m h i =
-      bytes-put (laid b ps m) (placeOf b p) (loaded b p) (bytes-edited (added b) (p .fields) (p .code) (h .0)) (bytes-laid ps m (h .1) i)
+  bytes-laid ps m h i = bytes-lay (loaded b) b ps m (each-map (λ p k. bytes-edited (added b) (p .fields) (p .code) k) ps h) i
 
   -- the events of pieces that fit leave the pieces in memory
   pub play-laid : (ps : List Piece) (m : List ℕ) → Each (Fits b (length m)) ps → Each (λ p. Each (Inside (size p)) (p .fields)) ps
@@ -118,12 +126,12 @@ module _ (b : Bases) where
 
   -- an address in no piece's place keeps its byte
   pub laid-outside : (ps : List Piece) (m : List ℕ) (x : ℕ) → Each (λ p. ¬ Placed b x p) ps → getD (laid b ps m) x 0 ≡ getD m x 0
-  laid-outside ps m x h = lay-outside (loaded b) length-loaded b ps m x h
+  laid-outside ps m x h = lay-outside (loaded b) b ps m x (each-all length-loaded ps) h
 
   module _ (ps : List Piece) (m : List ℕ) (f : Each (Fits b (length m)) ps) (d : Pairwise (PiecesApart b) ps) where
     -- each piece stands at its place as it is loaded
     pub laid-parts : Each (λ p. part (laid b ps m) (placeOf b p) (size p) ≡ loaded b p) ps
-    laid-parts = lay-parts (loaded b) length-loaded b ps m f d
+    laid-parts = lay-parts (loaded b) b ps m (each-all length-loaded ps) f d
 
     -- a byte in no field stands as the code has it
     pub laid-plain : Each

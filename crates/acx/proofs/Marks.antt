@@ -13,7 +13,7 @@ use Rattle.words.specs.Runs.{Within, part, put, allZero, contains}
 use Rattle.acx.proofs.Checks.{adjusting-passed}
 use Rattle.acx.proofs.Edits.{Inside}
 use Rattle.acx.proofs.Events.{marks-append}
-use Rattle.acx.proofs.Lists.{each-map, each-zip}
+use Rattle.acx.proofs.Lists.{each-all, each-map, each-zip}
 use Rattle.acx.proofs.Loads.{Fits, lay, lay-outside, lay-parts}
 use Rattle.acx.specs.AtBases.{adjusting}
 use Rattle.acx.specs.Demand2.{Each, Pairwise, Placed, In, PiecesApart, FieldsApart}
@@ -141,14 +141,14 @@ module _ (b : Bases) where
   module _ (ps : List Piece) (m : List ℕ) (i : Each (λ p. Each (Inside (size p)) (p .fields)) ps) where
     -- an address in no piece's place keeps its mark
     pub marks-outside : (x : ℕ) → Each (λ p. ¬ Placed b x p) ps → getD (marks (events b ps) m) x 0 ≡ getD m x 0
-    marks-outside x h = ap (λ (l : List ℕ). getD l x 0) (marks-laid ps m i) ∙ lay-outside shade length-shade b ps m x h
+    marks-outside x h = ap (λ (l : List ℕ). getD l x 0) (marks-laid ps m i) ∙ lay-outside shade b ps m x (each-all length-shade ps) h
 
     module _ (f : Each (Fits b (length m)) ps) (d : Pairwise (PiecesApart b) ps) where
       -- the marks of each piece stand at its place
       marks-parts : Each (λ p. part (marks (events b ps) m) (placeOf b p) (size p) ≡ shade p) ps
       marks-parts =
           subst (λ (l : List ℕ). Each (λ p. part l (placeOf b p) (size p) ≡ shade p) ps) (sym (marks-laid ps m i))
-          (lay-parts shade length-shade b ps m f d)
+          (lay-parts shade b ps m (each-all length-shade ps) f d)
 
       -- a byte of a piece has its mark
       at : (p : Piece) (j : ℕ) → j < size p → part (marks (events b ps) m) (placeOf b p) (size p) ≡ shade p

@@ -142,6 +142,17 @@ opening-fits Disk file e = two (leb 2 (length file)) _ refl e
     two false rest h e = absurd (failed-passed CutShort e)
 opening-fits Device file e = omega arith
 
+-- an accepted file opens as it should, and its records are accepted
+pub judged-accepted : (form : Form) (file : List ℕ) (b : Bases) (ps : List Piece) (start : Start) → judged form file b .answer ≡ accepted ps start
+    → (openingSize form ≤ length file) × (from file b (openingSize form) [] .answer ≡ accepted ps start)
+unfolding judged
+judged-accepted form file b ps start e = by (opening form file) refl e
+  where
+    by : (c : Check) → opening form file ≡ c → opened c (from file b (openingSize form) []) .answer ≡ accepted ps start
+        → (openingSize form ≤ length file) × (from file b (openingSize form) [] .answer ≡ accepted ps start)
+    by Passed o e = (opening-fits form file o, e)
+    by (Failed fault) o e = absurd (refused-accepted fault 0 ps start e)
+
 -- ---- what every record keeps holds of an accepted file
 
 -- an accepted file ended at pieces of which P holds, and its events are theirs
@@ -184,9 +195,6 @@ module _ (file : List ℕ) (b : Bases) (P : ℕ → List Piece → Type 0)
   unfolding judged
   accepted-keeps form ps start h e = by (opening form file) refl e
     where
-      whole : Ran Verdict → Type 0
-      whole o = Ended P (length file) b (o .answer) (o .events)
-
       by : (c : Check) → opening form file ≡ c → opened c (from file b (openingSize form) []) .answer ≡ accepted ps start
           → (at : ℕ) × (at ≤ length file) × P at ps × (opened c (from file b (openingSize form) []) .events ≡ events b ps)
       by Passed o e =

@@ -1,0 +1,278 @@
+-- The walk that gathers a handler's pieces: at each record the scratch holds the pieces so far, moved.
+-- Assumes nothing.
+use mathlib.Core.List.{List, [], _∷_}
+use mathlib.Core.Path.{_≡_, refl, sym, ap, _∙_}
+use Prim.Native.Nat.{ℕ, _+_, _-_, _≤_}
+use native.Mathlib.Omega.{arith}
+use types.Run.{OneOf}
+use denote.Enum.Declared.{tagOf}
+use borrow.Rule.Slice.PartMut.{midOf, putMid}
+use lib.ListN.{length}
+use Rattle.acx.proofs.Cursors.{Came, advanced-at, came-first, came-found, came-on, came-passes, came-to-end, came-onward}
+use Rattle.acx.proofs.Edits.{length-edited, edited-append}
+use Rattle.acx.proofs.Events.{length-marks}
+use Rattle.acx.proofs.Marks.{length-blank, fields-fresh}
+use Rattle.acx.proofs.Standing.{fixups-passed}
+use Rattle.acx.proofs.Walking.{piecesAfter, Onward, judged-accepted}
+use Rattle.acx.specs.Call.{formOf}
+use Rattle.acx.specs.Cursor.{begun, advanced}
+use Rattle.acx.specs.Events.{marks, blank}
+use Rattle.acx.specs.Pieces.{Piece, size, placeAt, placeOf, edited, events}
+use Rattle.acx.specs.Walk.{accepted, lastOf, lastPlace, lastSize, recordAt, checked, withFields, from, openingSize}
+use Rattle.acx.specs.declared.Bases.{Bases}
+use Rattle.acx.specs.declared.Check.the-variants.{Passed}
+use Rattle.acx.specs.declared.Cursor.{Cursor}
+use Rattle.answer.specs.declared.Fault.{Fault}
+use Rattle.answer.specs.declared.Start.{Start}
+use Rattle.records.proofs.Reading.{Moving, lies-as, fixups-after}
+use Rattle.records.proofs.Record.{the-type}
+use Rattle.records.specs.Fields.{fieldsOf}
+use Rattle.records.specs.Records.{read}
+use Rattle.records.specs.declared.Entry.{Entry}
+use Rattle.records.specs.declared.Field.{Field}
+use Rattle.records.specs.declared.Fixup.{Fixup}
+use Rattle.records.specs.declared.Kind.{Kind}
+use Rattle.records.specs.declared.Record.{Record}
+use Rattle.records.specs.declared.Record.the-variants.{Code, Fixups, End, Faulty}
+use Rattle.words.proofs.Lent.{lent-is, back-is}
+use Rattle.words.proofs.Runs.{length-part, length-put, part-put, put-put}
+use Rattle.words.specs.Runs.{part, put}
+use Rattle.mover.proofs.Rulings.{follows, verdict, moves-is, both}
+use Rattle.mover.specs.Call.{rulingOf, Moves, moving}
+use Rattle.mover.specs.Move.{shift, carried, transfer, taken, Inside, Sound}
+
+-- ---- the file
+
+-- a handler that moves can be walked through at both pairs of bases, from the offset `first` on
+pub record Walkable (form : ℕ) (old new : Bases) (file : List ℕ) (first : ℕ) : Type 0 where
+  pub fits : length file ≤ 65536
+  pub opens : first ≤ length file
+  pub start : Start
+  pub start′ : Start
+  pub yes-old : from file old first [] .answer ≡ accepted (moving (rulingOf form old new file)) start
+  pub yes-new : from file new first [] .answer ≡ accepted (moving (rulingOf form old new file)) start′
+
+pub walkable : (form : ℕ) (old new : Bases) (file : List ℕ) (first : ℕ) → first ≡ openingSize (formOf form)
+    → Moves (rulingOf form old new file) → Walkable form old new file first
+walkable form old new file first e h =
+    let ps = moving (rulingOf form old new file) in
+    let x = both form old new file ps (moves-is (rulingOf form old new file) h) in
+    let u = judged-accepted (formOf form) file old ps (x .0 .0) (verdict file form ps old (x .0)) in
+    let v = judged-accepted (formOf form) file new ps (x .1 .0) (verdict file form ps new (x .1)) in
+    rw e
+    (record {
+      fits = follows file form ps old (x .0) .fits;
+      opens = u .0;
+      start = x .0 .0;
+      start′ = x .1 .0;
+      yes-old = u .1;
+      yes-new = v .1;
+    })
+
+-- ---- one record
+
+-- code
+code-taken : (old new : Bases) (m t₀ t : List ℕ) (ps : List Piece) (kind : Kind) (address : ℕ) (code : List ℕ) (n : ℕ) → length code ≡ n
+    → t ≡ transfer old new ps m t₀
+    → put t (placeAt new kind address) (part m (placeAt old kind address) n)
+    ≡ transfer old new (record { kind = kind; address = address; code = code; fields = [] } ∷ ps) m t₀
+unfolding transfer carried edited
+code-taken old new m t₀ t ps kind address code n l e =
+    ap (λ (k : ℕ). put t (placeAt new kind address) (part m (placeAt old kind address) k)) (sym l)
+    ∙ ap (λ (r : List ℕ). put r (placeAt new kind address) (part m (placeAt old kind address) (length code))) e
+
+-- fields more
+fields-taken : (old new : Bases) (m t₀ : List ℕ) (fs : List Field) (ps : List Piece) (t : List ℕ) → Moving (lastOf ps)
+    → lastPlace old ps + lastSize ps ≤ length m
+    → lastPlace new ps + lastSize ps ≤ length t
+    → t ≡ transfer old new ps m t₀
+    → put t (lastPlace new ps) (edited (shift old new) fs (part t (lastPlace new ps) (lastSize ps))) ≡ transfer old new (withFields fs ps) m t₀
+unfolding transfer carried
+fields-taken old new m t₀ fs [] t h i j e = absurd h
+fields-taken old new m t₀ fs (p ∷ ps) t h i j e =
+    let g = shift old new in
+    let a = placeOf new p in
+    let u : List ℕ = transfer old new ps m t₀ in
+    let bs : List ℕ = part m (placeOf old p) (size p) in
+    let cs : List ℕ = edited g (p .fields) bs in
+    let n : length cs ≡ size p = length-edited g (p .fields) bs ∙ length-part m (placeOf old p) (size p) i in
+    let l : length t ≡ length u = ap length e ∙ length-put u a cs in
+    let room : a + length cs ≤ length u = omega (arith, n, l, j) in
+    let there : part t a (size p) ≡ cs =
+    ap (λ (r : List ℕ). part r a (size p)) e ∙ ap (λ (k : ℕ). part (put u a cs) a k) (sym n) ∙ part-put u a cs room in
+    ap (λ (r : List ℕ). put t a (edited g fs r)) there
+    ∙ ap (λ (r : List ℕ). put r a (edited g fs cs)) e
+    ∙ put-put u a cs (edited g fs cs) (sym (length-edited g fs cs))
+    ∙ ap (put u a) (sym (edited-append g (p .fields) fs bs))
+
+-- the fields of a record that passed lie in the last code
+fields-inside : (file : List ℕ) (b : Bases) (at : ℕ) (ps : List Piece) (fixup : Fixup) (from n : ℕ) → lastPlace b ps + lastSize ps ≤ 65536
+    → recordAt file at ps ≡ Fixups fixup from n
+    → checked file b at ps .answer ≡ Passed → Inside (lastSize ps) (fieldsOf fixup (part file from n))
+fields-inside file b at ps fixup from n h e c =
+    let l : length (marks (events b ps) blank) ≡ 65536 = length-marks (events b ps) blank ∙ length-blank in
+    fields-fresh b (lastPlace b ps) (lastSize ps) (fieldsOf fixup (part file from n)) [] (marks (events b ps) blank) (omega (arith, h, l)) tt
+    (fixups-passed file b at ps fixup from n e c) .inside
+
+-- what a record brings to the scratch is what its piece brings, or its fields
+taken-on : (file : List ℕ) (old new : Bases) (m t₀ t : List ℕ) (source target : Cursor) (ps : List Piece) (at : ℕ) (r : Record)
+    → length m ≡ 65536
+    → length t ≡ 65536 → lastPlace old ps + lastSize ps ≤ 65536
+    → lastPlace new ps + lastSize ps ≤ 65536
+    → target .place ≡ lastPlace new ps
+    → target .size ≡ lastSize ps
+    → recordAt file at ps ≡ r
+    → Onward r
+    → t ≡ transfer old new ps m t₀
+    → taken file old new (advanced old source r) (advanced new target r) m t r ≡ transfer old new (piecesAfter file r ps) m t₀
+unfolding taken
+taken-on file old new m t₀ t source target ps at (Code kind address from n) lm lt i j ep es e o g =
+    let h = lies-as file at (lastOf ps) _ e .1 in
+    code-taken old new m t₀ t ps kind address (part file from n) n (length-part file from n h) g
+taken-on file old new m t₀ t source target ps at (Fixups fixup from n) lm lt i j ep es e o g =
+    rw (ep, es)
+    (fields-taken old new m t₀ (fieldsOf fixup (part file from n)) ps t (fixups-after file at (lastOf ps) fixup from n e) (omega arith)
+    (omega arith) g)
+taken-on file old new m t₀ t source target ps at (End entry next) lm lt i j ep es e o g = absurd o
+taken-on file old new m t₀ t source target ps at (Faulty fault) lm lt i j ep es e o g = absurd o
+
+-- the fields of a record lie in the last code
+sound : (file : List ℕ) (b : Bases) (c : Cursor) (ps : List Piece) (at : ℕ) (r : Record) → lastPlace b ps + lastSize ps ≤ 65536
+    → c .size ≡ lastSize ps
+    → recordAt file at ps ≡ r
+    → checked file b at ps .answer ≡ Passed
+    → Sound file (advanced b c r .size) r
+sound file b c ps at (Code kind address from n) i es e k = tt
+sound file b c ps at (Fixups fixup from n) i es e k =
+    (lies-as file at (lastOf ps) _ e .1, rw es (fields-inside file b at ps fixup from n i e k))
+sound file b c ps at (End entry next) i es e k = tt
+sound file b c ps at (Faulty fault) i es e k = tt
+
+-- ---- a record taken by the program, which lends parts of the buffers
+
+module _ (file : List ℕ) (old new : Bases) (source target : Cursor) (m t : List ℕ) {r : Record} where
+  -- code
+  pub takes-code : {kind : Kind} {address from n : ℕ} {bs : List ℕ} → r ≡ Code kind address from n
+      → source .place + source .size ≤ length m
+      → target .place + target .size ≤ length t
+      → source .size ≡ target .size
+      → bs ≡ midOf (source .place) (source .place + source .size - source .place) m
+      → putMid (target .place) (target .place + target .size - target .place) t bs ≡ taken file old new source target m t r
+  unfolding taken
+  takes-code {kind} {address} {from} {n} {bs} e i j k d =
+      let is : bs ≡ part m (source .place) (source .size) = d ∙ lent-is (source .place) (source .size) m in
+      let l : length bs ≡ target .size = ap length is ∙ length-part m (source .place) (source .size) i ∙ k in
+      rw e (back-is (target .place) (target .size) t bs j l ∙ ap (put t (target .place)) is)
+
+  -- fields
+  pub takes-fields : {fixup : Fixup} {from n : ℕ} {bs : List ℕ} → r ≡ Fixups fixup from n
+      → target .place + target .size ≤ length t
+      → bs
+      ≡ edited (shift old new) (fieldsOf fixup (midOf from (from + n - from) file))
+      (midOf (target .place) (target .place + target .size - target .place) t)
+      → putMid (target .place) (target .place + target .size - target .place) t bs ≡ taken file old new source target m t r
+  unfolding taken
+  takes-fields {fixup} {from} {n} {bs} e j d =
+      let g = shift old new in
+      let cs : List ℕ = part t (target .place) (target .size) in
+      let is : bs ≡ edited g (fieldsOf fixup (part file from n)) cs =
+      d
+      ∙ ap (λ (l : List ℕ). edited g (fieldsOf fixup l) (midOf (target .place) (target .place + target .size - target .place) t))
+      (lent-is from n file)
+      ∙ ap (edited g (fieldsOf fixup (part file from n))) (lent-is (target .place) (target .size) t) in
+      let l : length bs ≡ target .size =
+      ap length is ∙ length-edited g (fieldsOf fixup (part file from n)) cs ∙ length-part t (target .place) (target .size) j in
+      rw e (back-is (target .place) (target .size) t bs j l ∙ ap (put t (target .place)) is)
+
+  -- nothing
+  pub takes-end : {entry : Entry} {next : ℕ} → r ≡ End entry next → t ≡ taken file old new source target m t r
+  unfolding taken
+  takes-end e = rw e refl
+
+  pub takes-fault : {fault : Fault} → r ≡ Faulty fault → t ≡ taken file old new source target m t r
+  unfolding taken
+  takes-fault e = rw e refl
+
+-- a fixup record may be taken: it lies in the file, and its fields in the code
+pub takes-sound : (file : List ℕ) (n : ℕ) (r : Record) → Sound file n r → {fixup : Fixup} {from k : ℕ} → r ≡ Fixups fixup from k
+    → (from + k ≤ length file) × Inside n (fieldsOf fixup (part file from k))
+takes-sound file n r h e = rw e at h
+
+-- the items and the code that are then lent
+pub takes-lent : (file : List ℕ) (target : Cursor) (t : List ℕ) (fixup : Fixup) (from k : ℕ) → length file ≤ 65536
+    → target .place + target .size ≤ length t
+    → (from + k ≤ length file) × Inside (target .size) (fieldsOf fixup (part file from k))
+    → (length (midOf from (from + k - from) file) ≤ 65536)
+    × Inside (length (midOf (target .place) (target .place + target .size - target .place) t)) (fieldsOf fixup (midOf from (from + k - from) file))
+takes-lent file target t fixup from k l j h =
+    let items = lent-is from k file in
+    let code = lent-is (target .place) (target .size) t in
+    let n : length (midOf (target .place) (target .place + target .size - target .place) t) ≡ target .size =
+    ap length code ∙ length-part t (target .place) (target .size) j in
+    let i : length (midOf from (from + k - from) file) ≡ k = ap length items ∙ length-part file from k (h .0) in
+    (omega (arith, i, l, h .0), rw (n, items) (h .1))
+
+-- ---- a turn of the loop
+
+-- the walk began at an offset with the scratch t₀, and stands at two cursors with t
+pub record Gathering (file : List ℕ) (old new : Bases) (first : ℕ) (m t₀ : List ℕ) (source target : Cursor) (t : List ℕ) : Type 0 where
+  pub pieces : List Piece
+  pub at-old : Came file old first source pieces
+  pub at-new : Came file new first target pieces
+  pub together : source .at ≡ target .at
+  pub gathered : t ≡ transfer old new pieces m t₀
+
+module _ {file : List ℕ} {old new : Bases} {first : ℕ} {m t₀ : List ℕ} where
+  pub gathering-first : first ≤ length file → Gathering file old new first m t₀ (begun first) (begun first) t₀
+  unfolding transfer
+  gathering-first l = record { pieces = []; at-old = came-first l; at-new = came-first l; together = refl; gathered = refl }
+
+  module _ {source target : Cursor} {t : List ℕ} (x : Gathering file old new first m t₀ source target t)
+      {qs : List Piece} {start start′ : Start} (yes-old : from file old first [] .answer ≡ accepted qs start)
+      (yes-new : from file new first [] .answer ≡ accepted qs start′) {found : Record} (is : found ≡ read file (source .at) (source .last)) where
+    pub found-old : recordAt file (source .at) (x .pieces) ≡ found
+    found-old = came-found (x .at-old) is
+
+    pub found-new : recordAt file (target .at) (x .pieces) ≡ found
+    found-new = ap (λ (i : ℕ). recordAt file i (x .pieces)) (sym (x .together)) ∙ found-old
+
+    -- at the end record all pieces are gathered
+    pub gathering-end : {entry : Entry} {next : ℕ} → found ≡ End entry next → t ≡ transfer old new qs m t₀
+    gathering-end e = x .gathered ∙ ap (λ (ps : List Piece). transfer old new ps m t₀) (came-to-end (x .at-old) yes-old found-old e)
+
+    -- every other record leads on
+    pub gathering-onward : OneOf (0 ∷ 1 ∷ 3 ∷ []) (tagOf the-type found) → Onward found
+    gathering-onward h = came-onward (x .at-old) yes-old found-old h
+
+    module _ (o : Onward found) where
+      pub next-old : Came file old first (advanced old source found) (piecesAfter file found (x .pieces))
+      next-old = came-on (x .at-old) found-old o (came-passes (x .at-old) yes-old)
+
+      pub next-new : Came file new first (advanced new target found) (piecesAfter file found (x .pieces))
+      next-new = came-on (x .at-new) found-new o (came-passes (x .at-new) yes-new)
+
+      pub gathering-on : {t′ : List ℕ} → length m ≡ 65536 → length t ≡ 65536
+          → t′ ≡ taken file old new (advanced old source found) (advanced new target found) m t found
+          → Gathering file old new first m t₀ (advanced old source found) (advanced new target found) t′
+      gathering-on lm lt e =
+          record {
+            pieces = piecesAfter file found (x .pieces);
+            at-old = next-old;
+            at-new = next-new;
+            together = advanced-at old source found o ∙ sym (advanced-at new target found o);
+            gathered =
+                e
+                ∙ taken-on file old new m t₀ t source target (x .pieces) (source .at) found lm lt (x .at-old .stands .inside)
+                (x .at-new .stands .inside)
+                (ap (λ (k : Cursor). k .place) (x .at-new .here))
+                (ap (λ (k : Cursor). k .size) (x .at-new .here)) found-old o (x .gathered);
+          }
+
+      -- the record may be taken
+      pub gathering-sound : Sound file (advanced new target found .size) found
+      gathering-sound =
+          sound file new target (x .pieces) (target .at) found (x .at-new .stands .inside) (ap (λ (k : Cursor). k .size) (x .at-new .here))
+          found-new (came-passes (x .at-new) yes-new)
+
+      pub gathering-sizes : advanced old source found .size ≡ advanced new target found .size
+      gathering-sizes = ap (λ (k : Cursor). k .size) (next-old .here) ∙ sym (ap (λ (k : Cursor). k .size) (next-new .here))

@@ -1,0 +1,185 @@
+-- A call of the mover over plain values: the two loads that only check, and what follows from their ruling.
+-- Assumes nothing.
+use mathlib.Core.Bool.{true, false, false≢true}
+use mathlib.Core.List.{List}
+use mathlib.Core.Path.{_≡_, refl, sym, ap, _∙_}
+use Prim.Native.Nat.{ℕ, _≤_}
+use native.Mathlib.Omega.{arith}
+use borrow.Author.Tests.{eq-eqb, ne-eqb}
+use lib.ListN.{length}
+use Rattle.acx.proofs.Calling.{isRefused, Few, load-few}
+use Rattle.acx.specs.Call.{settings, placedOf, adjustedOf}
+use Rattle.acx.specs.Events.{blank, Ran, Did}
+use Rattle.acx.specs.Walk.{Verdict, accepted, refused, report, reported}
+use Rattle.acx.specs.declared.Bases.{Bases}
+use Rattle.answer.specs.Checks.{need}
+use Rattle.answer.specs.declared.Fault.{Fault}
+use Rattle.answer.specs.declared.Fault.the-variants.{WrongBuffer}
+use Rattle.answer.specs.declared.Outcome.{Outcome}
+use Rattle.answer.specs.declared.Outcome.the-variants.{Accepted, Refused}
+use Rattle.answer.specs.declared.Start.{Start}
+use Rattle.mover.specs.Call.{Call, loadAt, Ruling, moves, refuses, side, sides, rulingOf, sized, ruling, Moves, moving, outcomeBy, memoryBy, outcomeOf, memoryAfter, mapAfter, scratchAfter, Judged, Done, Moved}
+use Rattle.mover.specs.Move.{moved}
+
+-- ---- one side
+
+abbrev withSide : ℕ → Outcome → Outcome
+withSide n (Accepted start placed adjusted names low) = Accepted start placed adjusted names low
+withSide n (Refused fault at k) = Refused fault at n
+
+module _ {o : Ran Verdict} {m : List ℕ} {r : Outcome} {m₁ p₁ : List ℕ} (n : ℕ) (d : Did Outcome (reported o) false m blank r m₁ p₁) where
+  -- a walk that refused
+  pub side-refused : {fault : Fault} {at k : ℕ} {p′ : List ℕ} → r ≡ Refused fault at k → p′ ≡ blank
+      → Judged o (side n (o .answer)) m (Refused fault at n) m₁ p′
+  side-refused {fault} {at} {k} {p′} e ep = by (o .answer) refl
+    where
+      by : (v : Verdict) → o .answer ≡ v → Judged o (side n (o .answer)) m (Refused fault at n) m₁ p′
+      by (accepted ps start) f = absurd (false≢true (sym (ap isRefused (sym e ∙ d .answer ∙ ap (λ (v : Verdict). report v (o .events)) f))))
+      by (refused h i) f =
+          record {
+            outcome = rw f (ap (withSide n) (sym e ∙ d .answer ∙ ap (λ (v : Verdict). report v (o .events)) f));
+            memory = d .memory;
+            map = rw f ep;
+          }
+
+  -- a walk that did not
+  pub side-accepted : {start : Start} {i j k l : ℕ} → r ≡ Accepted start i j k l → Judged o (side n (o .answer)) m r m₁ p₁
+  side-accepted {start} {i} {j} {k} {l} e = by (o .answer) refl
+    where
+      by : (v : Verdict) → o .answer ≡ v → Judged o (side n (o .answer)) m r m₁ p₁
+      by (accepted ps start) f =
+          record { outcome = rw f (d .answer ∙ ap (λ (v : Verdict). report v (o .events)) f); memory = d .memory; map = rw f (d .map) }
+      by (refused h i) f = absurd (false≢true (ap isRefused (sym e ∙ d .answer ∙ ap (λ (v : Verdict). report v (o .events)) f)))
+
+-- ---- both sides
+
+-- whether a side is refused shows in its outcome
+refused-side : (o : Ran Verdict) (n : ℕ) (v : Verdict) → o .answer ≡ v → (r : Outcome) → r ≡ outcomeBy o (side n (o .answer))
+    → isRefused r ≡ isRefused (report v (o .events))
+refused-side o n (accepted ps start) f r e =
+    ap isRefused (e ∙ ap (λ (v : Verdict). outcomeBy o (side n v)) f ∙ ap (λ (v : Verdict). report v (o .events)) f)
+refused-side o n (refused fault at) f r e = ap isRefused (e ∙ ap (λ (v : Verdict). outcomeBy o (side n v)) f)
+
+module _ {o o′ : Ran Verdict} {m : List ℕ} {r : Outcome} {m₁ p₁ : List ℕ} (d : Judged o (side 0 (o .answer)) m r m₁ p₁) where
+  -- the old bases are at fault
+  pub sides-old : {fault : Fault} {at k : ℕ} → r ≡ Refused fault at k
+      → Judged o′ (sides (o .answer) (o′ .answer)) m (Refused fault at k) m₁ p₁
+  sides-old {fault} {at} {k} e = by (o .answer) refl
+    where
+      by : (v : Verdict) → o .answer ≡ v → Judged o′ (sides (o .answer) (o′ .answer)) m (Refused fault at k) m₁ p₁
+      by (accepted ps start) f = absurd (false≢true (sym (refused-side o 0 (accepted ps start) f r (d .outcome)) ∙ ap isRefused e))
+      by (refused h i) f = record { outcome = rw f (sym e ∙ rw f at (d .outcome)); memory = d .memory; map = rw f (rw f at (d .map)) }
+
+  -- the new ones decide
+  pub sides-new : {start : Start} {i j k l : ℕ} {r₂ : Outcome} {m₂ p₂ : List ℕ} → r ≡ Accepted start i j k l
+      → Judged o′ (side 1 (o′ .answer)) m₁ r₂ m₂ p₂ → Judged o′ (sides (o .answer) (o′ .answer)) m r₂ m₂ p₂
+  sides-new {start} {i} {j} {k} {l} {r₂} {m₂} {p₂} e d₂ = by (o .answer) refl
+    where
+      by : (v : Verdict) → o .answer ≡ v → Judged o′ (sides (o .answer) (o′ .answer)) m r₂ m₂ p₂
+      by (accepted ps start) f = record { outcome = rw f (d₂ .outcome); memory = d₂ .memory ∙ d .memory; map = rw f (d₂ .map) }
+      by (refused h i) f = absurd (false≢true (ap isRefused (sym e) ∙ refused-side o 0 (refused h i) f r (d .outcome)))
+
+-- ---- what the outcome says
+
+-- an accepted outcome is that of a handler that moves
+pub accepted-moves : (form : ℕ) (old new : Bases) (file : List ℕ) {m : List ℕ} {r : Outcome} {m₁ p₁ : List ℕ} {start : Start} {i j k l : ℕ}
+    → Judged (loadAt form new file) (rulingOf form old new file) m r m₁ p₁ → r ≡ Accepted start i j k l → Moves (rulingOf form old new file)
+accepted-moves form old new file {m} {r} {m₁} {p₁} {start} {i} {j} {k} {l} d e =
+    by (loadAt form old file .answer) (loadAt form new file .answer) refl refl
+  where
+    by : (u v : Verdict) → loadAt form old file .answer ≡ u → loadAt form new file .answer ≡ v → Moves (rulingOf form old new file)
+    by (accepted ps start) (accepted qs start′) f g = rw (f, g) tt
+    by (accepted ps start) (refused fault at) f g = absurd (false≢true (ap isRefused (sym e ∙ rw (f, g) at (d .outcome))))
+    by (refused fault at) v f g = absurd (false≢true (ap isRefused (sym e ∙ rw f at (d .outcome))))
+
+-- a refused one leaves memory
+refused-stays : (form : ℕ) (old new : Bases) (file m : List ℕ) (r : Outcome) → r ≡ outcomeBy (loadAt form new file) (rulingOf form old new file)
+    → isRefused r ≡ true → memoryBy old new (rulingOf form old new file) m ≡ m
+refused-stays form old new file m r d e = by (loadAt form old file .answer) (loadAt form new file .answer) refl refl
+  where
+    o : Ran Verdict
+    o = loadAt form new file
+
+    by : (u v : Verdict) → loadAt form old file .answer ≡ u → loadAt form new file .answer ≡ v → memoryBy old new (rulingOf form old new file) m ≡ m
+    by (accepted ps start) (accepted qs start′) f g =
+        absurd (false≢true
+        (sym (ap isRefused (d ∙ ap (λ (t : Verdict). outcomeBy o (sides t (o .answer))) f ∙ ap (λ (t : Verdict). outcomeBy o (side 1 t)) g
+        ∙ ap (λ (t : Verdict). report t (o .events)) g)) ∙ e))
+    by (accepted ps start) (refused fault at) f g = rw (f, g) refl
+    by (refused fault at) v f g = rw f refl
+
+-- ---- the call
+
+module _ (form : ℕ) (old new : Bases) (file : List ℕ) {m : List ℕ} {r : Outcome} {m₁ p₁ s′ : List ℕ}
+    (d : Judged (loadAt form new file) (rulingOf form old new file) m r m₁ p₁) (es : s′ ≡ blank) where
+  pub done-refused : {fault : Fault} {at k : ℕ} → r ≡ Refused fault at k → Done form old new file m (Refused fault at k) m₁ p₁ s′
+  done-refused e =
+      record {
+        outcome = sym e ∙ d .outcome;
+        memory = d .memory ∙ sym (refused-stays form old new file m r (d .outcome) (ap isRefused e));
+        map = d .map;
+        scratch = es;
+      }
+
+  pub done-moved : {m′ : List ℕ} → Moves (rulingOf form old new file) → m′ ≡ moved old new (moving (rulingOf form old new file)) m₁
+      → Done form old new file m r m′ p₁ s′
+  done-moved h e =
+      record {
+        outcome = d .outcome;
+        memory = e ∙ ap (moved old new (moving (rulingOf form old new file))) (d .memory) ∙ by (rulingOf form old new file) h;
+        map = d .map;
+        scratch = es;
+      }
+    where
+      by : (v : Ruling) → Moves v → moved old new (moving v) m ≡ memoryBy old new v m
+      by (moves ps) h = refl
+      by (refuses fault at side) h = absurd h
+
+-- neither count exceeds the file's length
+outcome-few : (o : Ran Verdict) (v : Ruling) (r : Outcome) (n : ℕ) → Few n o → r ≡ outcomeBy o v → (placedOf r ≤ n) × (adjustedOf r ≤ n)
+outcome-few o (moves ps) r n h e = (rw e (h .placed), rw e (h .adjusted))
+outcome-few o (refuses fault at side) r n h e = (rw e (omega arith), rw e (omega arith))
+
+-- ---- whatever the buffers
+
+module _ {file : List ℕ} {c : Call} {m : List ℕ} where
+  other : {r : Outcome} → sized c m ≡ false → r ≡ Refused WrongBuffer 0 0 → Moved file c m r m (c .map) (c .scratch)
+  unfolding ruling need outcomeOf memoryAfter mapAfter scratchAfter
+  other h e =
+      record {
+        outcome = rw (h, e) refl;
+        memory = rw h refl;
+        map = rw h refl;
+        scratch = rw h refl;
+        placed-fits = rw e (omega arith);
+        adjusted-fits = rw e (omega arith);
+      }
+
+  pub moved-memory : {r : Outcome} → (length m ≡ 65536 → ⊥) → r ≡ Refused WrongBuffer 0 0 → Moved file c m r m (c .map) (c .scratch)
+  moved-memory h e = other (rw (ne-eqb _ _ h) refl) e
+
+  pub moved-map : {r : Outcome} → length m ≡ 65536 → (length (c .map) ≡ 65536 → ⊥) → r ≡ Refused WrongBuffer 0 0
+      → Moved file c m r m (c .map) (c .scratch)
+  moved-map g h e = other (rw (eq-eqb _ _ g, ne-eqb _ _ h) refl) e
+
+  pub moved-scratch : {r : Outcome} → length m ≡ 65536 → length (c .map) ≡ 65536 → (length (c .scratch) ≡ 65536 → ⊥)
+      → r ≡ Refused WrongBuffer 0 0 → Moved file c m r m (c .map) (c .scratch)
+  moved-scratch g i h e = other (rw (eq-eqb _ _ g, eq-eqb _ _ i, ne-eqb _ _ h) refl) e
+
+  pub moved-sized : {r : Outcome} {m′ p′ s′ : List ℕ} → c .answer ≡ true → length m ≡ 65536 → length (c .map) ≡ 65536
+      → length (c .scratch) ≡ 65536
+      → Done (c .form) (c .old) (c .new) file m r m′ p′ s′
+      → Moved file c m r m′ p′ s′
+  unfolding ruling need outcomeOf memoryAfter mapAfter scratchAfter
+  moved-sized {r} {m′} {p′} {s′} a g i h d =
+      let z : sized c m ≡ true = rw (eq-eqb _ _ g, eq-eqb _ _ i, eq-eqb _ _ h, a) refl in
+      let few = outcome-few (loadAt (c .form) (c .new) file) (rulingOf (c .form) (c .old) (c .new) file) r (length file)
+      (load-few (settings (c .form) (c .new .main) (c .new .zero)) file) (d .outcome) in
+      record {
+        outcome = rw z (d .outcome);
+        memory = rw z (d .memory);
+        map = rw z (d .map);
+        scratch = rw z (d .scratch);
+        placed-fits = few .0;
+        adjusted-fits = few .1;
+      }

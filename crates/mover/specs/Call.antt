@@ -1,0 +1,137 @@
+-- A call of the mover, whatever comes in: its outcome, and what it leaves in memory, map and scratch.
+-- Assumes nothing.
+use mathlib.Core.Bool.{Bool, true, _&&_}
+use mathlib.Core.List.{List, []}
+use mathlib.Core.Path.{_≡_}
+use Prim.Native.Nat.{ℕ, _≤_}
+use lib.Dec.{eqb}
+use lib.ListN.{length}
+use Rattle.acx.specs.Call.{settings, load, ifSized, placedOf, adjustedOf}
+use Rattle.acx.specs.Events.{marks, blank, Ran}
+use Rattle.acx.specs.Pieces.{Piece}
+use Rattle.acx.specs.Walk.{Verdict, accepted, refused, reported}
+use Rattle.acx.specs.declared.Bases.{Bases}
+use Rattle.answer.specs.Checks.{need}
+use Rattle.answer.specs.declared.Fault.{Fault}
+use Rattle.answer.specs.declared.Fault.the-variants.{WrongBuffer}
+use Rattle.answer.specs.declared.Outcome.{Outcome}
+use Rattle.answer.specs.declared.Outcome.the-variants.{Refused}
+use Rattle.mover.specs.Move.{moved}
+use Rattle.mover.specs.declared.Site.{Site}
+
+-- "It takes form, file, old and new bases, memory, map and scratch." The file and memory stand apart: demand 3 is about many calls with one
+-- file in one memory.
+pub record Call : Type 0 where
+  pub form : ℕ
+  pub old : Bases
+  pub new : Bases
+  pub map : List ℕ
+  pub scratch : List ℕ
+  -- whether the C answer has its length; a call that lends none has nothing wrong there
+  pub answer : Bool
+
+-- a call without a C answer
+abbrev pub basesAt : Site → Bases
+basesAt s = record { main = s .main; zero = s .zero }
+
+abbrev pub call : ℕ → Site → Site → List ℕ → List ℕ → Call
+call form old new map scratch =
+    record { form = form; old = basesAt old; new = basesAt new; map = map; scratch = scratch; answer = true }
+
+-- ---- whether it is refused
+
+-- a load with the right buffers: 2, then 3, then the file
+abbrev pub loadAt : ℕ → Bases → List ℕ → Ran Verdict
+loadAt form b file = load (settings form (b .main) (b .zero)) file
+
+-- the handler's pieces move, or the call is refused with a fault, its offset and its side
+pub data Ruling : Type 0 where
+  moves : List Piece → Ruling
+  refuses : Fault → ℕ → ℕ → Ruling
+
+-- a load as one side of a move
+abbrev pub side : ℕ → Verdict → Ruling
+side n (accepted ps start) = moves ps
+side n (refused fault at) = refuses fault at n
+
+-- "refused exactly if a load at the old bases, then one at the new, would be, with that number, offset and side (0 old, 1 new)"
+abbrev pub sides : Verdict → Verdict → Ruling
+sides (accepted ps start) new = side 1 new
+sides (refused fault at) new = refuses fault at 0
+
+abbrev pub rulingOf : ℕ → Bases → Bases → List ℕ → Ruling
+rulingOf form old new file = sides (loadAt form old file .answer) (loadAt form new file .answer)
+
+-- "A wrong scratch length is 1, side 0", and so is that of memory, map or C answer
+abbrev pub sized : Call → List ℕ → Bool
+sized c m = eqb (length m) 65536 && eqb (length (c .map)) 65536 && eqb (length (c .scratch)) 65536 && c .answer
+
+abbrev pub beforehand : Fault → Ruling
+beforehand fault = refuses fault 0 0
+
+unfoldable pub ruling : List ℕ → Call → List ℕ → Ruling
+ruling file c m = need beforehand (sized c m) WrongBuffer (rulingOf (c .form) (c .old) (c .new) file)
+
+-- the call is accepted, and the pieces that move
+abbrev pub Moves : Ruling → Type 0
+Moves (moves ps) = Unit {0}
+Moves (refuses fault at side) = ⊥
+
+abbrev pub moving : Ruling → List Piece
+moving (moves ps) = ps
+moving (refuses fault at side) = []
+
+-- ---- what it answers and leaves
+
+-- "The answer and map are those of a load at the new bases."
+abbrev pub outcomeBy : Ran Verdict → Ruling → Outcome
+outcomeBy new (moves ps) = reported new .answer
+outcomeBy new (refuses fault at side) = Refused fault at side
+
+abbrev pub mapBy : Ran Verdict → Ruling → List ℕ
+mapBy new (moves ps) = marks (new .events) blank
+mapBy new (refuses fault at side) = blank
+
+-- "A refusal leaves program memory untouched"
+abbrev pub memoryBy : Bases → Bases → Ruling → List ℕ → List ℕ
+memoryBy old new (moves ps) m = moved old new ps m
+memoryBy old new (refuses fault at side) m = m
+
+unfoldable pub outcomeOf : List ℕ → Call → List ℕ → Outcome
+outcomeOf file c m = outcomeBy (loadAt (c .form) (c .new) file) (ruling file c m)
+
+unfoldable pub memoryAfter : List ℕ → Call → List ℕ → List ℕ
+memoryAfter file c m = memoryBy (c .old) (c .new) (ruling file c m) m
+
+-- "Refusal 1 changes nothing"; "Every other refusal leaves .. the map all zero."
+unfoldable pub mapAfter : List ℕ → Call → List ℕ → List ℕ
+mapAfter file c m = ifSized (sized c m) (mapBy (loadAt (c .form) (c .new) file) (ruling file c m)) (c .map)
+
+-- "a scratch of 65,536 bytes, all zero after it unless refused with 1"
+unfoldable pub scratchAfter : Call → List ℕ → List ℕ
+scratchAfter c m = ifSized (sized c m) blank (c .scratch)
+
+-- ---- contracts
+
+-- A load that only checks, as one side of a move, or both of them: the outcome, memory and the map after it.
+pub record Judged (o : Ran Verdict) (v : Ruling) (m : List ℕ) (r : Outcome) (m′ p′ : List ℕ) : Type 0 where
+  pub outcome : r ≡ outcomeBy o v
+  pub memory : m′ ≡ m
+  pub map : p′ ≡ mapBy o v
+
+-- What a call with the right buffers does.
+pub record Done (form : ℕ) (old new : Bases) (file m : List ℕ) (r : Outcome) (m′ p′ s′ : List ℕ) : Type 0 where
+  pub outcome : r ≡ outcomeBy (loadAt form new file) (rulingOf form old new file)
+  pub memory : m′ ≡ memoryBy old new (rulingOf form old new file) m
+  pub map : p′ ≡ mapBy (loadAt form new file) (rulingOf form old new file)
+  pub scratch : s′ ≡ blank
+
+-- What a call promises: it found memory m, and answers r and leaves m′, the map p′ and the scratch s′.
+pub record Moved (file : List ℕ) (c : Call) (m : List ℕ) (r : Outcome) (m′ p′ s′ : List ℕ) : Type 0 where
+  pub outcome : r ≡ outcomeOf file c m
+  pub memory : m′ ≡ memoryAfter file c m
+  pub map : p′ ≡ mapAfter file c m
+  pub scratch : s′ ≡ scratchAfter c m
+  -- "neither exceeds the file's length"
+  pub placed-fits : placedOf r ≤ length file
+  pub adjusted-fits : adjustedOf r ≤ length file

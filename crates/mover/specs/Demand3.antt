@@ -1,0 +1,122 @@
+-- Demand 3: what a list of moves of one handler in one memory leaves. Proved in proofs/Demand3.antt (`demand3`) of every list of calls,
+-- every file and every memory.
+-- Assumes nothing.
+use mathlib.Core.Bool.{true}
+use mathlib.Core.List.{List, [], _∷_}
+use mathlib.Core.Path.{_≡_}
+use Prim.Native.Nat.{ℕ, _+_, _<_}
+use lib.ListN.{length, getD}
+use Rattle.acx.specs.Call.{memoryAfter as playedBy}
+use Rattle.acx.specs.Demand2.{Each, Placed, In}
+use Rattle.acx.specs.Pieces.{Piece, size, placeOf, width, amountOf}
+use Rattle.acx.specs.Walk.{accepted}
+use Rattle.acx.specs.declared.Bases.{Bases}
+use Rattle.answer.specs.declared.Outcome.{Outcome}
+use Rattle.answer.specs.declared.Start.{Start}
+use Rattle.words.specs.Numbers.{value, on, off}
+use Rattle.words.specs.Runs.{Bytes}
+use Rattle.mover.specs.Call.{Call, loadAt, Ruling, moves, refuses, ruling, outcomeOf, memoryAfter, mapAfter}
+
+-- ---- the list
+
+-- "Memory starts with any contents, each call gets it as the last one left it, and nobody else writes it meanwhile."
+unfoldable pub after : List ℕ → List Call → List ℕ → List ℕ
+after file [] m = m
+after file (c ∷ cs) m = after file cs (memoryAfter file c m)
+
+abbrev pub ifMoves : {A : Type 0} → Ruling → A → List A → List A
+ifMoves (moves ps) x xs = x ∷ xs
+ifMoves (refuses fault at side) x xs = xs
+
+-- "The bases reached are the new bases of the accepted calls"
+unfoldable pub reached : List ℕ → List Call → List ℕ → List Bases
+reached file [] m = []
+reached file (c ∷ cs) m = ifMoves (ruling file c m) (c .new) (reached file cs (memoryAfter file c m))
+
+-- the last of some, and x if there are none
+abbrev pub last : {A : Type 0} → A → List A → A
+last x [] = x
+last x (y ∷ ys) = last y ys
+
+-- "Z is the last reached"; "if there are none, .. Z is A"
+abbrev pub arrived : List ℕ → Bases → List Call → List ℕ → Bases
+arrived file a cs m = last a (reached file cs m)
+
+-- where an accepted call leads; a refused one leaves the handler where it is
+abbrev pub onto : Ruling → Bases → Bases → Bases
+onto (moves ps) a new = new
+onto (refuses fault at side) a new = a
+
+-- an accepted call is in the handler's form and starts at a; refused ones come "with whatever form, bases, map, scratch and C answer"
+abbrev pub Linked : Ruling → ℕ → Bases → Call → Type 0
+Linked (moves ps) form a c = (c .form ≡ form) × (c .old ≡ a)
+Linked (refuses fault at side) form a c = Unit {0}
+
+-- "The first accepted move starts at bases A, .. each later accepted one at the bases that the one before reached"
+abbrev pub Chained : List ℕ → ℕ → Bases → List Call → List ℕ → Type 0
+Chained file form a [] m = Unit {0}
+Chained file form a (c ∷ cs) m =
+    Linked (ruling file c m) form a c × Chained file form (onto (ruling file c m) a (c .new)) cs (memoryAfter file c m)
+
+-- the answer and the map of a call
+pub record Report : Type 0 where
+  pub outcome : Outcome
+  pub map : List ℕ
+
+abbrev pub report : List ℕ → Call → List ℕ → Report
+report file c m = record { outcome = outcomeOf file c m; map = mapAfter file c m }
+
+-- those of the accepted calls
+unfoldable pub reports : List ℕ → List Call → List ℕ → List Report
+reports file [] m = []
+reports file (c ∷ cs) m = ifMoves (ruling file c m) (report file c m) (reports file cs (memoryAfter file c m))
+
+-- ---- the words of demand 3
+
+-- "any contents": a memory is 65,536 bytes
+abbrev pub Memory : List ℕ → Type 0
+Memory m = (length m ≡ 65536) × Bytes m
+
+-- "A handler is one file with its form, disk or device, accepted where a load in that form accepts it"
+abbrev pub AcceptedAt : List ℕ → ℕ → List Piece → Bases → Type 0
+AcceptedAt file form ps b = (start : Start) × (loadAt form b file .answer ≡ accepted ps start)
+
+-- memory after a load of the handler into r
+abbrev pub loadInto : List ℕ → ℕ → Bases → List ℕ → List ℕ
+loadInto file form b r = playedBy (loadAt form b file .answer) (loadAt form b file .events) r
+
+-- two memories are alike at every place of the handler at b: "Its places at a pair of bases are the addresses that a load there places"
+abbrev pub Alike : Bases → List Piece → List ℕ → List ℕ → Type 0
+Alike b ps m n = Each (λ p. (x : ℕ) → Placed b x p → getD m x 0 ≡ getD n x 0) ps
+
+-- "The one move from A to Z": a call with the right buffers, in the handler's form
+pub record OneMove (form : ℕ) (a z : Bases) (c : Call) : Type 0 where
+  pub in-form : c .form ≡ form
+  pub old : c .old ≡ a
+  pub new : c .new ≡ z
+  pub map : length (c .map) ≡ 65536
+  pub scratch : length (c .scratch) ≡ 65536
+  pub answer : c .answer ≡ true
+
+-- ---- the demand
+
+-- The handler with pieces ps moved from bases a to z; before the list memory was m, after it n.
+pub record Demand3 (file : List ℕ) (form : ℕ) (ps : List Piece) (a z : Bases) (cs : List Call) (m n : List ℕ) : Type 0 where
+  -- the handler is accepted at z, and so is the one move
+  pub lands : AcceptedAt file form ps z
+  pub direct : (c : Call) → OneMove form a z c → ruling file c m ≡ moves ps
+  -- "After the list, its bytes that aren't address fields hold at their places at Z what they held before it at their places at A."
+  pub plain : Each (λ p. (j : ℕ) → j < size p → Each (λ f. ¬ In j f) (p .fields) → getD n (placeOf z p + j) 0 ≡ getD m (placeOf a p + j) 0) ps
+  -- "Its address fields there hold the values that they had at A, with the amounts of A off and those of Z on."
+  pub fields : Each
+      (λ p. Each
+      (λ f. value (width f) n (placeOf z p + f .index)
+      ≡ on (width f) (amountOf z f) (off (width f) (amountOf a f) (value (width f) m (placeOf a p + f .index)))) (p .fields)) ps
+  -- "Every byte that is in none of its places at the bases reached stays as before."
+  pub others : (x : ℕ) → Each (λ b. Each (λ p. ¬ Placed b x p) ps) (reached file cs m) → getD n x 0 ≡ getD m x 0
+  -- "At every address placed at Z, memory equals what one move from A to Z leaves."
+  pub one-move : (c : Call) → OneMove form a z c → Alike z ps n (memoryAfter file c m)
+  -- "If its bytes were as loaded at A, memory at those addresses equals a fresh load at Z." (a load into any memory, at A as at Z)
+  pub fresh : (k r : List ℕ) → length k ≡ 65536 → length r ≡ 65536 → Alike a ps m (loadInto file form a k) → Alike z ps n (loadInto file form z r)
+  -- "its answer and map equal those of the last accepted call, if there is one"
+  pub reported : (c : Call) → OneMove form a z c → last (report file c m) (reports file cs m) ≡ report file c m

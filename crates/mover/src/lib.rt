@@ -1,0 +1,265 @@
+// The ACX mover: it takes a handler that lives in memory from one pair of bases to another.
+// Two loads that only check decide whether it may. Then the handler's bytes are gathered from their old places into the scratch, where they
+// lie at their new places and have their fields adjusted, and only then go into memory: so old and new places may overlap in any way.
+use acx::Bases;
+use acx::Cursor;
+use answer::Fault;
+use answer::Outcome;
+use records::Field;
+use records::Fixup;
+use records::Record;
+ghost use mathlib.Core.Path.{_≡_};
+ghost use Prim.Native.Nat.{_+_, _≤_, _<_};
+ghost use lib.ListN.{length};
+ghost use Rattle.words.specs.Numbers.{on, off, change};
+ghost use Rattle.words.specs.Runs.{part};
+ghost use Rattle.records.specs.Fields.{fieldsOf, widthOf};
+ghost use Rattle.acx.specs.Events.{blank};
+ghost use Rattle.acx.specs.Pieces.{edited};
+ghost use Rattle.mover.specs.Move.{shift, transfer, moved, taken, Inside, Sound, Overlaid};
+ghost use Rattle.mover.specs.Call.{basesAt, call, loadAt, side as sideOf, rulingOf, Moves, moving, mapBy, Judged, Done, Moved};
+
+// The length of memory, of the map and of the scratch.
+const MEMORY: usize = 65536;
+
+// A pair of bases as a call asks for it, in its range or not.
+pub struct Site {
+    pub main: u32,
+    pub zero: u32,
+}
+
+// Moves a handler. Refuses as a load at the old bases would, then as one at the new would; memory is then as it was.
+pub fn move_handler(
+    form: u32,
+    file: &[u8],
+    old: Site,
+    new: Site,
+    memory: &mut [u8],
+    map: &mut [u8],
+    scratch: &mut [u8],
+) -> Outcome
+    ensures { λ r. ⌜ Moved (now (file .entry)) (call form old new (now (map .entry)) (now (scratch .entry))) (now (memory .entry)) r (now (memory .exit)) (now (map .exit)) (now (scratch .exit)) ⌝ }
+{
+    if memory.len() != MEMORY {
+        return answer::refused(Fault::WrongBuffer);
+    }
+    if map.len() != MEMORY {
+        return answer::refused(Fault::WrongBuffer);
+    }
+    if scratch.len() != MEMORY {
+        return answer::refused(Fault::WrongBuffer);
+    }
+    move_sized(form, file, old, new, memory, map, scratch)
+}
+
+// A move with the right buffers: checked first, and carried out only where nothing is refused.
+fn move_sized(
+    form: u32,
+    file: &[u8],
+    old: Site,
+    new: Site,
+    memory: &mut [u8],
+    map: &mut [u8],
+    scratch: &mut [u8],
+) -> Outcome
+    requires { ⌜ (length (now memory) ≡ 65536) × (length (now map) ≡ 65536) × (length (now scratch) ≡ 65536) ⌝ }
+    ensures { λ r. ⌜ Done form (basesAt old) (basesAt new) (now (file .entry)) (now (memory .entry)) r (now (memory .exit)) (now (map .exit)) (now (scratch .exit)) ⌝ }
+{
+    let outcome = judge(form, file, old, new, memory, map);
+    if let Outcome::Refused {
+        fault,
+        offset,
+        side,
+    } = outcome {
+        words::fill(scratch, 0);
+        return outcome;
+    }
+    carry(form, file, bases(old), bases(new), map, memory, scratch);
+    outcome
+}
+
+// The bases of a site that is in its range.
+fn bases(site: Site) -> Bases
+    requires { ⌜ (site .main ≤ 65535) × (site .zero ≤ 65535) ⌝ }
+    ensures { λ r. ⌜ r ≡ basesAt site ⌝ }
+{
+    Bases {
+        main: site.main as u16,
+        zero: site.zero as u16,
+    }
+}
+
+// Whether the handler may move: the load at the old bases, then the one at the new, which leaves the map.
+fn judge(form: u32, file: &[u8], old: Site, new: Site, memory: &mut [u8], map: &mut [u8]) -> Outcome
+    requires { ⌜ (length (now memory) ≡ 65536) × (length (now map) ≡ 65536) ⌝ }
+    ensures { λ r. ⌜ Judged (loadAt form (basesAt new) (now (file .entry))) (rulingOf form (basesAt old) (basesAt new) (now (file .entry))) (now (memory .entry)) r (now (memory .exit)) (now (map .exit)) ⌝ }
+{
+    let at_old = judge_side(form, file, old, 0, memory, map);
+    if let Outcome::Refused {
+        fault,
+        offset,
+        side,
+    } = at_old {
+        return at_old;
+    }
+    judge_side(form, file, new, 1, memory, map)
+}
+
+// A load that only checks, at one side of the move.
+fn judge_side(
+    form: u32,
+    file: &[u8],
+    site: Site,
+    side: u32,
+    memory: &mut [u8],
+    map: &mut [u8],
+) -> Outcome
+    requires { ⌜ (length (now memory) ≡ 65536) × (length (now map) ≡ 65536) ⌝ }
+    ensures { λ r. ⌜ Judged (loadAt form (basesAt site) (now (file .entry))) (sideOf side (loadAt form (basesAt site) (now (file .entry)) .answer)) (now (memory .entry)) r (now (memory .exit)) (now (map .exit)) ⌝ }
+{
+    let outcome = acx::walk_call(form, file, site.main, site.zero, false, memory, map);
+    if let Outcome::Refused {
+        fault,
+        offset,
+        side: none,
+    } = outcome {
+        words::fill(map, 0);
+        return Outcome::Refused {
+            fault,
+            offset,
+            side,
+        };
+    }
+    outcome
+}
+
+// The handler's bytes by way of the scratch, over the map of a load at the new bases.
+fn carry(
+    form: u32,
+    file: &[u8],
+    old: Bases,
+    new: Bases,
+    map: &[u8],
+    memory: &mut [u8],
+    scratch: &mut [u8],
+)
+    requires { ⌜ Moves (rulingOf form old new (now file)) × (now map ≡ mapBy (loadAt form new (now file)) (rulingOf form old new (now file))) × (length (now memory) ≡ 65536) × (length (now scratch) ≡ 65536) ⌝ }
+    ensures { λ _. ⌜ (now (memory .exit) ≡ moved old new (moving (rulingOf form old new (now (file .entry)))) (now (memory .entry))) × (now (scratch .exit) ≡ blank) ⌝ }
+{
+    gather(form, file, old, new, memory, scratch);
+    commit(map, scratch, memory);
+    words::fill(scratch, 0);
+}
+
+// The scratch's bytes into memory, at every address that the map marks.
+fn commit(map: &[u8], scratch: &[u8], memory: &mut [u8])
+    requires { ⌜ (length (now memory) ≡ 65536) × (length (now map) ≡ 65536) × (length (now scratch) ≡ 65536) ⌝ }
+    ensures { λ _. ⌜ Overlaid (now (map .entry)) (now (scratch .entry)) (now (memory .entry)) (now (memory .exit)) ⌝ }
+{
+    let mut x = 0;
+    while x < MEMORY {
+        if map[x] != 0 {
+            memory[x] = scratch[x];
+        }
+        x += 1;
+    }
+}
+
+// The pieces at their old places in memory into the scratch, at their new places and adjusted: record by record, with a cursor for each
+// pair of bases.
+fn gather(form: u32, file: &[u8], old: Bases, new: Bases, memory: &[u8], scratch: &mut [u8])
+    requires { ⌜ Moves (rulingOf form old new (now file)) × (length (now memory) ≡ 65536) × (length (now scratch) ≡ 65536) ⌝ }
+    ensures { λ _. ⌜ now (scratch .exit) ≡ transfer old new (moving (rulingOf form old new (now (file .entry)))) (now (memory .entry)) (now (scratch .entry)) ⌝ }
+{
+    let at = acx::opening_size(acx::form_of(form));
+    let mut source = acx::begin(at);
+    let mut target = acx::begin(at);
+    loop {
+        let last = source.last;
+        let found = records::read(file, source.at, last);
+        if let Record::End { entry, next } = found {
+            return;
+        }
+        source = acx::advance(old, source, found);
+        target = acx::advance(new, target, found);
+        take(file, found, old, new, source, target, memory, scratch);
+    }
+}
+
+// What a record brings to the scratch: its code from memory, or a change of the fields that it lists.
+fn take(
+    file: &[u8],
+    found: Record,
+    old: Bases,
+    new: Bases,
+    source: Cursor,
+    target: Cursor,
+    memory: &[u8],
+    scratch: &mut [u8],
+)
+    requires { ⌜ Sound (now file) (target .size) found × (source .place + source .size ≤ length (now memory)) × (target .place + target .size ≤ length (now scratch)) × (source .size ≡ target .size) × (length (now file) ≤ 65536) ⌝ }
+    ensures { λ _. ⌜ now (scratch .exit) ≡ taken (now (file .entry)) old new source target (now (memory .entry)) (now (scratch .entry)) found ⌝ }
+{
+    let begin = target.place;
+    let end = begin + target.size;
+    match found {
+        Record::Code {
+            kind,
+            address,
+            from,
+            size,
+        } => {
+            let place = source.place;
+            let past = place + source.size;
+            words::copy(&mut scratch[begin..end], &memory[place..past]);
+        }
+        Record::Fixups { fixup, from, size } => {
+            let next = from + size;
+            shift_fields(&file[from..next], fixup, old, new, &mut scratch[begin..end]);
+        }
+        Record::End { entry, next } => {}
+        Record::Faulty(fault) => {}
+    }
+}
+
+// The fields that a fixup record lists, one by one: the amounts of the old bases off, those of the new on.
+fn shift_fields(items: &[u8], fixup: Fixup, old: Bases, new: Bases, code: &mut [u8])
+    requires { ⌜ (length (now items) ≤ 65536) × Inside (length (now code)) (fieldsOf fixup (now items)) ⌝ }
+    ensures { λ _. ⌜ now (code .exit) ≡ edited (shift old new) (fieldsOf fixup (now (items .entry))) (now (code .entry)) ⌝ }
+{
+    let step = records::item_size(fixup);
+    let mut i = 0;
+    while i + step <= items.len() {
+        let field = records::field_at(items, i, fixup);
+        shift_field(
+            code,
+            field,
+            acx::amount(old, field),
+            acx::amount(new, field),
+        );
+        i += step;
+    }
+}
+
+// One amount off a field of the code, another on.
+fn shift_field(code: &mut [u8], field: Field, old: u16, new: u16)
+    requires { ⌜ field .index + widthOf (field .fixup) ≤ length (now code) ⌝ }
+    ensures { λ _. ⌜ now (code .exit) ≡ change (widthOf (field .fixup)) (λ v. on (widthOf (field .fixup)) new (off (widthOf (field .fixup)) old v)) (now (code .entry)) (field .index) ⌝ }
+{
+    take_off(code, field, old);
+    acx::add(code, field, new);
+}
+
+// An amount off a field of the code.
+fn take_off(code: &mut [u8], field: Field, amount: u16)
+    requires { ⌜ field .index + widthOf (field .fixup) ≤ length (now code) ⌝ }
+    ensures { λ _. ⌜ now (code .exit) ≡ change (widthOf (field .fixup)) (off (widthOf (field .fixup)) amount) (now (code .entry)) (field .index) ⌝ }
+{
+    let fixup = field.fixup;
+    match fixup {
+        Fixup::Low => words::take_off_byte(code, field.index, amount),
+        Fixup::Page => words::take_off_byte(code, field.index, amount),
+        Fixup::Word => words::take_off_word(code, field.index, amount),
+        Fixup::High => words::take_off_byte(code, field.index, amount),
+    }
+}
