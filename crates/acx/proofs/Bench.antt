@@ -1,6 +1,6 @@
 -- P1, P3, P4, P9 and P10 of the bench table, as facts about the definition.
 -- Assumes nothing.
-use mathlib.Core.List.{List, [], _∷_}
+use mathlib.Core.List.{List, [], _∷_, map}
 use mathlib.Core.Path.{_≡_, refl}
 use Prim.Native.Nat.{ℕ}
 use Rattle.answer.specs.Checks.{need}
@@ -38,14 +38,6 @@ got w =
 
 abbrev pub wanted : Row → Result
 wanted w = record { outcome = w .outcome; memory = put blank (w .main) (w .memory); map = put blank (w .main) (w .map) }
-
-abbrev pub gots : List Row → List Result
-gots [] = []
-gots (w ∷ ws) = got w ∷ gots ws
-
-abbrev pub wants : List Row → List Result
-wants [] = []
-wants (w ∷ ws) = wanted w ∷ wants ws
 
 pub rows : List Row
 rows =
@@ -86,6 +78,6 @@ rows =
     }
     ∷ []
 
-pub bench : gots rows ≡ wants rows
+pub bench : map got rows ≡ map wanted rows
 unfolding rows number value digits store on change part put allZero contains fieldsOf need readCode readItems readFixups readEnd read play marks blank placedIn adjustedIn adjustments events amountOf placing adjusting ending applied checked walk from judged opening load
 bench = refl

@@ -210,20 +210,6 @@ pub fn amount(bases: Bases, field: Field) -> u16
     }
 }
 
-// An amount on a field of the code.
-pub fn add(code: &mut [u8], field: Field, amount: u16)
-    requires { ⌜ field .index + widthOf (field .fixup) ≤ length (now code) ⌝ }
-    ensures { λ _. ⌜ now (code .exit) ≡ change (widthOf (field .fixup)) (on (widthOf (field .fixup)) amount) (now (code .entry)) (field .index) ⌝ }
-{
-    let fixup = field.fixup;
-    match fixup {
-        Fixup::Low => words::add_to_byte(code, field.index, amount),
-        Fixup::Page => words::add_to_byte(code, field.index, amount),
-        Fixup::Word => words::add_to_word(code, field.index, amount),
-        Fixup::High => words::add_to_byte(code, field.index, amount),
-    }
-}
-
 // A load with the right buffers: checked first, and written only where nothing is refused.
 fn load_sized(
     form: u32,
@@ -526,6 +512,20 @@ fn write_field(field: Field, bases: Bases, at: usize, size: usize, write: bool, 
     if write {
         let end = at + size;
         add(&mut memory[at..end], field, amount(bases, field));
+    }
+}
+
+// An amount on a field of the code.
+fn add(code: &mut [u8], field: Field, amount: u16)
+    requires { ⌜ field .index + widthOf (field .fixup) ≤ length (now code) ⌝ }
+    ensures { λ _. ⌜ now (code .exit) ≡ change (widthOf (field .fixup)) (on (widthOf (field .fixup)) amount) (now (code .entry)) (field .index) ⌝ }
+{
+    let fixup = field.fixup;
+    match fixup {
+        Fixup::Low => words::add_to_byte(code, field.index, amount),
+        Fixup::Page => words::add_to_byte(code, field.index, amount),
+        Fixup::Word => words::add_to_word(code, field.index, amount),
+        Fixup::High => words::add_to_byte(code, field.index, amount),
     }
 }
 

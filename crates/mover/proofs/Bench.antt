@@ -1,7 +1,7 @@
 -- P2 and P5 of the bench table, as facts about the definition.
 -- Assumes nothing.
 use mathlib.Core.Bool.{true}
-use mathlib.Core.List.{List, [], _∷_}
+use mathlib.Core.List.{List, [], _∷_, map}
 use mathlib.Core.Path.{_≡_, refl}
 use Prim.Native.Nat.{ℕ}
 use Rattle.acx.specs.AtBases.{placing, adjusting, ending, applied}
@@ -66,14 +66,6 @@ wanted w =
       scratch = blank;
     }
 
-abbrev pub gots : List Row → List Result
-gots [] = []
-gots (w ∷ ws) = got w ∷ gots ws
-
-abbrev pub wants : List Row → List Result
-wants [] = []
-wants (w ∷ ws) = wanted w ∷ wants ws
-
 pub rows : List Row
 rows =
     record {
@@ -96,6 +88,6 @@ rows =
     }
     ∷ []
 
-pub bench : gots rows ≡ wants rows
+pub bench : map got rows ≡ map wanted rows
 unfolding rows number digits value store on off change part put allZero contains fieldsOf need readCode readItems readFixups readEnd read play marks blank placedIn adjustedIn amountOf edited adjustments events placing adjusting ending applied checked walk from opening judged load carried transfer moved ruling outcomeOf memoryAfter mapAfter scratchAfter
 bench = refl

@@ -21,7 +21,7 @@ use Rattle.mover.proofs.Rulings.{handler-at, code-bytes, load-laid, All
 use Rattle.mover.proofs.Shifts.{shift-fits, shift-added}
 use Rattle.mover.proofs.Transfers.{moved-parts}
 use Rattle.mover.specs.Call.{Call, memoryAfter}
-use Rattle.mover.specs.Demand3.{after, reached, last, arrived, Chained, Report, report, reports, Memory, AcceptedAt, loadInto, Alike, OneMove, Demand3}
+use Rattle.mover.specs.Demand3.{after, reached, last, arrived, Report, report, reports, Memory, AcceptedAt, loadInto, Alike, OneMove, Claim}
 use Rattle.mover.specs.Move.{shift, carried, moved}
 
 -- ---- one piece that stands at z in n as one move from a of what m held would leave it
@@ -123,10 +123,8 @@ module _ (file : List ℕ) (form : ℕ) (ps : List Piece) (a z : Bases) (m n : L
       ps (s .holds) first (each-zip3 (λ p i d c. (i, d, c)) ps (at-a .inside) (at-a .distinct) (code-bytes file form ps a h b)) in
       each-zip (λ p e f i w. part-agree-at n (loadInto file form z r) (placeOf z p) (size p) i (e ∙ sym f) w) ps then (loads z (s .stands) r lr)
 
--- Demand 3, of every list of calls, every file and every memory
-pub demand3 : (file : List ℕ) → Bytes file → (form : ℕ) (ps : List Piece) (a : Bases) → AcceptedAt file form ps a
-    → (cs : List Call) (m : List ℕ) → Memory m → Chained file form a cs m
-    → Demand3 file form ps a (arrived file a cs m) cs m (after file cs m)
+-- of every list of calls
+pub demand3 : Claim
 demand3 file b form ps a h cs m y g =
     let z = arrived file a cs m in
     let n = after file cs m in

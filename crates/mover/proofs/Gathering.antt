@@ -39,7 +39,8 @@ use Rattle.words.proofs.Runs.{length-part, length-put, part-put, put-put}
 use Rattle.words.specs.Runs.{part, put}
 use Rattle.mover.proofs.Rulings.{follows, verdict, moves-is, both}
 use Rattle.mover.specs.Call.{rulingOf, Moves, moving}
-use Rattle.mover.specs.Move.{shift, carried, transfer, taken, Inside, Sound}
+use Rattle.mover.specs.Move.{shift, carried, transfer}
+use Rattle.mover.specs.Parts.{taken, Inside, Sound}
 
 -- ---- the file
 

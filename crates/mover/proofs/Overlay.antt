@@ -21,7 +21,8 @@ use Rattle.mover.proofs.Rulings.{handler-at, events-at, moves-is, both}
 use Rattle.mover.proofs.Transfers.{length-transfer, transfer-outside, transfer-parts}
 use Rattle.mover.specs.Call.{loadAt, rulingOf, Moves, moving, mapBy}
 use Rattle.mover.specs.Demand3.{AcceptedAt}
-use Rattle.mover.specs.Move.{transfer, moved, chosen, Overlaid}
+use Rattle.mover.specs.Move.{transfer, moved}
+use Rattle.mover.specs.Parts.{chosen, Overlaid}
 
 -- ---- the loop
 

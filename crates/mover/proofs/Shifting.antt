@@ -6,17 +6,31 @@ use Prim.Native.Nat.{ℕ, _+_, _≤_}
 use lib.ListN.{length}
 use Rattle.acx.specs.Pieces.{width, amountOf, edited}
 use Rattle.acx.specs.declared.Bases.{Bases}
+use Rattle.records.specs.Fields.{widthOf}
 use Rattle.records.specs.declared.Field.{Field}
+use Rattle.records.specs.declared.Fixup.{Fixup}
+use Rattle.records.specs.declared.Fixup.the-variants.{Low, Page, Word, High}
 use Rattle.words.proofs.Changes.{length-change, change-change}
 use Rattle.words.proofs.Numbers.{off-lt}
 use Rattle.words.specs.Numbers.{value, on, off, change}
-use Rattle.mover.specs.Move.{shift, Inside}
+use Rattle.mover.specs.Move.{shift}
+use Rattle.mover.specs.Parts.{Inside}
 
--- one amount off, another on
-pub shifted-field : (k old new : ℕ) (l m n : List ℕ) (i : ℕ) → i + k ≤ length l → m ≡ change k (off k old) l i → n ≡ change k (on k new) m i
-    → n ≡ change k (λ v. on k new (off k old v)) l i
-shifted-field k old new l m n i h e f =
-    f ∙ ap (λ (r : List ℕ). change k (on k new) r i) e ∙ change-change k (off k old) l i (on k new) h (off-lt k old (value k l i))
+-- a field that is no byte is a word
+pub width-two : (fixup : Fixup) → (widthOf fixup ≡ 1 → ⊥) → widthOf fixup ≡ 2
+width-two Low h = absurd (h refl)
+width-two Page h = absurd (h refl)
+width-two Word h = refl
+width-two High h = absurd (h refl)
+
+-- one amount off a field of the width w, another on, by functions for numbers of k bytes
+pub shifted-field : (w k old new : ℕ) (l m n : List ℕ) (i : ℕ) → w ≡ k → i + w ≤ length l → m ≡ change k (off k old) l i
+    → n ≡ change k (on k new) m i
+    → n ≡ change w (λ v. on w new (off w old v)) l i
+shifted-field w k old new l m n i e h a b =
+    let room : i + k ≤ length l = rw e at h in
+    rw e
+    (b ∙ ap (λ (r : List ℕ). change k (on k new) r i) a ∙ change-change k (off k old) l i (on k new) room (off-lt k old (value k l i)))
 
 -- where the loop stands: it began with the fields all and the code bs, and rest are left
 pub record Shifting (old new : Bases) (all : List Field) (bs : List ℕ) (rest : List Field) (cs : List ℕ) : Type 0 where

@@ -1,5 +1,4 @@
--- Demand 3: what a list of moves of one handler in one memory leaves. Proved in proofs/Demand3.antt (`demand3`) of every list of calls,
--- every file and every memory.
+-- Demand 3: what a list of moves of one handler in one memory leaves. `Claim`, at the end, is proved in proofs/Demand3.antt (`demand3`).
 -- Assumes nothing.
 use mathlib.Core.Bool.{true}
 use mathlib.Core.List.{List, [], _∷_}
@@ -120,3 +119,10 @@ pub record Demand3 (file : List ℕ) (form : ℕ) (ps : List Piece) (a z : Bases
   pub fresh : (k r : List ℕ) → length k ≡ 65536 → length r ≡ 65536 → Alike a ps m (loadInto file form a k) → Alike z ps n (loadInto file form z r)
   -- "its answer and map equal those of the last accepted call, if there is one"
   pub reported : (c : Call) → OneMove form a z c → last (report file c m) (reports file cs m) ≡ report file c m
+
+-- The claim, one about the list as a whole: of every handler that is accepted at A, every list of calls and every memory.
+abbrev pub Claim : Type 0
+Claim =
+    (file : List ℕ) → Bytes file → (form : ℕ) (ps : List Piece) (a : Bases) → AcceptedAt file form ps a → (cs : List Call) (m : List ℕ) → Memory m
+    → Chained file form a cs m
+    → Demand3 file form ps a (arrived file a cs m) cs m (after file cs m)

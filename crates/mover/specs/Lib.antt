@@ -3,3 +3,4 @@ pub mod Move
 pub mod Call
 pub mod Demand3
 pub mod Outcomes
+pub mod Parts

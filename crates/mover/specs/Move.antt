@@ -1,21 +1,12 @@
 -- What a move does to memory: document 01, "The mover".
 -- Assumes nothing.
 use mathlib.Core.List.{List, [], _∷_}
-use mathlib.Core.Path.{_≡_}
-use Prim.Native.Nat.{ℕ, zero, suc, _+_, _≤_}
-use lib.ListN.{length, getD}
-use Rattle.acx.specs.Demand2.{Each}
+use Prim.Native.Nat.{ℕ}
 use Rattle.acx.specs.Pieces.{Piece, size, placeOf, width, amountOf, edited}
 use Rattle.acx.specs.declared.Bases.{Bases}
-use Rattle.acx.specs.declared.Cursor.{Cursor}
-use Rattle.records.specs.Fields.{fieldsOf}
 use Rattle.records.specs.declared.Field.{Field}
-use Rattle.records.specs.declared.Record.{Record}
-use Rattle.records.specs.declared.Record.the-variants.{Code, Fixups, End, Faulty}
 use Rattle.words.specs.Numbers.{on, off}
 use Rattle.words.specs.Runs.{part, put}
-
--- ---- the move of a handler's pieces
 
 -- "the old amount off, the new amount on, by the formulas above"
 abbrev pub shift : Bases → Bases → Field → ℕ → ℕ
@@ -34,34 +25,3 @@ transfer old new (p ∷ ps) m t = put (transfer old new ps m t) (placeOf new p) 
 -- "each byte of a relocatable piece goes, all at once, from old place to new": every piece is taken from the memory before the call
 unfoldable pub moved : Bases → Bases → List Piece → List ℕ → List ℕ
 moved old new ps m = transfer old new ps m m
-
--- ---- the parts of the program
-
--- the scratch t after a record, where the last code record is at one cursor in memory m and at the other in t
-unfoldable pub taken : List ℕ → Bases → Bases → Cursor → Cursor → List ℕ → List ℕ → Record → List ℕ
-taken file old new source target m t (Code kind address at n) = put t (target .place) (part m (source .place) (source .size))
-taken file old new source target m t (Fixups fixup at n) =
-    put t (target .place) (edited (shift old new) (fieldsOf fixup (part file at n)) (part t (target .place) (target .size)))
-taken file old new source target m t (End entry next) = t
-taken file old new source target m t (Faulty fault) = t
-
--- the fields lie in n code bytes
-abbrev pub Inside : ℕ → List Field → Type 0
-Inside n fs = Each (λ f. f .index + width f ≤ n) fs
-
--- a fixup record lies in its file, and its fields in n code bytes
-abbrev pub Sound : List ℕ → ℕ → Record → Type 0
-Sound file n (Code kind address at k) = Unit {0}
-Sound file n (Fixups fixup at k) = (at + k ≤ length file) × Inside n (fieldsOf fixup (part file at k))
-Sound file n (End entry next) = Unit {0}
-Sound file n (Faulty fault) = Unit {0}
-
--- a byte where the map has no mark, and where it has one
-abbrev pub chosen : ℕ → ℕ → ℕ → ℕ
-chosen zero old new = old
-chosen (suc mark) old new = new
-
--- memory m has become m′ by taking the scratch's byte at every address that the map marks
-pub record Overlaid (map scratch m m′ : List ℕ) : Type 0 where
-  pub same-length : length m′ ≡ length m
-  pub bytes : (x : ℕ) → getD m′ x 0 ≡ chosen (getD map x 0) (getD m x 0) (getD scratch x 0)

@@ -16,7 +16,8 @@ ghost use Rattle.words.specs.Runs.{part};
 ghost use Rattle.records.specs.Fields.{fieldsOf, widthOf};
 ghost use Rattle.acx.specs.Events.{blank};
 ghost use Rattle.acx.specs.Pieces.{edited};
-ghost use Rattle.mover.specs.Move.{shift, transfer, moved, taken, Inside, Sound, Overlaid};
+ghost use Rattle.mover.specs.Move.{shift, transfer, moved};
+ghost use Rattle.mover.specs.Parts.{taken, Inside, Sound, Overlaid};
 ghost use Rattle.mover.specs.Call.{basesAt, call, loadAt, side as sideOf, rulingOf, Moves, moving, mapBy, Judged, Done, Moved};
 
 // The length of memory, of the map and of the scratch.
@@ -246,20 +247,13 @@ fn shift_field(code: &mut [u8], field: Field, old: u16, new: u16)
     requires { ⌜ field .index + widthOf (field .fixup) ≤ length (now code) ⌝ }
     ensures { λ _. ⌜ now (code .exit) ≡ change (widthOf (field .fixup)) (λ v. on (widthOf (field .fixup)) new (off (widthOf (field .fixup)) old v)) (now (code .entry)) (field .index) ⌝ }
 {
-    take_off(code, field, old);
-    acx::add(code, field, new);
-}
-
-// An amount off a field of the code.
-fn take_off(code: &mut [u8], field: Field, amount: u16)
-    requires { ⌜ field .index + widthOf (field .fixup) ≤ length (now code) ⌝ }
-    ensures { λ _. ⌜ now (code .exit) ≡ change (widthOf (field .fixup)) (off (widthOf (field .fixup)) amount) (now (code .entry)) (field .index) ⌝ }
-{
     let fixup = field.fixup;
-    match fixup {
-        Fixup::Low => words::take_off_byte(code, field.index, amount),
-        Fixup::Page => words::take_off_byte(code, field.index, amount),
-        Fixup::Word => words::take_off_word(code, field.index, amount),
-        Fixup::High => words::take_off_byte(code, field.index, amount),
+    let width = records::width(fixup);
+    if width == 1 {
+        words::take_off_byte(code, field.index, old);
+        words::add_to_byte(code, field.index, new);
+        return;
     }
+    words::take_off_word(code, field.index, old);
+    words::add_to_word(code, field.index, new);
 }
