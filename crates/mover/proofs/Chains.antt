@@ -13,11 +13,11 @@ use Rattle.acx.specs.Pieces.{Piece, size, placeOf, edited}
 use Rattle.acx.specs.declared.Bases.{Bases}
 use Rattle.words.proofs.Runs.{length-part, bytes-part}
 use Rattle.words.specs.Runs.{part}
-use Rattle.mover.proofs.Rulings.{handler-at, same-at, Allowed, ruling-moves, told, memory-moved, report-told}
+use Rattle.mover.proofs.Rulings.{handler-at, same-at, Allowed, ruling-allows, told, memory-moved, report-told}
 use Rattle.mover.proofs.Shifts.{shift-none, shift-shift}
 use Rattle.mover.proofs.Transfers.{length-moved, bytes-moved, moved-outside, moved-parts}
-use Rattle.mover.specs.Call.{Call, Ruling, moves, refuses, ruling, memoryBy, memoryAfter}
-use Rattle.mover.specs.Demand3.{after, ifMoves, reached, last, onto, Linked, Chained, Report, report, reports, Memory, AcceptedAt}
+use Rattle.mover.specs.Call.{Call, Ruling, allows, refuses, ruling, memoryBy, memoryAfter}
+use Rattle.mover.specs.Demand3.{after, ifAllowed, reached, last, onto, Linked, Chained, Report, report, reports, Memory, AcceptedAt}
 use Rattle.mover.specs.Move.{shift, carried, moved}
 
 -- the piece lies in n addresses at b, and its fields in it
@@ -78,13 +78,13 @@ module _ (file : List ℕ) (form : ℕ) (ps : List Piece) (a : Bases) (m : List 
     ends-on : (c : Call) (b : Bases) (n : List ℕ) (bs : List Bases) (n′ : List ℕ) (rs : List Report) (r : Ruling) → ruling file c n ≡ r
         → State b n → Linked r form b c
         → (State (onto r b (c .new)) (memoryAfter file c n) → Ends (onto r b (c .new)) (memoryAfter file c n) bs n′ rs)
-        → Ends b n (ifMoves r (c .new) bs) n′ (ifMoves r (report file c n) rs)
+        → Ends b n (ifAllowed r (c .new) bs) n′ (ifAllowed r (report file c n) rs)
     unfolding memoryAfter
     ends-on c b n bs n′ rs (refuses fault at side) e s l go =
         let em : memoryAfter file c n ≡ n = ap (λ (r : Ruling). memoryBy (c .old) (c .new) r n) e in
         subst (λ (t : List ℕ). (State b t → Ends b t bs n′ rs) → Ends b n bs n′ rs) (sym em) (λ f. f s) go
-    ends-on c b n bs n′ rs (moves qs) e s l go =
-        let x : Allowed file c n qs = ruling-moves file c n qs e in
+    ends-on c b n bs n′ rs (allows qs) e s l go =
+        let x : Allowed file c n qs = ruling-allows file c n qs e in
         let old : AcceptedAt file form qs b = rw (l .0, l .1) at (x .old) in
         let new : AcceptedAt file form qs (c .new) = rw (l .0) at (x .new) in
         let same : qs ≡ ps = same-at file form qs ps b b old (s .stands) in

@@ -17,7 +17,7 @@ use Rattle.words.proofs.Runs.{length-part, part-at, part-agrees, part-agree-at}
 use Rattle.words.specs.Numbers.{value, on, off}
 use Rattle.words.specs.Runs.{Bytes, part}
 use Rattle.mover.proofs.Chains.{Sound, sound, State, state-first, ends, last-again}
-use Rattle.mover.proofs.Rulings.{handler-at, code-bytes, load-laid, Allowed, moves-ruling, one-allowed, told, memory-moved, report-told}
+use Rattle.mover.proofs.Rulings.{handler-at, code-bytes, load-laid, Allowed, allows-ruling, one-allowed, told, memory-moved, report-told}
 use Rattle.mover.proofs.Shifts.{shift-fits, shift-added}
 use Rattle.mover.proofs.Transfers.{moved-parts}
 use Rattle.mover.specs.Call.{Call, memoryAfter}
@@ -132,7 +132,7 @@ demand3 file b form ps a h cs m y g =
     let s = x .state in
     record {
       lands = s .stands;
-      direct = λ c o. moves-ruling file c m ps (one-found file form ps a z m n h y s c o);
+      direct = λ c o. allows-ruling file c m ps (one-found file form ps a z m n h y s c o);
       plain = each-map (λ p e. piece-plain a z m n p e) ps (s .holds);
       fields = fields-at file form ps a z m n h y s;
       others = x .others;

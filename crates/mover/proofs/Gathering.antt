@@ -37,27 +37,27 @@ use Rattle.records.specs.declared.Record.the-variants.{Code, Fixups, End, Fault
 use Rattle.words.proofs.Lent.{lent-is, back-is}
 use Rattle.words.proofs.Runs.{length-part, length-put, part-put, put-put}
 use Rattle.words.specs.Runs.{part, put}
-use Rattle.mover.proofs.Rulings.{follows, verdict, moves-is, both}
-use Rattle.mover.specs.Call.{rulingOf, Moves, moving}
+use Rattle.mover.proofs.Rulings.{follows, verdict, allows-is, both}
+use Rattle.mover.specs.Call.{rulingOf, Allows, piecesOf}
 use Rattle.mover.specs.Move.{shift, carried, transfer}
 use Rattle.mover.specs.Parts.{taken, Inside, Sound}
 
 -- ---- the file
 
--- a handler that moves can be walked through at both pairs of bases, from the offset `first` on
+-- a handler that may move can be walked through at both pairs of bases, from the offset `first` on
 pub record Walkable (form : ℕ) (old new : Bases) (file : List ℕ) (first : ℕ) : Type 0 where
   pub fits : length file ≤ 65536
   pub opens : first ≤ length file
   pub start : Start
   pub start′ : Start
-  pub yes-old : from file old first [] .answer ≡ accepted (moving (rulingOf form old new file)) start
-  pub yes-new : from file new first [] .answer ≡ accepted (moving (rulingOf form old new file)) start′
+  pub yes-old : from file old first [] .answer ≡ accepted (piecesOf (rulingOf form old new file)) start
+  pub yes-new : from file new first [] .answer ≡ accepted (piecesOf (rulingOf form old new file)) start′
 
 pub walkable : (form : ℕ) (old new : Bases) (file : List ℕ) (first : ℕ) → first ≡ openingSize (formOf form)
-    → Moves (rulingOf form old new file) → Walkable form old new file first
+    → Allows (rulingOf form old new file) → Walkable form old new file first
 walkable form old new file first e h =
-    let ps = moving (rulingOf form old new file) in
-    let x = both form old new file ps (moves-is (rulingOf form old new file) h) in
+    let ps = piecesOf (rulingOf form old new file) in
+    let x = both form old new file ps (allows-is (rulingOf form old new file) h) in
     let u = judged-accepted (formOf form) file old ps (x .0 .0) (verdict file form ps old (x .0)) in
     let v = judged-accepted (formOf form) file new ps (x .1 .0) (verdict file form ps new (x .1)) in
     rw e

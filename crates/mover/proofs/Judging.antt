@@ -18,7 +18,7 @@ use Rattle.answer.specs.declared.Fault.the-variants.{WrongBuffer}
 use Rattle.answer.specs.declared.Outcome.{Outcome}
 use Rattle.answer.specs.declared.Outcome.the-variants.{Accepted, Refused}
 use Rattle.answer.specs.declared.Start.{Start}
-use Rattle.mover.specs.Call.{Call, loadAt, Ruling, moves, refuses, side, sides, rulingOf, sized, ruling, Moves, moving, outcomeBy, memoryBy, outcomeOf, memoryAfter, mapAfter, scratchAfter, Judged, Done, Moved}
+use Rattle.mover.specs.Call.{Call, loadAt, Ruling, allows, refuses, side, sides, rulingOf, sized, ruling, Allows, piecesOf, outcomeBy, memoryBy, outcomeOf, memoryAfter, mapAfter, scratchAfter, Judged, Done, Moved}
 use Rattle.mover.specs.Move.{moved}
 
 -- ---- one side
@@ -81,13 +81,13 @@ module _ {o o′ : Ran Verdict} {m : List ℕ} {r : Outcome} {m₁ p₁ : List �
 
 -- ---- what the outcome says
 
--- an accepted outcome is that of a handler that moves
-pub accepted-moves : (form : ℕ) (old new : Bases) (file : List ℕ) {m : List ℕ} {r : Outcome} {m₁ p₁ : List ℕ} {start : Start} {i j k l : ℕ}
-    → Judged (loadAt form new file) (rulingOf form old new file) m r m₁ p₁ → r ≡ Accepted start i j k l → Moves (rulingOf form old new file)
-accepted-moves form old new file {m} {r} {m₁} {p₁} {start} {i} {j} {k} {l} d e =
+-- an accepted outcome is that of a move that is allowed
+pub accepted-allows : (form : ℕ) (old new : Bases) (file : List ℕ) {m : List ℕ} {r : Outcome} {m₁ p₁ : List ℕ} {start : Start} {i j k l : ℕ}
+    → Judged (loadAt form new file) (rulingOf form old new file) m r m₁ p₁ → r ≡ Accepted start i j k l → Allows (rulingOf form old new file)
+accepted-allows form old new file {m} {r} {m₁} {p₁} {start} {i} {j} {k} {l} d e =
     by (loadAt form old file .answer) (loadAt form new file .answer) refl refl
   where
-    by : (u v : Verdict) → loadAt form old file .answer ≡ u → loadAt form new file .answer ≡ v → Moves (rulingOf form old new file)
+    by : (u v : Verdict) → loadAt form old file .answer ≡ u → loadAt form new file .answer ≡ v → Allows (rulingOf form old new file)
     by (accepted ps start) (accepted qs start′) f g = rw (f, g) tt
     by (accepted ps start) (refused fault at) f g = absurd (false≢true (ap isRefused (sym e ∙ rw (f, g) at (d .outcome))))
     by (refused fault at) v f g = absurd (false≢true (ap isRefused (sym e ∙ rw f at (d .outcome))))
@@ -121,23 +121,23 @@ module _ (form : ℕ) (old new : Bases) (file : List ℕ) {m : List ℕ} {r : Ou
         scratch = es;
       }
 
-  pub done-moved : {m′ : List ℕ} → Moves (rulingOf form old new file) → m′ ≡ moved old new (moving (rulingOf form old new file)) m₁
+  pub done-moved : {m′ : List ℕ} → Allows (rulingOf form old new file) → m′ ≡ moved old new (piecesOf (rulingOf form old new file)) m₁
       → Done form old new file m r m′ p₁ s′
   done-moved h e =
       record {
         outcome = d .outcome;
-        memory = e ∙ ap (moved old new (moving (rulingOf form old new file))) (d .memory) ∙ by (rulingOf form old new file) h;
+        memory = e ∙ ap (moved old new (piecesOf (rulingOf form old new file))) (d .memory) ∙ by (rulingOf form old new file) h;
         map = d .map;
         scratch = es;
       }
     where
-      by : (v : Ruling) → Moves v → moved old new (moving v) m ≡ memoryBy old new v m
-      by (moves ps) h = refl
+      by : (v : Ruling) → Allows v → moved old new (piecesOf v) m ≡ memoryBy old new v m
+      by (allows ps) h = refl
       by (refuses fault at side) h = absurd h
 
 -- neither count exceeds the file's length
 outcome-few : (o : Ran Verdict) (v : Ruling) (r : Outcome) (n : ℕ) → Few n o → r ≡ outcomeBy o v → (placedOf r ≤ n) × (adjustedOf r ≤ n)
-outcome-few o (moves ps) r n h e = (rw e (h .placed), rw e (h .adjusted))
+outcome-few o (allows ps) r n h e = (rw e (h .placed), rw e (h .adjusted))
 outcome-few o (refuses fault at side) r n h e = (rw e (omega arith), rw e (omega arith))
 
 -- ---- whatever the buffers

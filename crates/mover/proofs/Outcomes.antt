@@ -20,32 +20,32 @@ use Rattle.answer.specs.declared.Outcome.the-variants.{Accepted, Refused}
 use Rattle.answer.specs.declared.Start.{Start}
 use Rattle.words.specs.Runs.{Bytes}
 use Rattle.mover.proofs.Demand3.{demand3}
-use Rattle.mover.proofs.Rulings.{told, ruling-moves, memory-moved, report-told}
+use Rattle.mover.proofs.Rulings.{told, ruling-allows, memory-moved, report-told}
 use Rattle.mover.proofs.Transfers.{stays}
-use Rattle.mover.specs.Call.{Call, loadAt, Ruling, moves, refuses, beforehand, rulingOf, ruling, outcomeBy, memoryBy, mapBy, outcomeOf, memoryAfter, mapAfter, scratchAfter, Moved}
-use Rattle.mover.specs.Demand3.{after, reached, ifMoves, last, Linked, Chained, Report, Memory, AcceptedAt, Demand3}
+use Rattle.mover.specs.Call.{Call, loadAt, Ruling, allows, refuses, beforehand, rulingOf, ruling, outcomeBy, memoryBy, mapBy, outcomeOf, memoryAfter, mapAfter, scratchAfter, Moved}
+use Rattle.mover.specs.Demand3.{after, reached, ifAllowed, last, Linked, Chained, Report, Memory, AcceptedAt, Demand3}
 use Rattle.mover.specs.Outcomes.{AcceptedMove, RefusedMove}
 
 -- ---- accepted
 
 module _ (file : List ℕ) (c : Call) (m : List ℕ) where
   -- an accepted outcome is that of pieces that move
-  accepted-rules : {start : Start} {i j k l : ℕ} → outcomeOf file c m ≡ Accepted start i j k l → (ps : List Piece) × (ruling file c m ≡ moves ps)
+  accepted-rules : {start : Start} {i j k l : ℕ} → outcomeOf file c m ≡ Accepted start i j k l → (ps : List Piece) × (ruling file c m ≡ allows ps)
   unfolding outcomeOf
   accepted-rules {start} {i} {j} {k} {l} e = by (ruling file c m) refl
     where
-      by : (v : Ruling) → ruling file c m ≡ v → (ps : List Piece) × (ruling file c m ≡ moves ps)
-      by (moves ps) f = (ps, f)
+      by : (v : Ruling) → ruling file c m ≡ v → (ps : List Piece) × (ruling file c m ≡ allows ps)
+      by (allows ps) f = (ps, f)
       by (refuses fault at side) f =
           absurd (false≢true (sym (ap isRefused (sym (ap (outcomeBy (loadAt (c .form) (c .new) file)) f) ∙ e))))
 
   -- the call as a list of one
-  only : Bytes file → Memory m → (ps : List Piece) → ruling file c m ≡ moves ps
+  only : Bytes file → Memory m → (ps : List Piece) → ruling file c m ≡ allows ps
       → Demand3 file (c .form) ps (c .old) (c .new) (c ∷ []) m (memoryAfter file c m)
   unfolding after reached
   only b y ps e =
-      let x = ruling-moves file c m ps e in
-      let z : last (c .old) (ifMoves (ruling file c m) (c .new) []) ≡ c .new = ap (λ (v : Ruling). last (c .old) (ifMoves v (c .new) [])) e in
+      let x = ruling-allows file c m ps e in
+      let z : last (c .old) (ifAllowed (ruling file c m) (c .new) []) ≡ c .new = ap (λ (v : Ruling). last (c .old) (ifAllowed v (c .new) [])) e in
       let chain : Chained file (c .form) (c .old) (c ∷ []) m = (subst (λ (v : Ruling). Linked v (c .form) (c .old) c) (sym e) (refl, refl), tt) in
       subst (λ (t : Bases). Demand3 file (c .form) ps (c .old) t (c ∷ []) m (memoryAfter file c m)) z
       (demand3 file b (c .form) ps (c .old) (x .old) (c ∷ []) m y chain)
@@ -76,7 +76,7 @@ unfolding scratchAfter
 call-accepted file c m r m′ p′ s′ w b y start i j k l e =
     let q = accepted-rules file c m (sym (w .outcome) ∙ e) in
     let ps = q .0 in
-    let x = ruling-moves file c m ps (q .1) in
+    let x = ruling-allows file c m ps (q .1) in
     let d = only file c m b y ps (q .1) in
     let told-here = report-told file c m ps x in
     record {
@@ -110,8 +110,8 @@ left file c m e = by (ruling file c m) refl
     o = loadAt (c .form) (c .new) file
 
     by : (v : Ruling) → ruling file c m ≡ v → Left file c m
-    by (moves ps) f =
-        let x = ruling-moves file c m ps f in
+    by (allows ps) f =
+        let x = ruling-allows file c m ps f in
         absurd (false≢true
         (sym (ap isRefused (ap (outcomeBy o) f ∙ ap (λ (v : Verdict). report v (o .events)) (x .new .1))) ∙ e))
     by (refuses fault at side) f = record { memory = ap (λ (v : Ruling). memoryBy (c .old) (c .new) v m) f; map = ap (mapBy o) f }

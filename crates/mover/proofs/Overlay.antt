@@ -17,9 +17,9 @@ use Rattle.acx.specs.Events.{Event, marks, blank}
 use Rattle.acx.specs.Pieces.{Piece, size, placeOf, events}
 use Rattle.acx.specs.declared.Bases.{Bases}
 use Rattle.words.proofs.Runs.{within?, part-agree-at}
-use Rattle.mover.proofs.Rulings.{handler-at, events-at, moves-is, both}
+use Rattle.mover.proofs.Rulings.{handler-at, events-at, allows-is, both}
 use Rattle.mover.proofs.Transfers.{length-transfer, transfer-outside, transfer-parts}
-use Rattle.mover.specs.Call.{loadAt, rulingOf, Moves, moving, mapBy}
+use Rattle.mover.specs.Call.{loadAt, rulingOf, Allows, piecesOf, mapBy}
 use Rattle.mover.specs.Demand3.{AcceptedAt}
 use Rattle.mover.specs.Move.{transfer, moved}
 use Rattle.mover.specs.Parts.{chosen, Overlaid}
@@ -126,24 +126,24 @@ module _ (file : List ℕ) (form : ℕ) (ps : List Piece) (old new : Bases) (at-
 
 -- ---- by the ruling
 
-module _ (form : ℕ) (old new : Bases) (file : List ℕ) (h : Moves (rulingOf form old new file)) (map : List ℕ)
+module _ (form : ℕ) (old new : Bases) (file : List ℕ) (h : Allows (rulingOf form old new file)) (map : List ℕ)
     (e : map ≡ mapBy (loadAt form new file) (rulingOf form old new file)) where
   -- the map is that of the pieces
-  map-is : map ≡ marks (events new (moving (rulingOf form old new file))) blank
+  map-is : map ≡ marks (events new (piecesOf (rulingOf form old new file))) blank
   map-is =
-      let ps = moving (rulingOf form old new file) in
-      let is = moves-is (rulingOf form old new file) h in
+      let ps = piecesOf (rulingOf form old new file) in
+      let is = allows-is (rulingOf form old new file) h in
       e ∙ ap (mapBy (loadAt form new file)) is
       ∙ ap (λ (es : List Event). marks es blank) (events-at file form ps new (both form old new file ps is .1))
 
   pub length-map : length map ≡ 65536
-  length-map = ap length map-is ∙ length-marks (events new (moving (rulingOf form old new file))) blank ∙ length-blank
+  length-map = ap length map-is ∙ length-marks (events new (piecesOf (rulingOf form old new file))) blank ∙ length-blank
 
   -- memory is that of the move
   pub overlaid-moved : (m s t m′ : List ℕ) → length m ≡ 65536 → length s ≡ 65536
-      → t ≡ transfer old new (moving (rulingOf form old new file)) m s → Overlaid map t m m′
-      → m′ ≡ moved old new (moving (rulingOf form old new file)) m
+      → t ≡ transfer old new (piecesOf (rulingOf form old new file)) m s → Overlaid map t m m′
+      → m′ ≡ moved old new (piecesOf (rulingOf form old new file)) m
   overlaid-moved m s t m′ n l et o =
-      let ps = moving (rulingOf form old new file) in
-      let x = both form old new file ps (moves-is (rulingOf form old new file) h) in
+      let ps = piecesOf (rulingOf form old new file) in
+      let x = both form old new file ps (allows-is (rulingOf form old new file) h) in
       overlaid file form ps old new (x .0) (x .1) m s m′ n l (rw (map-is, et) at o)

@@ -24,7 +24,7 @@ use Rattle.answer.specs.declared.Fault.the-variants.{WrongBuffer}
 use Rattle.answer.specs.declared.Start.{Start}
 use Rattle.words.proofs.Runs.{bytes-part}
 use Rattle.words.specs.Runs.{Bytes}
-use Rattle.mover.specs.Call.{Call, loadAt, Ruling, moves, refuses, sides, rulingOf, sized, beforehand, ruling, Moves, moving, memoryBy, outcomeOf, memoryAfter, mapAfter}
+use Rattle.mover.specs.Call.{Call, loadAt, Ruling, allows, refuses, sides, rulingOf, sized, beforehand, ruling, Allows, piecesOf, memoryBy, outcomeOf, memoryAfter, mapAfter}
 use Rattle.mover.specs.Demand3.{Report, report, AcceptedAt, loadInto, OneMove}
 use Rattle.mover.specs.Move.{moved}
 
@@ -72,22 +72,22 @@ pub same-at : (file : List ℕ) (form : ℕ) (ps qs : List Piece) (b c : Bases) 
 same-at file form ps qs b c h k =
     same-pieces (formOf form) file b c ps qs (h .0) (k .0) (verdict file form ps b h) (verdict file form qs c k)
 
--- ---- a ruling that moves
+-- ---- a ruling that allows the move
 
 -- it names the pieces
-pub moves-is : (v : Ruling) → Moves v → v ≡ moves (moving v)
-moves-is (moves ps) h = refl
-moves-is (refuses fault at side) h = absurd h
+pub allows-is : (v : Ruling) → Allows v → v ≡ allows (piecesOf v)
+allows-is (allows ps) h = refl
+allows-is (refuses fault at side) h = absurd h
 
 -- both loads accept
-sides-both : (u v : Verdict) (ps : List Piece) → sides u v ≡ moves ps
+sides-both : (u v : Verdict) (ps : List Piece) → sides u v ≡ allows ps
     → ((qs : List Piece) × (start : Start) × (u ≡ accepted qs start)) × ((start : Start) × (v ≡ accepted ps start))
-sides-both (accepted qs start) (accepted rs start′) ps e = ((qs, start, refl), (start′, ap (λ (v : Ruling). accepted (moving v) start′) e))
-sides-both (accepted qs start) (refused fault at) ps e = absurd (subst Moves (sym e) tt)
-sides-both (refused fault at) v ps e = absurd (subst Moves (sym e) tt)
+sides-both (accepted qs start) (accepted rs start′) ps e = ((qs, start, refl), (start′, ap (λ (v : Ruling). accepted (piecesOf v) start′) e))
+sides-both (accepted qs start) (refused fault at) ps e = absurd (subst Allows (sym e) tt)
+sides-both (refused fault at) v ps e = absurd (subst Allows (sym e) tt)
 
 -- so the handler is accepted at both pairs of bases, with the same pieces
-pub both : (form : ℕ) (old new : Bases) (file : List ℕ) (ps : List Piece) → rulingOf form old new file ≡ moves ps
+pub both : (form : ℕ) (old new : Bases) (file : List ℕ) (ps : List Piece) → rulingOf form old new file ≡ allows ps
     → AcceptedAt file form ps old × AcceptedAt file form ps new
 both form old new file ps e =
     let x = sides-both (loadAt form old file .answer) (loadAt form new file .answer) ps e in
@@ -96,39 +96,39 @@ both form old new file ps e =
     (subst (λ (qs : List Piece). AcceptedAt file form qs old) s h, x .1)
 
 -- and both pairs are in their ranges
-pub ranges : (form : ℕ) (old new : Bases) (file : List ℕ) → Moves (rulingOf form old new file)
+pub ranges : (form : ℕ) (old new : Bases) (file : List ℕ) → Allows (rulingOf form old new file)
     → ((old .main ≤ 65535) × (old .zero ≤ 65535)) × ((new .main ≤ 65535) × (new .zero ≤ 65535))
 ranges form old new file h =
-    let ps = moving (rulingOf form old new file) in
-    let x = both form old new file ps (moves-is (rulingOf form old new file) h) in
+    let ps = piecesOf (rulingOf form old new file) in
+    let x = both form old new file ps (allows-is (rulingOf form old new file) h) in
     (in-range file form ps old (x .0), in-range file form ps new (x .1))
 
--- ---- a call that moves
+-- ---- a call that is allowed
 
 -- the buffers have their lengths
-held : (t : Bool) (r : Ruling) (ps : List Piece) → need beforehand t WrongBuffer r ≡ moves ps → (t ≡ true) × (r ≡ moves ps)
+held : (t : Bool) (r : Ruling) (ps : List Piece) → need beforehand t WrongBuffer r ≡ allows ps → (t ≡ true) × (r ≡ allows ps)
 unfolding need
 held true r ps e = (refl, e)
-held false r ps e = absurd (subst Moves (sym e) tt)
+held false r ps e = absurd (subst Allows (sym e) tt)
 
--- What a call finds that moves the pieces ps.
+-- What a call finds that may move the pieces ps.
 pub record Allowed (file : List ℕ) (c : Call) (m : List ℕ) (ps : List Piece) : Type 0 where
   pub buffers : sized c m ≡ true
   pub old : AcceptedAt file (c .form) ps (c .old)
   pub new : AcceptedAt file (c .form) ps (c .new)
 
--- a call that moves them finds so
-pub ruling-moves : (file : List ℕ) (c : Call) (m : List ℕ) (ps : List Piece) → ruling file c m ≡ moves ps → Allowed file c m ps
+-- a call that may move them finds so
+pub ruling-allows : (file : List ℕ) (c : Call) (m : List ℕ) (ps : List Piece) → ruling file c m ≡ allows ps → Allowed file c m ps
 unfolding ruling
-ruling-moves file c m ps e =
+ruling-allows file c m ps e =
     let x = held (sized c m) (rulingOf (c .form) (c .old) (c .new) file) ps e in
     let y = both (c .form) (c .old) (c .new) file ps (x .1) in
     record { buffers = x .0; old = y .0; new = y .1 }
 
--- and a call that finds so moves them
-pub moves-ruling : (file : List ℕ) (c : Call) (m : List ℕ) (ps : List Piece) → Allowed file c m ps → ruling file c m ≡ moves ps
+-- and a call that finds so may move them
+pub allows-ruling : (file : List ℕ) (c : Call) (m : List ℕ) (ps : List Piece) → Allowed file c m ps → ruling file c m ≡ allows ps
 unfolding ruling need
-moves-ruling file c m ps x =
+allows-ruling file c m ps x =
     ap (λ (t : Bool). need beforehand t WrongBuffer (rulingOf (c .form) (c .old) (c .new) file)) (x .buffers)
     ∙ ap (λ (v : Verdict). sides v (loadAt (c .form) (c .new) file .answer)) (x .old .1)
     ∙ ap (λ (v : Verdict). sides (accepted ps (x .old .0)) v) (x .new .1)
@@ -153,9 +153,9 @@ module _ (file : List ℕ) (c : Call) (m : List ℕ) (ps : List Piece) (x : Allo
   -- the pieces moved
   pub memory-moved : memoryAfter file c m ≡ moved (c .old) (c .new) ps m
   unfolding memoryAfter
-  memory-moved = ap (λ (r : Ruling). memoryBy (c .old) (c .new) r m) (moves-ruling file c m ps x)
+  memory-moved = ap (λ (r : Ruling). memoryBy (c .old) (c .new) r m) (allows-ruling file c m ps x)
 
   -- the report of a load at the new bases
   pub report-told : report file c m ≡ told file (c .form) (c .new)
   unfolding outcomeOf mapAfter
-  report-told = rw (moves-ruling file c m ps x, x .buffers) refl
+  report-told = rw (allows-ruling file c m ps x, x .buffers) refl

@@ -26,8 +26,8 @@ use Rattle.words.specs.Numbers.{number, digits, value, on, off}
 use Rattle.words.specs.Runs.{Bytes, part, put, allZero, contains}
 use Rattle.mover.proofs.Demand3.{demand3}
 use Rattle.mover.proofs.Transfers.{length-moved}
-use Rattle.mover.specs.Call.{Call, loadAt, Ruling, moves, refuses, ruling, memoryBy, memoryAfter}
-use Rattle.mover.specs.Demand3.{after, ifMoves, reached, last, onto, Linked, Chained, Memory, Demand3}
+use Rattle.mover.specs.Call.{Call, loadAt, Ruling, allows, refuses, ruling, memoryBy, memoryAfter}
+use Rattle.mover.specs.Demand3.{after, ifAllowed, reached, last, onto, Linked, Chained, Memory, Demand3}
 
 -- ---- lists of calls with their rulings
 
@@ -47,7 +47,7 @@ Rules file k = (m : List ℕ) → length m ≡ 65536 → ruling file (k .call) m
 -- the bases reached, and whether the list is one of demand 3, by the rulings alone
 abbrev pub places : List Ruled → List Bases
 places [] = []
-places (k ∷ ks) = ifMoves (k .ruled) (k .call .new) (places ks)
+places (k ∷ ks) = ifAllowed (k .ruled) (k .call .new) (places ks)
 
 abbrev pub Joined : ℕ → Bases → List Ruled → Type 0
 Joined form a [] = Unit {0}
@@ -60,7 +60,7 @@ module _ (file : List ℕ) where
   length-after c m = by (ruling file c m)
     where
       by : (r : Ruling) → length (memoryBy (c .old) (c .new) r m) ≡ length m
-      by (moves ps) = length-moved (c .old) (c .new) m ps
+      by (allows ps) = length-moved (c .old) (c .new) m ps
       by (refuses fault at side) = refl
 
   -- the bases reached are those that the rulings say
@@ -68,8 +68,8 @@ module _ (file : List ℕ) where
   unfolding reached
   reached-places [] m n h = refl
   reached-places (k ∷ ks) m n h =
-      ap (λ (r : Ruling). ifMoves r (k .call .new) (reached file (calls ks) (memoryAfter file (k .call) m))) (h .0 m n)
-      ∙ ap (ifMoves (k .ruled) (k .call .new)) (reached-places ks (memoryAfter file (k .call) m) (length-after (k .call) m ∙ n) (h .1))
+      ap (λ (r : Ruling). ifAllowed r (k .call .new) (reached file (calls ks) (memoryAfter file (k .call) m))) (h .0 m n)
+      ∙ ap (ifAllowed (k .ruled) (k .call .new)) (reached-places ks (memoryAfter file (k .call) m) (length-after (k .call) m ∙ n) (h .1))
 
   -- and the list is one of demand 3 where they say so
   joined-chained : (form : ℕ) (a : Bases) (ks : List Ruled) (m : List ℕ) → length m ≡ 65536 → Each (Rules file) ks → Joined form a ks
@@ -123,7 +123,7 @@ asks form old new scratch answer = record { form = form; old = at old; new = at 
 -- two that move the handler, and five refused in between
 abbrev pub list : List Ruled
 list =
-    record { call = asks 1 8192 12416 blank true; ruled = moves pieces }
+    record { call = asks 1 8192 12416 blank true; ruled = allows pieces }
     -- no room at the new bases
     ∷ record { call = asks 1 12416 65535 blank true; ruled = refuses DoesNotFit 0 1 }
     -- an unknown form
@@ -132,7 +132,7 @@ list =
     ∷ record { call = asks 1 12416 8193 (0 ∷ []) true; ruled = refuses WrongBuffer 0 0 }
     ∷ record { call = asks 1 12416 8193 [] true; ruled = refuses WrongBuffer 0 0 }
     ∷ record { call = asks 1 12416 8193 blank false; ruled = refuses WrongBuffer 0 0 }
-    ∷ record { call = asks 1 12416 8193 blank true; ruled = moves pieces }
+    ∷ record { call = asks 1 12416 8193 blank true; ruled = allows pieces }
     ∷ []
 
 -- they are ruled so in every memory

@@ -44,14 +44,14 @@ call form old new map scratch =
 abbrev pub loadAt : ℕ → Bases → List ℕ → Ran Verdict
 loadAt form b file = load (settings form (b .main) (b .zero)) file
 
--- the handler's pieces move, or the call is refused with a fault, its offset and its side
+-- the move of some pieces is allowed, or the call is refused with a fault, its offset and its side
 pub data Ruling : Type 0 where
-  moves : List Piece → Ruling
+  allows : List Piece → Ruling
   refuses : Fault → ℕ → ℕ → Ruling
 
 -- a load as one side of a move
 abbrev pub side : ℕ → Verdict → Ruling
-side n (accepted ps start) = moves ps
+side n (accepted ps start) = allows ps
 side n (refused fault at) = refuses fault at n
 
 -- "refused exactly if a load at the old bases, then one at the new, would be, with that number, offset and side (0 old, 1 new)"
@@ -72,29 +72,29 @@ beforehand fault = refuses fault 0 0
 unfoldable pub ruling : List ℕ → Call → List ℕ → Ruling
 ruling file c m = need beforehand (sized c m) WrongBuffer (rulingOf (c .form) (c .old) (c .new) file)
 
--- the call is accepted, and the pieces that move
-abbrev pub Moves : Ruling → Type 0
-Moves (moves ps) = Unit {0}
-Moves (refuses fault at side) = ⊥
+-- the move is allowed, and the pieces that then move
+abbrev pub Allows : Ruling → Type 0
+Allows (allows ps) = Unit {0}
+Allows (refuses fault at side) = ⊥
 
-abbrev pub moving : Ruling → List Piece
-moving (moves ps) = ps
-moving (refuses fault at side) = []
+abbrev pub piecesOf : Ruling → List Piece
+piecesOf (allows ps) = ps
+piecesOf (refuses fault at side) = []
 
 -- ---- what it answers and leaves
 
 -- "The answer and map are those of a load at the new bases."
 abbrev pub outcomeBy : Ran Verdict → Ruling → Outcome
-outcomeBy new (moves ps) = reported new .answer
+outcomeBy new (allows ps) = reported new .answer
 outcomeBy new (refuses fault at side) = Refused fault at side
 
 abbrev pub mapBy : Ran Verdict → Ruling → List ℕ
-mapBy new (moves ps) = marks (new .events) blank
+mapBy new (allows ps) = marks (new .events) blank
 mapBy new (refuses fault at side) = blank
 
 -- "A refusal leaves program memory untouched"
 abbrev pub memoryBy : Bases → Bases → Ruling → List ℕ → List ℕ
-memoryBy old new (moves ps) m = moved old new ps m
+memoryBy old new (allows ps) m = moved old new ps m
 memoryBy old new (refuses fault at side) m = m
 
 unfoldable pub outcomeOf : List ℕ → Call → List ℕ → Outcome

@@ -14,7 +14,7 @@ use Rattle.answer.specs.declared.Outcome.{Outcome}
 use Rattle.answer.specs.declared.Start.{Start}
 use Rattle.words.specs.Numbers.{value, on, off}
 use Rattle.words.specs.Runs.{Bytes}
-use Rattle.mover.specs.Call.{Call, loadAt, Ruling, moves, refuses, ruling, outcomeOf, memoryAfter, mapAfter}
+use Rattle.mover.specs.Call.{Call, loadAt, Ruling, allows, refuses, ruling, outcomeOf, memoryAfter, mapAfter}
 
 -- ---- the list
 
@@ -23,14 +23,14 @@ unfoldable pub after : List ℕ → List Call → List ℕ → List ℕ
 after file [] m = m
 after file (c ∷ cs) m = after file cs (memoryAfter file c m)
 
-abbrev pub ifMoves : {A : Type 0} → Ruling → A → List A → List A
-ifMoves (moves ps) x xs = x ∷ xs
-ifMoves (refuses fault at side) x xs = xs
+abbrev pub ifAllowed : {A : Type 0} → Ruling → A → List A → List A
+ifAllowed (allows ps) x xs = x ∷ xs
+ifAllowed (refuses fault at side) x xs = xs
 
 -- "The bases reached are the new bases of the accepted calls"
 unfoldable pub reached : List ℕ → List Call → List ℕ → List Bases
 reached file [] m = []
-reached file (c ∷ cs) m = ifMoves (ruling file c m) (c .new) (reached file cs (memoryAfter file c m))
+reached file (c ∷ cs) m = ifAllowed (ruling file c m) (c .new) (reached file cs (memoryAfter file c m))
 
 -- the last of some, and x if there are none
 abbrev pub last : {A : Type 0} → A → List A → A
@@ -43,12 +43,12 @@ arrived file a cs m = last a (reached file cs m)
 
 -- where an accepted call leads; a refused one leaves the handler where it is
 abbrev pub onto : Ruling → Bases → Bases → Bases
-onto (moves ps) a new = new
+onto (allows ps) a new = new
 onto (refuses fault at side) a new = a
 
 -- an accepted call is in the handler's form and starts at a; refused ones come "with whatever form, bases, map, scratch and C answer"
 abbrev pub Linked : Ruling → ℕ → Bases → Call → Type 0
-Linked (moves ps) form a c = (c .form ≡ form) × (c .old ≡ a)
+Linked (allows ps) form a c = (c .form ≡ form) × (c .old ≡ a)
 Linked (refuses fault at side) form a c = Unit {0}
 
 -- "The first accepted move starts at bases A, .. each later accepted one at the bases that the one before reached"
@@ -68,7 +68,7 @@ report file c m = record { outcome = outcomeOf file c m; map = mapAfter file c m
 -- those of the accepted calls
 unfoldable pub reports : List ℕ → List Call → List ℕ → List Report
 reports file [] m = []
-reports file (c ∷ cs) m = ifMoves (ruling file c m) (report file c m) (reports file cs (memoryAfter file c m))
+reports file (c ∷ cs) m = ifAllowed (ruling file c m) (report file c m) (reports file cs (memoryAfter file c m))
 
 -- ---- the words of demand 3
 
@@ -103,7 +103,7 @@ pub record OneMove (form : ℕ) (a z : Bases) (c : Call) : Type 0 where
 pub record Demand3 (file : List ℕ) (form : ℕ) (ps : List Piece) (a z : Bases) (cs : List Call) (m n : List ℕ) : Type 0 where
   -- the handler is accepted at z, and so is the one move
   pub lands : AcceptedAt file form ps z
-  pub direct : (c : Call) → OneMove form a z c → ruling file c m ≡ moves ps
+  pub direct : (c : Call) → OneMove form a z c → ruling file c m ≡ allows ps
   -- "After the list, its bytes that aren't address fields hold at their places at Z what they held before it at their places at A."
   pub plain : Each (λ p. (j : ℕ) → j < size p → Each (λ f. ¬ In j f) (p .fields) → getD n (placeOf z p + j) 0 ≡ getD m (placeOf a p + j) 0) ps
   -- "Its address fields there hold the values that they had at A, with the amounts of A off and those of Z on."

@@ -9,16 +9,15 @@ use records::Field;
 use records::Fixup;
 use records::Record;
 ghost use mathlib.Core.Path.{_≡_};
-ghost use Prim.Native.Nat.{_+_, _≤_, _<_};
+ghost use Prim.Native.Nat.{_+_, _≤_};
 ghost use lib.ListN.{length};
 ghost use Rattle.words.specs.Numbers.{on, off, change};
-ghost use Rattle.words.specs.Runs.{part};
 ghost use Rattle.records.specs.Fields.{fieldsOf, widthOf};
 ghost use Rattle.acx.specs.Events.{blank};
 ghost use Rattle.acx.specs.Pieces.{edited};
 ghost use Rattle.mover.specs.Move.{shift, transfer, moved};
 ghost use Rattle.mover.specs.Parts.{taken, Inside, Sound, Overlaid};
-ghost use Rattle.mover.specs.Call.{basesAt, call, loadAt, side as sideOf, rulingOf, Moves, moving, mapBy, Judged, Done, Moved};
+ghost use Rattle.mover.specs.Call.{basesAt, call, loadAt, side as sideOf, rulingOf, Allows, piecesOf, mapBy, Judged, Done, Moved};
 
 // The length of memory, of the map and of the scratch.
 const MEMORY: usize = 65536;
@@ -144,8 +143,8 @@ fn carry(
     memory: &mut [u8],
     scratch: &mut [u8],
 )
-    requires { ⌜ Moves (rulingOf form old new (now file)) × (now map ≡ mapBy (loadAt form new (now file)) (rulingOf form old new (now file))) × (length (now memory) ≡ 65536) × (length (now scratch) ≡ 65536) ⌝ }
-    ensures { λ _. ⌜ (now (memory .exit) ≡ moved old new (moving (rulingOf form old new (now (file .entry)))) (now (memory .entry))) × (now (scratch .exit) ≡ blank) ⌝ }
+    requires { ⌜ Allows (rulingOf form old new (now file)) × (now map ≡ mapBy (loadAt form new (now file)) (rulingOf form old new (now file))) × (length (now memory) ≡ 65536) × (length (now scratch) ≡ 65536) ⌝ }
+    ensures { λ _. ⌜ (now (memory .exit) ≡ moved old new (piecesOf (rulingOf form old new (now (file .entry)))) (now (memory .entry))) × (now (scratch .exit) ≡ blank) ⌝ }
 {
     gather(form, file, old, new, memory, scratch);
     commit(map, scratch, memory);
@@ -169,8 +168,8 @@ fn commit(map: &[u8], scratch: &[u8], memory: &mut [u8])
 // The pieces at their old places in memory into the scratch, at their new places and adjusted: record by record, with a cursor for each
 // pair of bases.
 fn gather(form: u32, file: &[u8], old: Bases, new: Bases, memory: &[u8], scratch: &mut [u8])
-    requires { ⌜ Moves (rulingOf form old new (now file)) × (length (now memory) ≡ 65536) × (length (now scratch) ≡ 65536) ⌝ }
-    ensures { λ _. ⌜ now (scratch .exit) ≡ transfer old new (moving (rulingOf form old new (now (file .entry)))) (now (memory .entry)) (now (scratch .entry)) ⌝ }
+    requires { ⌜ Allows (rulingOf form old new (now file)) × (length (now memory) ≡ 65536) × (length (now scratch) ≡ 65536) ⌝ }
+    ensures { λ _. ⌜ now (scratch .exit) ≡ transfer old new (piecesOf (rulingOf form old new (now (file .entry)))) (now (memory .entry)) (now (scratch .entry)) ⌝ }
 {
     let at = acx::opening_size(acx::form_of(form));
     let mut source = acx::begin(at);
