@@ -27,12 +27,12 @@ module _ (old new : Bases) (m : List ℕ) where
   -- what a piece brings is as long as the piece
   pub length-carried : (p : Piece) → Fits old (length m) p → length (carried old new m p) ≡ size p
   unfolding carried
-  length-carried p f = length-edited (shift old new) (p .fields) _ ∙ length-part m (placeOf old p) (size p) f
+  length-carried p f = length-edited _ (p .fields) _ ∙ length-part m (placeOf old p) (size p) f
 
   -- and is bytes
   pub bytes-carried : Bytes m → (p : Piece) → Bytes (carried old new m p)
   unfolding carried
-  bytes-carried y p = bytes-edited (shift old new) (p .fields) _ (bytes-part m (placeOf old p) (size p) y)
+  bytes-carried y p = bytes-edited _ (p .fields) _ (bytes-part m (placeOf old p) (size p) y)
 
   -- ---- into any target
 
