@@ -10,6 +10,7 @@ use lib.ListN.{length}
 use Rattle.acx.proofs.Calling.{isRefused, Few, load-few}
 use Rattle.acx.specs.Call.{settings, placedOf, adjustedOf}
 use Rattle.acx.specs.Events.{blank, Ran, Did}
+use Rattle.acx.specs.Pieces.{Piece}
 use Rattle.acx.specs.Walk.{Verdict, accepted, refused, report, reported}
 use Rattle.acx.specs.declared.Bases.{Bases}
 use Rattle.answer.specs.Checks.{need}
@@ -18,6 +19,7 @@ use Rattle.answer.specs.declared.Fault.the-variants.{WrongBuffer}
 use Rattle.answer.specs.declared.Outcome.{Outcome}
 use Rattle.answer.specs.declared.Outcome.the-variants.{Accepted, Refused}
 use Rattle.answer.specs.declared.Start.{Start}
+use Rattle.mover.proofs.Rulings.{reported-accepted, both, accepted-allows, refused-leaves}
 use Rattle.mover.specs.Call.{Call, loadAt, Ruling, allows, refuses, side, sides, rulingOf, sized, ruling, Allows, piecesOf, outcomeBy, memoryBy, outcomeOf, memoryAfter, mapAfter, scratchAfter, Judged, Done, Moved}
 use Rattle.mover.specs.Move.{moved}
 
@@ -79,36 +81,12 @@ module _ {o o′ : Ran Verdict} {m : List ℕ} {r : Outcome} {m₁ p₁ : List �
       by (accepted ps start) f = record { outcome = rw f (d₂ .outcome); memory = d₂ .memory ∙ d .memory; map = rw f (d₂ .map) }
       by (refused h i) f = absurd (false≢true (ap isRefused (sym e) ∙ refused-side o 0 (refused h i) f r (d .outcome)))
 
--- ---- what the outcome says
+-- ---- the call
 
 -- an accepted outcome is that of a move that is allowed
-pub accepted-allows : (form : ℕ) (old new : Bases) (file : List ℕ) {m : List ℕ} {r : Outcome} {m₁ p₁ : List ℕ} {start : Start} {i j k l : ℕ}
+pub judged-allows : (form : ℕ) (old new : Bases) (file : List ℕ) {m : List ℕ} {r : Outcome} {m₁ p₁ : List ℕ} {start : Start} {i j k l : ℕ}
     → Judged (loadAt form new file) (rulingOf form old new file) m r m₁ p₁ → r ≡ Accepted start i j k l → Allows (rulingOf form old new file)
-accepted-allows form old new file {m} {r} {m₁} {p₁} {start} {i} {j} {k} {l} d e =
-    by (loadAt form old file .answer) (loadAt form new file .answer) refl refl
-  where
-    by : (u v : Verdict) → loadAt form old file .answer ≡ u → loadAt form new file .answer ≡ v → Allows (rulingOf form old new file)
-    by (accepted ps start) (accepted qs start′) f g = rw (f, g) tt
-    by (accepted ps start) (refused fault at) f g = absurd (false≢true (ap isRefused (sym e ∙ rw (f, g) at (d .outcome))))
-    by (refused fault at) v f g = absurd (false≢true (ap isRefused (sym e ∙ rw f at (d .outcome))))
-
--- a refused one leaves memory
-refused-stays : (form : ℕ) (old new : Bases) (file m : List ℕ) (r : Outcome) → r ≡ outcomeBy (loadAt form new file) (rulingOf form old new file)
-    → isRefused r ≡ true → memoryBy old new (rulingOf form old new file) m ≡ m
-refused-stays form old new file m r d e = by (loadAt form old file .answer) (loadAt form new file .answer) refl refl
-  where
-    o : Ran Verdict
-    o = loadAt form new file
-
-    by : (u v : Verdict) → loadAt form old file .answer ≡ u → loadAt form new file .answer ≡ v → memoryBy old new (rulingOf form old new file) m ≡ m
-    by (accepted ps start) (accepted qs start′) f g =
-        absurd (false≢true
-        (sym (ap isRefused (d ∙ ap (λ (t : Verdict). outcomeBy o (sides t (o .answer))) f ∙ ap (λ (t : Verdict). outcomeBy o (side 1 t)) g
-        ∙ ap (λ (t : Verdict). report t (o .events)) g)) ∙ e))
-    by (accepted ps start) (refused fault at) f g = rw (f, g) refl
-    by (refused fault at) v f g = rw f refl
-
--- ---- the call
+judged-allows form old new file d e = accepted-allows (loadAt form new file) (rulingOf form old new file) (sym (d .outcome) ∙ e)
 
 module _ (form : ℕ) (old new : Bases) (file : List ℕ) {m : List ℕ} {r : Outcome} {m₁ p₁ s′ : List ℕ}
     (d : Judged (loadAt form new file) (rulingOf form old new file) m r m₁ p₁) (es : s′ ≡ blank) where
@@ -116,10 +94,14 @@ module _ (form : ℕ) (old new : Bases) (file : List ℕ) {m : List ℕ} {r : Ou
   done-refused e =
       record {
         outcome = sym e ∙ d .outcome;
-        memory = d .memory ∙ sym (refused-stays form old new file m r (d .outcome) (ap isRefused e));
+        memory = d .memory
+            ∙ sym (refused-leaves (loadAt form new file) old new m (rulingOf form old new file) allowed (ap isRefused (sym (d .outcome) ∙ e)) .0);
         map = d .map;
         scratch = es;
       }
+    where
+      allowed : (ps : List Piece) → rulingOf form old new file ≡ allows ps → isRefused (reported (loadAt form new file) .answer) ≡ false
+      allowed ps f = reported-accepted file form ps new (both form old new file ps f .1)
 
   pub done-moved : {m′ : List ℕ} → Allows (rulingOf form old new file) → m′ ≡ moved old new (piecesOf (rulingOf form old new file)) m₁
       → Done form old new file m r m′ p₁ s′

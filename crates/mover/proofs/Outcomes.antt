@@ -1,6 +1,6 @@
 -- What a single call leaves, as specs/Outcomes.antt states it.
 -- Assumes nothing.
-use mathlib.Core.Bool.{Bool, true, false, false≢true}
+use mathlib.Core.Bool.{Bool, true, false}
 use mathlib.Core.List.{List, [], _∷_}
 use mathlib.Core.Path.{_≡_, refl, sym, ap, _∙_, subst}
 use Prim.Native.Nat.{ℕ}
@@ -10,7 +10,7 @@ use Rattle.acx.proofs.Calling.{isRefused, faultIn}
 use Rattle.acx.specs.Call.{settings, Settings, load, call, sized as loadSized, ifSized, mapAfter as loadMap, Loaded}
 use Rattle.acx.specs.Events.{blank, Ran}
 use Rattle.acx.specs.Pieces.{Piece}
-use Rattle.acx.specs.Walk.{Verdict, accepted, atOnce, report, reported}
+use Rattle.acx.specs.Walk.{Verdict, accepted, atOnce, reported}
 use Rattle.acx.specs.declared.Bases.{Bases}
 use Rattle.answer.specs.Checks.{need}
 use Rattle.answer.specs.declared.Fault.{Fault}
@@ -20,25 +20,15 @@ use Rattle.answer.specs.declared.Outcome.the-variants.{Accepted, Refused}
 use Rattle.answer.specs.declared.Start.{Start}
 use Rattle.words.specs.Runs.{Bytes}
 use Rattle.mover.proofs.Demand3.{demand3}
-use Rattle.mover.proofs.Rulings.{told, ruling-allows, memory-moved, report-told}
+use Rattle.mover.proofs.Rulings.{reported-accepted, allows-is, accepted-allows, refused-leaves, told, ruling-allows, memory-moved, report-told}
 use Rattle.mover.proofs.Transfers.{stays}
-use Rattle.mover.specs.Call.{Call, loadAt, Ruling, allows, refuses, beforehand, rulingOf, ruling, outcomeBy, memoryBy, mapBy, outcomeOf, memoryAfter, mapAfter, scratchAfter, Moved}
+use Rattle.mover.specs.Call.{Call, loadAt, piecesOf, Ruling, allows, beforehand, rulingOf, ruling, outcomeBy, mapBy, outcomeOf, memoryAfter, mapAfter, scratchAfter, Moved}
 use Rattle.mover.specs.Demand3.{after, reached, ifAllowed, last, Linked, Chained, Report, Memory, AcceptedAt, Demand3}
 use Rattle.mover.specs.Outcomes.{AcceptedMove, RefusedMove}
 
 -- ---- accepted
 
 module _ (file : List ℕ) (c : Call) (m : List ℕ) where
-  -- an accepted outcome is that of pieces that move
-  accepted-rules : {start : Start} {i j k l : ℕ} → outcomeOf file c m ≡ Accepted start i j k l → (ps : List Piece) × (ruling file c m ≡ allows ps)
-  unfolding outcomeOf
-  accepted-rules {start} {i} {j} {k} {l} e = by (ruling file c m) refl
-    where
-      by : (v : Ruling) → ruling file c m ≡ v → (ps : List Piece) × (ruling file c m ≡ allows ps)
-      by (allows ps) f = (ps, f)
-      by (refuses fault at side) f =
-          absurd (false≢true (sym (ap isRefused (sym (ap (outcomeBy (loadAt (c .form) (c .new) file)) f) ∙ e))))
-
   -- the call as a list of one
   only : Bytes file → Memory m → (ps : List Piece) → ruling file c m ≡ allows ps
       → Demand3 file (c .form) ps (c .old) (c .new) (c ∷ []) m (memoryAfter file c m)
@@ -72,12 +62,12 @@ loaded-told form b file ps h k q t k′ q′ d lk lq =
 -- what document 01 says of a call that is accepted
 pub call-accepted : (file : List ℕ) (c : Call) (m : List ℕ) (r : Outcome) (m′ p′ s′ : List ℕ) → Moved file c m r m′ p′ s′ → Bytes file → Memory m
     → (start : Start) (i j k l : ℕ) → r ≡ Accepted start i j k l → AcceptedMove file c m r m′ p′ s′
-unfolding scratchAfter
+unfolding outcomeOf scratchAfter
 call-accepted file c m r m′ p′ s′ w b y start i j k l e =
-    let q = accepted-rules file c m (sym (w .outcome) ∙ e) in
-    let ps = q .0 in
-    let x = ruling-allows file c m ps (q .1) in
-    let d = only file c m b y ps (q .1) in
+    let ps = piecesOf (ruling file c m) in
+    let is = allows-is (ruling file c m) (accepted-allows (loadAt (c .form) (c .new) file) (ruling file c m) (sym (w .outcome) ∙ e)) in
+    let x = ruling-allows file c m ps is in
+    let d = only file c m b y ps is in
     let told-here = report-told file c m ps x in
     record {
       pieces = ps;
@@ -97,34 +87,18 @@ call-accepted file c m r m′ p′ s′ w b y start i j k l e =
 
 -- ---- refused
 
--- what is left by a ruling that refuses
-record Left (file : List ℕ) (c : Call) (m : List ℕ) : Type 0 where
-  memory : memoryAfter file c m ≡ m
-  map : mapBy (loadAt (c .form) (c .new) file) (ruling file c m) ≡ blank
-
-left : (file : List ℕ) (c : Call) (m : List ℕ) → isRefused (outcomeOf file c m) ≡ true → Left file c m
-unfolding outcomeOf memoryAfter
-left file c m e = by (ruling file c m) refl
-  where
-    o : Ran Verdict
-    o = loadAt (c .form) (c .new) file
-
-    by : (v : Ruling) → ruling file c m ≡ v → Left file c m
-    by (allows ps) f =
-        let x = ruling-allows file c m ps f in
-        absurd (false≢true
-        (sym (ap isRefused (ap (outcomeBy o) f ∙ ap (λ (v : Verdict). report v (o .events)) (x .new .1))) ∙ e))
-    by (refuses fault at side) f = record { memory = ap (λ (v : Ruling). memoryBy (c .old) (c .new) v m) f; map = ap (mapBy o) f }
-
+-- what document 01 says of a call that is refused
 pub call-refused : (file : List ℕ) (c : Call) (m : List ℕ) (r : Outcome) (m′ p′ s′ : List ℕ) → Moved file c m r m′ p′ s′
     → (fault : Fault) (at side : ℕ) → r ≡ Refused fault at side
     → RefusedMove fault c m m′ p′ s′
-unfolding ruling need outcomeOf mapAfter scratchAfter
+unfolding ruling need outcomeOf memoryAfter mapAfter scratchAfter
 call-refused file c m r m′ p′ s′ w fault at side e =
     let o = loadAt (c .form) (c .new) file in
-    let x = left file c m (ap isRefused (sym (w .outcome) ∙ e)) in
+    let accepts : (ps : List Piece) → ruling file c m ≡ allows ps → isRefused (reported o .answer) ≡ false =
+    λ ps f. reported-accepted file (c .form) ps (c .new) (ruling-allows file c m ps f .new) in
+    let x = refused-leaves o (c .old) (c .new) m (ruling file c m) accepts (ap isRefused (sym (w .outcome) ∙ e)) in
     record {
-      memory = w .memory ∙ x .memory;
+      memory = w .memory ∙ x .0;
       wrong-buffer = λ h. (
         ap faultIn (sym e ∙ w .outcome)
             ∙ ap (λ (t : Bool). faultIn (outcomeBy o (need beforehand t WrongBuffer (rulingOf (c .form) (c .old) (c .new) file)))) h,
@@ -132,7 +106,7 @@ call-refused file c m r m′ p′ s′ w fault at side e =
         w .scratch ∙ ap (λ (t : Bool). ifSized t blank (c .scratch)) h,
       );
       other = λ h. (
-        w .map ∙ ap (λ (t : Bool). ifSized t (mapBy o (ruling file c m)) (c .map)) h ∙ x .map,
+        w .map ∙ ap (λ (t : Bool). ifSized t (mapBy o (ruling file c m)) (c .map)) h ∙ x .1,
         w .scratch ∙ ap (λ (t : Bool). ifSized t blank (c .scratch)) h,
       );
     }

@@ -1,13 +1,13 @@
 -- What an acceptance says: of a load, of the two loads of a move, which have the same pieces, and of a call of the mover.
 -- Assumes nothing.
-use mathlib.Core.Bool.{Bool, true, false}
+use mathlib.Core.Bool.{Bool, true, false, false≢true}
 use mathlib.Core.List.{List}
 use mathlib.Core.Path.{_≡_, refl, sym, ap, _∙_, subst}
 use Prim.Native.Nat.{ℕ, _≤_}
 use native.Mathlib.Omega.{arith}
 use borrow.Author.Tests.{eq-eqb}
 use lib.ListN.{length}
-use Rattle.acx.proofs.Calling.{range-bounds, Follows, load-follows}
+use Rattle.acx.proofs.Calling.{isRefused, range-bounds, Follows, load-follows}
 use Rattle.acx.proofs.Demand2.{handler-of}
 use Rattle.acx.proofs.Handlers.{fits-memory, handled}
 use Rattle.acx.proofs.Lists.{each-map}
@@ -17,14 +17,15 @@ use Rattle.acx.specs.Call.{formOf, settings, memoryAfter as playedBy}
 use Rattle.acx.specs.Demand2.{Each, Handler}
 use Rattle.acx.specs.Events.{Event, play, marks, blank, Ran}
 use Rattle.acx.specs.Pieces.{Piece, events}
-use Rattle.acx.specs.Walk.{Verdict, accepted, refused, judged, reported}
+use Rattle.acx.specs.Walk.{Verdict, accepted, refused, judged, report as outcomeReported, reported}
 use Rattle.acx.specs.declared.Bases.{Bases}
 use Rattle.answer.specs.Checks.{need}
 use Rattle.answer.specs.declared.Fault.the-variants.{WrongBuffer}
+use Rattle.answer.specs.declared.Outcome.the-variants.{Accepted}
 use Rattle.answer.specs.declared.Start.{Start}
 use Rattle.words.proofs.Runs.{bytes-part}
 use Rattle.words.specs.Runs.{Bytes}
-use Rattle.mover.specs.Call.{Call, loadAt, Ruling, allows, refuses, sides, rulingOf, sized, beforehand, ruling, Allows, piecesOf, memoryBy, outcomeOf, memoryAfter, mapAfter}
+use Rattle.mover.specs.Call.{Call, loadAt, Ruling, allows, refuses, sides, rulingOf, sized, beforehand, ruling, Allows, piecesOf, outcomeBy, mapBy, memoryBy, outcomeOf, memoryAfter, mapAfter}
 use Rattle.mover.specs.Demand3.{Report, report, AcceptedAt, loadInto, OneMove}
 use Rattle.mover.specs.Move.{moved}
 
@@ -43,6 +44,10 @@ module _ (file : List ℕ) (form : ℕ) (ps : List Piece) (b : Bases) (h : Accep
   in-range =
       let k = range-bounds (settings form (b .main) (b .zero)) (follows .range) in
       (k .0, omega (arith, k .1))
+
+  -- its outcome is no refusal
+  pub reported-accepted : isRefused (reported (loadAt form b file) .answer) ≡ false
+  reported-accepted = ap (λ (v : Verdict). isRefused (outcomeReported v (loadAt form b file .events))) (h .1)
 
   -- its pieces make a handler
   pub handler-at : Handler file b ps
@@ -102,6 +107,21 @@ ranges form old new file h =
     let ps = piecesOf (rulingOf form old new file) in
     let x = both form old new file ps (allows-is (rulingOf form old new file) h) in
     (in-range file form ps old (x .0), in-range file form ps new (x .1))
+
+-- ---- what an outcome says of the ruling
+
+-- an acceptance is of a move that is allowed
+pub accepted-allows : (o : Ran Verdict) (v : Ruling) {start : Start} {i j k l : ℕ} → outcomeBy o v ≡ Accepted start i j k l → Allows v
+accepted-allows o (allows ps) e = tt
+accepted-allows o (refuses fault at side) e = absurd (false≢true (sym (ap isRefused e)))
+
+-- a refusal leaves memory, and the map clear, where a load at the new bases accepts what is allowed
+pub refused-leaves : (o : Ran Verdict) (old new : Bases) (m : List ℕ) (v : Ruling)
+    → ((ps : List Piece) → v ≡ allows ps → isRefused (reported o .answer) ≡ false)
+    → isRefused (outcomeBy o v) ≡ true
+    → (memoryBy old new v m ≡ m) × (mapBy o v ≡ blank)
+refused-leaves o old new m (allows ps) h e = absurd (false≢true (sym (h ps refl) ∙ e))
+refused-leaves o old new m (refuses fault at side) h e = (refl, refl)
 
 -- ---- a call that is allowed
 

@@ -30,10 +30,11 @@ pub record Call : Type 0 where
   -- whether the C answer has its length; a call that lends none has nothing wrong there
   pub answer : Bool
 
--- a call without a C answer
+-- the bases that a site names
 abbrev pub basesAt : Site → Bases
 basesAt s = record { main = s .main; zero = s .zero }
 
+-- a call without a C answer
 abbrev pub call : ℕ → Site → Site → List ℕ → List ℕ → Call
 call form old new map scratch =
     record { form = form; old = basesAt old; new = basesAt new; map = map; scratch = scratch; answer = true }

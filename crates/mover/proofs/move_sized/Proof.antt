@@ -4,7 +4,7 @@
 use mathlib.Core.Path.{_∙_}
 use borrow.Author.Needs.{needs}
 use Rattle.acx.proofs.Calling.{cleared}
-use Rattle.mover.proofs.Judging.{accepted-allows, done-refused, done-moved}
+use Rattle.mover.proofs.Judging.{judged-allows, done-refused, done-moved}
 use Rattle.mover.proofs.Rulings.{ranges}
 use Rattle.mover.proofs.move_sized.Statement.{statement}
 use Rattle.mover.proofs.move_sized.Tie as tie
@@ -38,18 +38,18 @@ enum-told c = search needs
 
 bases-requires : tie.Need-bases-requires
 bases-requires c κs = ranges _ _ _ _
-    (accepted-allows _ _ _ _ (c .before .before .before .before .before .before .judge .ensures) (c .enum-told .given .1)) .0
+    (judged-allows _ _ _ _ (c .before .before .before .before .before .before .judge .ensures) (c .enum-told .given .1)) .0
 
 bases-requires-2 : tie.Need-bases-requires-2
 bases-requires-2 c κs = ranges _ _ _ _
-    (accepted-allows _ _ _ _ (c .before .before .before .before .before .before .before .judge .ensures) (c .before .enum-told .given .1)) .1
+    (judged-allows _ _ _ _ (c .before .before .before .before .before .before .before .judge .ensures) (c .before .enum-told .given .1)) .1
 
 carry-requires : tie.Need-carry-requires
 carry-requires c κs =
     let j = c .before .before .before .before .before .before .before .before .before .before .before in
     let s = j .before .before .before .before .before .before .before in
     rw (c .before .before .before .before .bases .ensures, c .before .before .before .bases2 .ensures) (
-      accepted-allows _ _ _ _ (j .judge .ensures) (c .before .before .before .before .before .enum-told .given .1),
+      judged-allows _ _ _ _ (j .judge .ensures) (c .before .before .before .before .before .enum-told .given .1),
       j .judge .ensures .map,
       j .judge .kept .1 .1 .1 .1 .0 ∙ s .pre .0,
       s .pre .2,
@@ -70,7 +70,7 @@ returns-2 c =
     let k = rw
     (c .before .before .before .before .before .before .before .before .before .bases .ensures, c .before .before .before .before .before .before .before .before .bases2 .ensures) at (c .before .before .before .before .carry .ensures) in
     done-moved _ _ _ _ (j .judge .ensures) (k .1)
-    (accepted-allows _ _ _ _ (j .judge .ensures)
+    (judged-allows _ _ _ _ (j .judge .ensures)
     (c .before .before .before .before .before .before .before .before .before .before .enum-told .given .1)) (k .0)
 
 pub move-sized-spec : {M : Type 1} → statement M
