@@ -21,7 +21,7 @@ use Rattle.mover.proofs.Rulings.{handler-at, code-bytes, load-laid, All
 use Rattle.mover.proofs.Shifts.{shift-fits, shift-added}
 use Rattle.mover.proofs.Transfers.{moved-parts}
 use Rattle.mover.specs.Call.{Call, memoryAfter}
-use Rattle.mover.specs.Demand3.{after, reached, last, arrived, Report, report, reports, Memory, AcceptedAt, loadInto, Alike, OneMove, Claim}
+use Rattle.mover.specs.Demand3.{after, reached, last, arrived, Report, report, reports, Memory, AcceptedAt, loadInto, Alike, OneMove, Demand3, Claim, Run, none, next, ClaimOfRuns}
 use Rattle.mover.specs.Move.{shift, carried, moved}
 
 -- ---- one piece that stands at z in n as one move from a of what m held would leave it
@@ -141,3 +141,14 @@ demand3 file b form ps a h cs m y g =
       reported = λ c o. subst (λ (r : Report). last r (reports file cs m) ≡ r) (sym (one-told file form ps a z m n h y s c o))
           (ap (last (told file form z)) (x .reported) ∙ last-again (told file form) a (reached file cs m));
     }
+
+-- what the program's calls leave is what the definition says
+run-after : {file : List ℕ} {cs : List Call} {m n : List ℕ} → Run file cs m n → n ≡ after file cs m
+unfolding after
+run-after none = refl
+run-after {file} (next {cs = cs} w r) = run-after r ∙ ap (after file cs) (w .memory)
+
+-- of every list of calls that the program carried out
+pub demand3-of-runs : ClaimOfRuns
+demand3-of-runs file b form ps a h cs m n r y g =
+    subst (Demand3 file form ps a (arrived file a cs m) cs m) (sym (run-after r)) (demand3 file b form ps a h cs m y g)

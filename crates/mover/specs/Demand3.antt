@@ -1,4 +1,5 @@
--- Demand 3: what a list of moves of one handler in one memory leaves. `Claim`, at the end, is proved in proofs/Demand3.antt (`demand3`).
+-- Demand 3: what a list of moves of one handler in one memory leaves. The claims at the end are proved in proofs/Demand3.antt: `demand3` of
+-- the definition, `demand3-of-runs` of the program.
 -- Assumes nothing.
 use mathlib.Core.Bool.{true}
 use mathlib.Core.List.{List, [], _∷_}
@@ -14,7 +15,7 @@ use Rattle.answer.specs.declared.Outcome.{Outcome}
 use Rattle.answer.specs.declared.Start.{Start}
 use Rattle.words.specs.Numbers.{value, on, off}
 use Rattle.words.specs.Runs.{Bytes}
-use Rattle.mover.specs.Call.{Call, loadAt, Ruling, allows, refuses, ruling, outcomeOf, memoryAfter, mapAfter}
+use Rattle.mover.specs.Call.{Call, loadAt, Ruling, allows, refuses, ruling, outcomeOf, memoryAfter, mapAfter, Moved}
 
 -- ---- the list
 
@@ -126,3 +127,19 @@ Claim =
     (file : List ℕ) → Bytes file → (form : ℕ) (ps : List Piece) (a : Bases) → AcceptedAt file form ps a → (cs : List Call) (m : List ℕ) → Memory m
     → Chained file form a cs m
     → Demand3 file form ps a (arrived file a cs m) cs m (after file cs m)
+
+-- ---- the program's calls
+
+-- calls that were carried out one after another: each kept the mover's contract, and found memory as the one before left it
+pub data Run (file : List ℕ) : List Call → List ℕ → List ℕ → Type 0 where
+  none : {m : List ℕ} → Run file [] m m
+  next : {c : Call} {cs : List Call} {m m′ p′ s′ n : List ℕ} {r : Outcome} → Moved file c m r m′ p′ s′ → Run file cs m′ n → Run file (c ∷ cs) m n
+
+-- The claim of what the program leaves.
+abbrev pub ClaimOfRuns : Type 0
+ClaimOfRuns =
+    (file : List ℕ) → Bytes file → (form : ℕ) (ps : List Piece) (a : Bases) → AcceptedAt file form ps a → (cs : List Call) (m n : List ℕ)
+    → Run file cs m n
+    → Memory m
+    → Chained file form a cs m
+    → Demand3 file form ps a (arrived file a cs m) cs m n
