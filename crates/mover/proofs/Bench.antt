@@ -1,4 +1,4 @@
--- P2 and P5 of the bench table, as facts about the definition.
+-- P2 and P5 of the bench table, and a move whose old and new places overlap, as facts about the definition.
 -- Assumes nothing.
 use mathlib.Core.Bool.{true}
 use mathlib.Core.List.{List, [], _∷_, map}
@@ -85,6 +85,15 @@ rows =
       outcome = Accepted Absent 2 1 0 0;
       memory = 0xA2 ∷ 0x20 ∷ [];
       map = 1 ∷ 3 ∷ [];
+    }
+    ∷ record {
+      file = 0x00 ∷ 0x05 ∷ 0x00 ∷ 0x00 ∷ 0x4C ∷ 0x03 ∷ 0x00 ∷ 0x06 ∷ 0x01 ∷ 0x01 ∷ 0x0B ∷ 0x02 ∷ 0x00 ∷ 0x00 ∷ [];
+      old = 8192;
+      new = 8193;
+      loaded = 0x4C ∷ 0x03 ∷ 0x20 ∷ [];
+      outcome = Accepted (At 8193) 3 1 0 0;
+      memory = 0x4C ∷ 0x04 ∷ 0x20 ∷ [];
+      map = 1 ∷ 3 ∷ 3 ∷ [];
     }
     ∷ []
 
