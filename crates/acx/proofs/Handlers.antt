@@ -15,7 +15,6 @@ use Rattle.records.specs.declared.Record.the-variants.{Code, Fixups, End, Fault
 use Rattle.words.proofs.Runs.{length-part}
 use Rattle.words.specs.Runs.{part}
 use Rattle.acx.proofs.Checks.{placing-passed}
-use Rattle.acx.proofs.Edits.{Inside}
 use Rattle.acx.proofs.Events.{length-marks}
 use Rattle.acx.proofs.Lists.{each-map, each-append, pairwise-append}
 use Rattle.acx.proofs.Loads.{Fits}
@@ -23,7 +22,7 @@ use Rattle.acx.proofs.Marks.{length-blank, marks-fields, marks-some, co
 use Rattle.acx.proofs.Standing.{limit-le, code-passed, fixups-passed, Stands, stands-first, stands-on}
 use Rattle.acx.proofs.Walking.{piecesAfter, Onward, accepted-keeps}
 use Rattle.acx.specs.AtBases.{adjusting}
-use Rattle.acx.specs.Demand2.{Each, FieldsApart, Handler}
+use Rattle.acx.specs.Demand2.{Each, FieldsApart, Handler, Inside}
 use Rattle.acx.specs.Events.{marks, blank}
 use Rattle.acx.specs.Pieces.{Piece, size, placeOf, limitOf, events}
 use Rattle.acx.specs.Walk.{accepted, lastOf, lastPlace, lastSize, recordAt, checked, withFields, openingSize, judged}

@@ -10,10 +10,10 @@ use Rattle.words.proofs.Numbers.{on-lt}
 use Rattle.words.proofs.Runs.{length-put, put-outside, part-at, part-put, part-put-apart, bytes-put}
 use Rattle.words.specs.Numbers.{value, on, change}
 use Rattle.words.specs.Runs.{Bytes, part, put}
-use Rattle.acx.proofs.Edits.{Inside, Fitting, length-edited, bytes-edited, edited-plain, edited-each}
+use Rattle.acx.proofs.Edits.{Fitting, length-edited, bytes-edited, edited-plain, edited-each}
 use Rattle.acx.proofs.Events.{play-append}
 use Rattle.acx.proofs.Lists.{each-all, each-map, each-zip, each-zip3}
-use Rattle.acx.specs.Demand2.{Each, Pairwise, Placed, In, PiecesApart, FieldsApart}
+use Rattle.acx.specs.Demand2.{Each, Pairwise, Placed, In, PiecesApart, FieldsApart, Inside}
 use Rattle.acx.specs.Events.{place, play}
 use Rattle.acx.specs.Pieces.{Piece, size, placeOf, width, amountOf, edited, adjustments, events}
 use Rattle.acx.specs.declared.Bases.{Bases}

@@ -33,6 +33,10 @@ Placed b x p = Within (placeOf b p) (size p) x
 abbrev pub In : ℕ → Field → Type 0
 In j f = Within (f .index) (width f) j
 
+-- the field lies in n code bytes
+abbrev pub Inside : ℕ → Field → Type 0
+Inside n f = f .index + width f ≤ n
+
 abbrev pub PiecesApart : Bases → Piece → Piece → Type 0
 PiecesApart b p q = Apart (placeOf b p) (size p) (placeOf b q) (size q)
 
@@ -46,7 +50,7 @@ pub record Handler (file : List ℕ) (b : Bases) (ps : List Piece) : Type 0 wher
   -- no two share an address
   pub apart : Pairwise (PiecesApart b) ps
   -- fields lie inside their piece
-  pub inside : Each (λ p. Each (λ f. f .index + width f ≤ size p) (p .fields)) ps
+  pub inside : Each (λ p. Each (Inside (size p)) (p .fields)) ps
   -- no byte is in two of them
   pub distinct : Each (λ p. Pairwise FieldsApart (p .fields)) ps
   -- the code is the file's

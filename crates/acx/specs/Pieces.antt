@@ -51,7 +51,8 @@ amountBy b lsb High = (lsb + b .main) / 256
 unfoldable pub amountOf : Bases → Field → ℕ
 amountOf b f = amountBy b (f .lsb) (f .fixup)
 
--- a run of code bytes in which g has replaced the number of each field, the first field first
+-- a run of code bytes in which g has replaced the number of each field, the first field first: what the laws about loads and the definition
+-- of a move go by
 unfoldable pub edited : (Field → ℕ → ℕ) → List Field → List ℕ → List ℕ
 edited g [] bytes = bytes
 edited g (f ∷ fs) bytes = edited g fs (change (width f) (g f) bytes (f .index))

@@ -4,11 +4,10 @@ use mathlib.Core.List.{List, [], _∷_, map}
 use mathlib.Core.Path.{_≡_, refl, sym, ap, _∙_, subst}
 use Prim.Native.Nat.{ℕ}
 use lib.ListN.{length, getD}
-use Rattle.acx.proofs.Edits.{Inside}
 use Rattle.acx.proofs.Handlers.{fits-memory}
 use Rattle.acx.proofs.Lists.{each-map, each-zip, each-zip3}
 use Rattle.acx.proofs.Loads.{Fits}
-use Rattle.acx.specs.Demand2.{Each, Placed, Handler}
+use Rattle.acx.specs.Demand2.{Each, Placed, Handler, Inside}
 use Rattle.acx.specs.Pieces.{Piece, size, placeOf, edited}
 use Rattle.acx.specs.declared.Bases.{Bases}
 use Rattle.words.proofs.Runs.{length-part, bytes-part}

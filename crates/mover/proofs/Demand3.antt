@@ -5,11 +5,11 @@ use mathlib.Core.Path.{_≡_, refl, sym, ap, _∙_, subst}
 use Prim.Native.Nat.{ℕ, _+_, _<_}
 use native.Mathlib.Omega.{arith}
 use lib.ListN.{length, getD}
-use Rattle.acx.proofs.Edits.{Inside, edited-plain, edited-each}
+use Rattle.acx.proofs.Edits.{edited-plain, edited-each}
 use Rattle.acx.proofs.Handlers.{fits-memory}
 use Rattle.acx.proofs.Lists.{each-map, each-zip, each-zip3}
 use Rattle.acx.proofs.Loads.{Fits, loaded, length-laid, laid-parts}
-use Rattle.acx.specs.Demand2.{Each, Pairwise, In, FieldsApart, Handler}
+use Rattle.acx.specs.Demand2.{Each, Pairwise, In, FieldsApart, Handler, Inside}
 use Rattle.acx.specs.Pieces.{Piece, size, placeOf, width, amountOf, edited}
 use Rattle.acx.specs.declared.Bases.{Bases}
 use Rattle.words.proofs.Changes.{value-part}

@@ -14,6 +14,7 @@ use Rattle.acx.proofs.Events.{length-marks}
 use Rattle.acx.proofs.Marks.{length-blank, fields-fresh}
 use Rattle.acx.proofs.Standing.{fixups-passed}
 use Rattle.acx.proofs.Walking.{piecesAfter, Onward, judged-accepted}
+use Rattle.acx.specs.Demand2.{Each, Inside}
 use Rattle.acx.specs.Call.{formOf}
 use Rattle.acx.specs.Cursor.{begun, advanced}
 use Rattle.acx.specs.Events.{marks, blank}
@@ -40,7 +41,7 @@ use Rattle.words.specs.Runs.{part, put}
 use Rattle.mover.proofs.Rulings.{follows, verdict, allows-is, both}
 use Rattle.mover.specs.Call.{rulingOf, Allows, piecesOf}
 use Rattle.mover.specs.Move.{shift, carried, transfer}
-use Rattle.mover.specs.Parts.{taken, Inside, Sound}
+use Rattle.mover.specs.Parts.{taken, Sound}
 
 -- ---- the file
 
@@ -109,7 +110,7 @@ fields-taken old new m t₀ fs (p ∷ ps) t h i j e =
 -- the fields of a record that passed lie in the last code
 fields-inside : (file : List ℕ) (b : Bases) (at : ℕ) (ps : List Piece) (fixup : Fixup) (from n : ℕ) → lastPlace b ps + lastSize ps ≤ 65536
     → recordAt file at ps ≡ Fixups fixup from n
-    → checked file b at ps .answer ≡ Passed → Inside (lastSize ps) (fieldsOf fixup (part file from n))
+    → checked file b at ps .answer ≡ Passed → Each (Inside (lastSize ps)) (fieldsOf fixup (part file from n))
 fields-inside file b at ps fixup from n h e c =
     let l : length (marks (events b ps) blank) ≡ 65536 = length-marks (events b ps) blank ∙ length-blank in
     fields-fresh b (lastPlace b ps) (lastSize ps) (fieldsOf fixup (part file from n)) [] (marks (events b ps) blank) (omega (arith, h, l)) tt
@@ -196,15 +197,15 @@ module _ (file : List ℕ) (old new : Bases) (source target : Cursor) (m t : Lis
 
 -- a fixup record may be taken: it lies in the file, and its fields in the code
 pub takes-sound : (file : List ℕ) (n : ℕ) (r : Record) → Sound file n r → {fixup : Fixup} {from k : ℕ} → r ≡ Fixups fixup from k
-    → (from + k ≤ length file) × Inside n (fieldsOf fixup (part file from k))
+    → (from + k ≤ length file) × Each (Inside n) (fieldsOf fixup (part file from k))
 takes-sound file n r h e = rw e at h
 
 -- the items and the code that are then lent
 pub takes-lent : (file : List ℕ) (target : Cursor) (t : List ℕ) (fixup : Fixup) (from k : ℕ) → length file ≤ 65536
     → target .place + target .size ≤ length t
-    → (from + k ≤ length file) × Inside (target .size) (fieldsOf fixup (part file from k))
+    → (from + k ≤ length file) × Each (Inside (target .size)) (fieldsOf fixup (part file from k))
     → (length (midOf from (from + k - from) file) ≤ 65536)
-    × Inside (length (midOf (target .place) (target .place + target .size - target .place) t)) (fieldsOf fixup (midOf from (from + k - from) file))
+    × Each (Inside (length (midOf (target .place) (target .place + target .size - target .place) t))) (fieldsOf fixup (midOf from (from + k - from) file))
 takes-lent file target t fixup from k l j h =
     let items = lent-is from k file in
     let code = lent-is (target .place) (target .size) t in

@@ -4,6 +4,7 @@ use mathlib.Core.List.{List, [], _∷_}
 use mathlib.Core.Path.{_≡_, refl, sym, ap, _∙_}
 use Prim.Native.Nat.{ℕ, _+_, _≤_}
 use lib.ListN.{length}
+use Rattle.acx.specs.Demand2.{Each, Inside}
 use Rattle.acx.specs.Pieces.{width, amountOf, edited}
 use Rattle.acx.specs.declared.Bases.{Bases}
 use Rattle.records.specs.Fields.{widthOf}
@@ -14,7 +15,6 @@ use Rattle.words.proofs.Changes.{length-change, change-change}
 use Rattle.words.proofs.Numbers.{off-lt}
 use Rattle.words.specs.Numbers.{value, on, off, change}
 use Rattle.mover.specs.Move.{shift}
-use Rattle.mover.specs.Parts.{Inside}
 
 -- a field that is no byte is a word
 pub width-two : (fixup : Fixup) → (widthOf fixup ≡ 1 → ⊥) → widthOf fixup ≡ 2
@@ -34,12 +34,12 @@ shifted-field w k old new l m n i e h a b =
 
 -- where the loop stands: it began with the fields all and the code bs, and rest are left
 pub record Shifting (old new : Bases) (all : List Field) (bs : List ℕ) (rest : List Field) (cs : List ℕ) : Type 0 where
-  pub inside : Inside (length cs) rest
+  pub inside : Each (Inside (length cs)) rest
   pub as-long : length cs ≡ length bs
   pub same : edited (shift old new) all bs ≡ edited (shift old new) rest cs
 
 module _ {old new : Bases} {all : List Field} {bs : List ℕ} where
-  pub shifting-none : Inside (length bs) all → Shifting old new all bs all bs
+  pub shifting-none : Each (Inside (length bs)) all → Shifting old new all bs all bs
   shifting-none h = record { inside = h; as-long = refl; same = refl }
 
   -- the next field lies in the code
@@ -57,7 +57,7 @@ module _ {old new : Bases} {all : List Field} {bs : List ℕ} where
       d ∙ ap (λ (y : ℕ). change k (λ v. on k b (off k y v)) cs (f .index)) ea
       ∙ ap (λ (y : ℕ). change k (λ v. on k y (off k (amountOf old f) v)) cs (f .index)) eb in
       let n : length ds ≡ length cs = ap length is ∙ length-change (width f) (shift old new f) cs (f .index) in
-      let i : Inside (length cs) (f ∷ rest′) = rw e at (x .inside) in
+      let i : Each (Inside (length cs)) (f ∷ rest′) = rw e at (x .inside) in
       record {
         inside = rw n (i .1);
         as-long = n ∙ x .as-long;

@@ -4,9 +4,9 @@ use mathlib.Core.List.{List}
 use mathlib.Core.Path.{_≡_, ap, _∙_}
 use Prim.Native.Nat.{ℕ}
 use lib.ListN.{length}
-use Rattle.acx.proofs.Edits.{Inside, Fitting, edited-twice, edited-same, edited-none}
+use Rattle.acx.proofs.Edits.{Fitting, edited-twice, edited-same, edited-none}
 use Rattle.acx.proofs.Loads.{added, added-fits}
-use Rattle.acx.specs.Demand2.{Each, Pairwise, FieldsApart}
+use Rattle.acx.specs.Demand2.{Each, Pairwise, FieldsApart, Inside}
 use Rattle.acx.specs.Pieces.{width, amountOf, edited}
 use Rattle.acx.specs.declared.Bases.{Bases}
 use Rattle.records.specs.declared.Field.{Field}

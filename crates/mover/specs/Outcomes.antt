@@ -42,7 +42,7 @@ pub record AcceptedMove (file : List ℕ) (c : Call) (m : List ℕ) (r : Outcome
       (p .fields)) pieces
   -- "Absolute pieces, vacated and all other bytes keep their contents."
   pub kept : (x : ℕ) → Each (λ p. Relocatable (p .kind) → ¬ Placed (c .new) x p) pieces → getD m′ x 0 ≡ getD m x 0
-  -- "The answer and map are those of a load at the new bases": of any call of the loader there that finds the same lengths
+  -- "The answer and map are those of a load at the new bases": of any call of the loader there that is lent buffers of the right lengths
   pub as-load : (k q : List ℕ) (t : Outcome) (k′ q′ : List ℕ)
       → Loaded (settings (c .form) (c .new .main) (c .new .zero)) file k q t k′ q′ → length k ≡ 65536 → length q ≡ 65536
       → (r ≡ t) × (p′ ≡ q′)

@@ -4,12 +4,11 @@ use mathlib.Core.List.{List}
 use mathlib.Core.Path.{_≡_}
 use Prim.Native.Nat.{ℕ, zero, suc, _+_, _≤_}
 use lib.ListN.{length, getD}
-use Rattle.acx.specs.Demand2.{Each}
-use Rattle.acx.specs.Pieces.{width, edited}
+use Rattle.acx.specs.Demand2.{Each, Inside}
+use Rattle.acx.specs.Pieces.{edited}
 use Rattle.acx.specs.declared.Bases.{Bases}
 use Rattle.acx.specs.declared.Cursor.{Cursor}
 use Rattle.records.specs.Fields.{fieldsOf}
-use Rattle.records.specs.declared.Field.{Field}
 use Rattle.records.specs.declared.Record.{Record}
 use Rattle.records.specs.declared.Record.the-variants.{Code, Fixups, End, Faulty}
 use Rattle.words.specs.Runs.{part, put}
@@ -23,14 +22,10 @@ taken file old new source target m t (Fixups fixup at n) =
 taken file old new source target m t (End entry next) = t
 taken file old new source target m t (Faulty fault) = t
 
--- the fields lie in n code bytes
-abbrev pub Inside : ℕ → List Field → Type 0
-Inside n fs = Each (λ f. f .index + width f ≤ n) fs
-
 -- a fixup record lies in its file, and its fields in n code bytes
 abbrev pub Sound : List ℕ → ℕ → Record → Type 0
 Sound file n (Code kind address at k) = Unit {0}
-Sound file n (Fixups fixup at k) = (at + k ≤ length file) × Inside n (fieldsOf fixup (part file at k))
+Sound file n (Fixups fixup at k) = (at + k ≤ length file) × Each (Inside n) (fieldsOf fixup (part file at k))
 Sound file n (End entry next) = Unit {0}
 Sound file n (Faulty fault) = Unit {0}
 

@@ -15,8 +15,9 @@ ghost use Rattle.words.specs.Numbers.{on, off, change};
 ghost use Rattle.records.specs.Fields.{fieldsOf, widthOf};
 ghost use Rattle.acx.specs.Events.{blank};
 ghost use Rattle.acx.specs.Pieces.{edited};
+ghost use Rattle.acx.specs.Demand2.{Each, Inside};
 ghost use Rattle.mover.specs.Move.{shift, transfer, moved};
-ghost use Rattle.mover.specs.Parts.{taken, Inside, Sound, Overlaid};
+ghost use Rattle.mover.specs.Parts.{taken, Sound, Overlaid};
 ghost use Rattle.mover.specs.Call.{basesAt, call, loadAt, side as sideOf, rulingOf, Allows, piecesOf, mapBy, Judged, Done, Moved};
 
 // The length of memory, of the map and of the scratch.
@@ -224,7 +225,7 @@ fn take(
 
 // The fields that a fixup record lists, one by one: the amounts of the old bases off, those of the new on.
 fn shift_fields(items: &[u8], fixup: Fixup, old: Bases, new: Bases, code: &mut [u8])
-    requires { ⌜ (length (now items) ≤ 65536) × Inside (length (now code)) (fieldsOf fixup (now items)) ⌝ }
+    requires { ⌜ (length (now items) ≤ 65536) × Each (Inside (length (now code))) (fieldsOf fixup (now items)) ⌝ }
     ensures { λ _. ⌜ now (code .exit) ≡ edited (shift old new) (fieldsOf fixup (now (items .entry))) (now (code .entry)) ⌝ }
 {
     let step = records::item_size(fixup);
