@@ -2,7 +2,7 @@
 -- Assumes nothing.
 use mathlib.Core.List.{List, [], _∷_, _++_}
 use mathlib.Core.Path.{_≡_, refl, ap, _∙_}
-use Prim.Native.Nat.{ℕ, _+_, _^_, _<_}
+use Prim.Native.Nat.{ℕ, _^_, _<_}
 use lib.ListN.{length, getD}
 use Rattle.records.specs.declared.Field.{Field}
 use Rattle.words.proofs.Changes.{value-lt, length-change, bytes-change, change-outside, value-change, value-change-apart, change-change, change-same, change-none, change-comm}
