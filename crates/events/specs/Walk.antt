@@ -1,0 +1,29 @@
+-- A walk: turn after turn, each over the map as the turns before it left it, until one of them ends it.
+-- The turns are counted down, so that there is an end in any case; `from-turn` (proofs/Walks.antt) is the equation to read where each turn
+-- brings its state's measure down, and nothing after it looks at the count.
+-- Assumes nothing.
+use mathlib.Core.List.{List, [], _++_}
+use Prim.Native.Nat.{ℕ, zero, suc}
+use Rattle.events.specs.Events.{Event, marks, Ran}
+
+-- what a turn comes to: it ends the walk with an answer, or leads to another state
+pub data Turn (S A : Type 0) : Type 0 where
+  ends : A → Turn S A
+  leads : S → Turn S A
+
+-- what comes after these events
+abbrev pub after : {A : Type 0} → List Event → Ran A → Ran A
+after es rest = record { answer = rest .answer; events = es ++ rest .events }
+
+abbrev pub onward : {S A : Type 0} → (S → List ℕ → Ran A) → List ℕ → List Event → Turn S A → Ran A
+onward go map es (ends a) = record { answer = a; events = es }
+onward go map es (leads s) = after es (go s (marks es map))
+
+-- at most so many turns from a state (`last` is the answer if they run out, which by `from-turn` they never do)
+unfoldable pub walk : {S A : Type 0} → (S → List ℕ → Ran (Turn S A)) → (S → A) → ℕ → S → List ℕ → Ran A
+walk turn last zero s map = record { answer = last s; events = [] }
+walk turn last (suc k) s map = onward (λ z p. walk turn last k z p) map (turn s map .events) (turn s map .answer)
+
+-- all turns from a state, of which there are no more than its measure says
+unfoldable pub from : {S A : Type 0} → (S → List ℕ → Ran (Turn S A)) → (S → A) → (S → ℕ) → S → List ℕ → Ran A
+from turn last measure s map = walk turn last (suc (measure s)) s map
