@@ -12,6 +12,10 @@ use Rattle.answer.specs.Checks.{need}
 use Rattle.answer.specs.Report.{address}
 use Rattle.answer.specs.declared.Fault.{Fault}
 use Rattle.answer.specs.declared.Fault.the-variants.{StartTooHigh, BytesAfterEnd}
+use Rattle.events.proofs.Events.{did-none}
+use Rattle.events.specs.Events.{Event, marks, failed, passed, playIf, Did}
+use Rattle.events.specs.declared.Check.{Check}
+use Rattle.events.specs.declared.Check.the-variants.{Failed}
 use Rattle.records.specs.Fields.{fieldsOf}
 use Rattle.records.specs.declared.Entry.{Entry}
 use Rattle.records.specs.declared.Fixup.{Fixup}
@@ -21,13 +25,9 @@ use Rattle.records.specs.declared.Record.the-variants.{Code, Fixups, End, Fault
 use Rattle.words.proofs.Lent.{lent-is}
 use Rattle.words.proofs.Runs.{length-part}
 use Rattle.words.specs.Runs.{part}
-use Rattle.acx.proofs.Events.{did-none}
-use Rattle.acx.specs.AtBases.{failed, passed, placing, adjusting, startOf, ending, applied}
-use Rattle.acx.specs.Events.{Event, playIf, marks, Did}
+use Rattle.acx.specs.AtBases.{placing, adjusting, startOf, ending, applied}
 use Rattle.acx.specs.Pieces.{placeAt, limitOf}
 use Rattle.acx.specs.declared.Bases.{Bases}
-use Rattle.acx.specs.declared.Check.{Check}
-use Rattle.acx.specs.declared.Check.the-variants.{Failed}
 
 -- a part of a file is no longer than the file may be
 pub lent-fits : (file : List ℕ) (from count : ℕ) → from + count ≤ length file → length file ≤ 65536

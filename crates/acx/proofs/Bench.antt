@@ -8,13 +8,13 @@ use Rattle.answer.specs.declared.Fault.the-variants.{FieldNotLoaded, AdjustedTw
 use Rattle.answer.specs.declared.Outcome.{Outcome}
 use Rattle.answer.specs.declared.Outcome.the-variants.{Accepted, Refused}
 use Rattle.answer.specs.declared.Start.the-variants.{Absent, At}
+use Rattle.events.specs.Events.{play, marks, blank, placedIn, adjustedIn}
 use Rattle.records.specs.Fields.{fieldsOf}
 use Rattle.records.specs.Records.{readCode, readItems, readFixups, readEnd, read}
 use Rattle.words.specs.Numbers.{number, value, digits, store, on, change}
 use Rattle.words.specs.Runs.{part, put, allZero, contains}
 use Rattle.acx.specs.AtBases.{placing, adjusting, ending, applied}
 use Rattle.acx.specs.Call.{load, memoryAfter, mapAfter}
-use Rattle.acx.specs.Events.{play, marks, blank, placedIn, adjustedIn}
 use Rattle.acx.specs.Pieces.{adjustments, events, amountOf}
 use Rattle.acx.specs.Walk.{checked, walk, from, judged, reported, opening}
 

@@ -14,16 +14,16 @@ use Rattle.answer.specs.declared.Fault.the-variants.{WrongBuffer, SettingOutOfR
 use Rattle.answer.specs.declared.Outcome.{Outcome}
 use Rattle.answer.specs.declared.Outcome.the-variants.{Accepted, Refused}
 use Rattle.answer.specs.declared.Start.{Start}
-use Rattle.acx.proofs.Events.{did-none}
+use Rattle.events.proofs.Events.{did-none}
+use Rattle.events.specs.Events.{play, blank, Ran, Did}
+use Rattle.events.specs.declared.Check.{Check}
+use Rattle.events.specs.declared.Check.the-variants.{Passed, Failed}
 use Rattle.acx.proofs.Standing.{Stands, stands-first, stands-on}
 use Rattle.acx.proofs.Walking.{refused-accepted, accepted-keeps}
 use Rattle.acx.specs.Call.{formOf, Settings, inRange, basesOf, sized, load, call, Carried, placedOf, adjustedOf, Loaded}
-use Rattle.acx.specs.Events.{play, blank, Ran, Did}
 use Rattle.acx.specs.Pieces.{Piece}
 use Rattle.acx.specs.Walk.{Verdict, accepted, refused, atOnce, from, opening, openingSize, judged, report, reported}
 use Rattle.acx.specs.declared.Bases.{Bases}
-use Rattle.acx.specs.declared.Check.{Check}
-use Rattle.acx.specs.declared.Check.the-variants.{Passed, Failed}
 use Rattle.acx.specs.declared.Form.{Form}
 use Rattle.acx.specs.declared.Form.the-variants.{Device}
 

@@ -7,25 +7,24 @@ use Prim.Native.Nat.{ℕ, _+_, _-_, _<_, _≤_}
 use native.Mathlib.Omega.{arith}
 use borrow.Author.Tests.{le-leb, lt-leb, leb-true}
 use borrow.Rule.Slice.PartMut.{midOf, putMid}
-use lib.ListN.{length, replicate, length-replicate}
+use lib.ListN.{length, replicate}
 use Rattle.answer.specs.Checks.{need}
 use Rattle.answer.specs.declared.Fault.{Fault}
 use Rattle.answer.specs.declared.Fault.the-variants.{DoesNotFit, PiecesOverlap, FieldNotLoaded, AdjustedTwice}
+use Rattle.events.proofs.Events.{did-none, filled}
+use Rattle.events.specs.Events.{Event, place, play, adjustedMark, markOne, marks, Ran, failed, playIf, Reached, Did}
+use Rattle.events.specs.declared.Check.{Check}
+use Rattle.events.specs.declared.Check.the-variants.{Passed, Failed}
 use Rattle.records.specs.Fields.{widthOf}
 use Rattle.records.specs.declared.Field.{Field}
 use Rattle.records.specs.declared.Fixup.{Fixup}
 use Rattle.records.specs.declared.Fixup.the-variants.{Low, Page, Word, High}
-use Rattle.words.proofs.Lent.{lent-is, back-is, back-changed}
-use Rattle.words.proofs.Runs.{length-part}
+use Rattle.words.proofs.Lent.{lent-is, back-changed}
 use Rattle.words.specs.Numbers.{on, change}
 use Rattle.words.specs.Runs.{part, put, allZero, contains}
-use Rattle.acx.proofs.Events.{did-none}
-use Rattle.acx.specs.AtBases.{failed, passed, placing, adjusting}
-use Rattle.acx.specs.Events.{Event, place, placedMark, adjustedMark, markOne, marks, play, Ran, playIf, Did}
+use Rattle.acx.specs.AtBases.{placing, adjusting}
 use Rattle.acx.specs.Pieces.{width, amountOf, adjustment, adjustments}
 use Rattle.acx.specs.declared.Bases.{Bases}
-use Rattle.acx.specs.declared.Check.{Check}
-use Rattle.acx.specs.declared.Check.the-variants.{Passed, Failed}
 
 -- ---- one check
 
@@ -42,21 +41,7 @@ unfolding need
 need-passed true fault o e = (refl, refl)
 need-passed false fault o e = absurd (failed-passed fault e)
 
--- ---- parts that were lent
-
--- a part of the map that was filled with a mark
-filled : (a n v : ℕ) (p w : List ℕ) → a + n ≤ length p → w ≡ replicate (length (midOf a (a + n - a) p)) v
-    → putMid a (a + n - a) p w ≡ put p a (replicate n v)
-filled a n v p w h e =
-    let l : length (midOf a (a + n - a) p) ≡ n = ap length (lent-is a n p) ∙ length-part p a n h in
-    let e′ : w ≡ replicate n v = e ∙ ap (λ (k : ℕ). replicate k v) l in
-    rw e′ (back-is a n p (replicate n v) h (length-replicate n v))
-
--- a part of memory that code was copied into
-pub copied : (a : ℕ) (code m w : List ℕ) (write : Bool) → write ≡ true → a + length code ≤ length m → w ≡ code
-    → putMid a (a + length code - a) m w ≡ playIf write (place a code ∷ []) m
-unfolding play
-copied a code m w write t h e = rw (t, e) (back-is a (length code) m code h refl)
+-- ---- a part that was lent
 
 -- a part of memory that a field was adjusted in
 pub added : (b : Bases) (a n : ℕ) (f : Field) (x : ℕ) (m w : List ℕ) (write : Bool) → write ≡ true → x ≡ amountOf b f → a + n ≤ length m
@@ -82,13 +67,13 @@ module _ (a limit : ℕ) (code : List ℕ) (write : Bool) (m p : List ℕ) where
       let z′ : allZero (part p a (length code)) ≡ false = rw (lent-is a (length code) p) at z in
       rw (le-leb _ _ h, z′) (did-none _ write m p)
 
-  pub placing-done : (m′ w : List ℕ) → a + length code ≤ limit → a + length code ≤ length p → allZero (midOf a (a + length code - a) p) ≡ true
-      → w ≡ replicate (length (midOf a (a + length code - a) p)) placedMark → m′ ≡ playIf write (place a code ∷ []) m
-      → Did Check (placing a limit code p) write m p Passed m′ (putMid a (a + length code - a) p w)
-  unfolding placing need marks
-  placing-done m′ w h l z ew em =
+  pub placing-done : (m′ p′ : List ℕ) → a + length code ≤ limit → allZero (midOf a (a + length code - a) p) ≡ true
+      → Reached (place a code ∷ []) write m p m′ p′
+      → Did Check (placing a limit code p) write m p Passed m′ p′
+  unfolding placing need
+  placing-done m′ p′ h z r =
       let z′ : allZero (part p a (length code)) ≡ true = rw (lent-is a (length code) p) at z in
-      rw (le-leb _ _ h, z′) (record { answer = refl; memory = em; map = filled a (length code) placedMark p w l ew })
+      rw (le-leb _ _ h, z′) (record { answer = refl; memory = r .memory; map = r .map })
 
 -- code that passed has room below its limit, found nothing placed there, and is placed
 pub placing-passed : (a limit : ℕ) (code p : List ℕ) → placing a limit code p .answer ≡ Passed

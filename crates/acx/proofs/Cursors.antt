@@ -9,6 +9,9 @@ use denote.Enum.Declared.{tagOf}
 use lib.ListN.{length}
 use Rattle.answer.specs.declared.Fault.{Fault}
 use Rattle.answer.specs.declared.Start.{Start}
+use Rattle.events.specs.Events.{placedIn, adjustedIn, Ran}
+use Rattle.events.specs.declared.Check.{Check}
+use Rattle.events.specs.declared.Check.the-variants.{Passed, Failed}
 use Rattle.records.proofs.Listing.{length-fields}
 use Rattle.records.proofs.Reading.{Where, Moving, lies-as, fixups-after}
 use Rattle.records.proofs.Record.{the-type}
@@ -24,12 +27,9 @@ use Rattle.words.specs.Runs.{part}
 use Rattle.acx.proofs.Standing.{Stands, stands-first, stands-on, placed-after, adjusted-after}
 use Rattle.acx.proofs.Walking.{nextOf, piecesAfter, Onward, onward, from-step, from-onward, refused-accepted, accepted-pieces}
 use Rattle.acx.specs.Cursor.{begun, EndsBy, advanced}
-use Rattle.acx.specs.Events.{placedIn, adjustedIn, Ran}
 use Rattle.acx.specs.Pieces.{Piece, events}
 use Rattle.acx.specs.Walk.{Verdict, accepted, lastOf, lastPlace, lastSize, recordAt, checked, withFields, judge, from}
 use Rattle.acx.specs.declared.Bases.{Bases}
-use Rattle.acx.specs.declared.Check.{Check}
-use Rattle.acx.specs.declared.Check.the-variants.{Passed, Failed}
 use Rattle.acx.specs.declared.Cursor.{Cursor}
 
 -- ---- the cursor

@@ -14,15 +14,16 @@ use Rattle.answer.specs.declared.Outcome.{Outcome}
 use Rattle.answer.specs.declared.Outcome.the-variants.{Accepted, Refused}
 use Rattle.answer.specs.declared.Start.{Start}
 use Rattle.answer.specs.declared.Start.the-variants.{Absent}
+use Rattle.events.proofs.Events.{placed-append, adjusted-append}
+use Rattle.events.specs.Events.{Event, place, play, marks, blank, placedIn, adjustedIn, Ran}
 use Rattle.acx.proofs.Calling.{isRefused, and-true}
-use Rattle.acx.proofs.Events.{placed-append, adjusted-append, placed-adjustments, adjusted-adjustments}
 use Rattle.acx.proofs.Handlers.{fits-memory, handled}
 use Rattle.acx.proofs.Loads.{laid, play-laid, laid-outside, laid-plain, laid-fields}
 use Rattle.acx.proofs.Marks.{length-blank, blank-at, marks-outside, marks-plain, marks-fields}
+use Rattle.acx.proofs.PieceEvents.{placed-adjustments, adjusted-adjustments}
 use Rattle.acx.proofs.Standing.{Stands}
 use Rattle.acx.specs.Call.{formOf, Settings, basesOf, load, call, memoryAfter, mapAfter, placedOf, adjustedOf, Loaded}
 use Rattle.acx.specs.Demand2.{total, Handler, Demand2, Asked, AcceptedCall}
-use Rattle.acx.specs.Events.{Event, place, play, marks, blank, placedIn, adjustedIn, Ran}
 use Rattle.acx.specs.Pieces.{Piece, size, placeOf, adjustments, events}
 use Rattle.acx.specs.Walk.{Verdict, accepted, refused, atOnce, judged, report, reported}
 use Rattle.acx.specs.declared.Bases.{Bases}

@@ -10,6 +10,10 @@ use lib.ListN.{length, drop}
 use Rattle.answer.specs.Checks.{need}
 use Rattle.answer.specs.declared.Fault.{Fault}
 use Rattle.answer.specs.declared.Fault.the-variants.{FieldNotLoaded, AdjustedTwice}
+use Rattle.events.proofs.Events.{reached-none, reached-more}
+use Rattle.events.specs.Events.{Event, markOne, marks, Ran, failed, passed, Reached, Did}
+use Rattle.events.specs.declared.Check.{Check}
+use Rattle.events.specs.declared.Check.the-variants.{Passed, Failed}
 use Rattle.records.proofs.Listing.{fields-more, fields-none}
 use Rattle.records.specs.Fields.{itemSize, fieldAt, fieldsOf}
 use Rattle.records.specs.declared.Field.{Field}
@@ -17,13 +21,9 @@ use Rattle.records.specs.declared.Fixup.{Fixup}
 use Rattle.records.specs.declared.Fixup.the-variants.{Low, Page, Word, High}
 use Rattle.words.specs.Runs.{part, contains}
 use Rattle.acx.proofs.Checks.{adjusting-all}
-use Rattle.acx.proofs.Events.{Reached, reached-none, reached-more}
-use Rattle.acx.specs.AtBases.{failed, passed, first, adjusting}
-use Rattle.acx.specs.Events.{Event, markOne, marks, Ran, Did}
+use Rattle.acx.specs.AtBases.{first, adjusting}
 use Rattle.acx.specs.Pieces.{width, adjustment, adjustments}
 use Rattle.acx.specs.declared.Bases.{Bases}
-use Rattle.acx.specs.declared.Check.{Check}
-use Rattle.acx.specs.declared.Check.the-variants.{Passed, Failed}
 
 -- what a part comes to after the events es
 abbrev behind : List Event → Ran Check → Ran Check

@@ -12,6 +12,10 @@ use Rattle.answer.specs.Report.{address}
 use Rattle.answer.specs.declared.Fault.{Fault}
 use Rattle.answer.specs.declared.Outcome.{Outcome}
 use Rattle.answer.specs.declared.Outcome.the-variants.{Accepted, Refused}
+use Rattle.events.proofs.Events.{reached-none, reached-more}
+use Rattle.events.specs.Events.{Event, marks, blank, placedIn, adjustedIn, Ran, Reached, Did}
+use Rattle.events.specs.declared.Check.{Check}
+use Rattle.events.specs.declared.Check.the-variants.{Passed, Failed}
 use Rattle.records.proofs.Record.{the-type}
 use Rattle.records.specs.Records.{read}
 use Rattle.records.specs.declared.Entry.{Entry}
@@ -19,17 +23,13 @@ use Rattle.records.specs.declared.Record.{Record}
 use Rattle.records.specs.declared.Record.the-variants.{End}
 use Rattle.acx.proofs.Checks.{failed-passed, need-passed}
 use Rattle.acx.proofs.Cursors.{Came, came-first, came-found, came-on, came-further, came-ends-by, onward-by-tag}
-use Rattle.acx.proofs.Events.{Reached, reached-none, reached-more}
 use Rattle.acx.proofs.Standing.{events-after}
 use Rattle.acx.proofs.Walking.{piecesAfter, Onward, onward, from-step, end-none}
 use Rattle.acx.specs.AtBases.{startOf, ending, applied}
 use Rattle.acx.specs.Cursor.{begun, EndsBy, advanced}
-use Rattle.acx.specs.Events.{Event, marks, blank, placedIn, adjustedIn, Ran, Did}
 use Rattle.acx.specs.Pieces.{Piece, events}
 use Rattle.acx.specs.Walk.{Verdict, accepted, lastSize, recordAt, checked, judge, from, reported}
 use Rattle.acx.specs.declared.Bases.{Bases}
-use Rattle.acx.specs.declared.Check.{Check}
-use Rattle.acx.specs.declared.Check.the-variants.{Passed, Failed}
 use Rattle.acx.specs.declared.Cursor.{Cursor}
 
 -- ---- a turn of the loop

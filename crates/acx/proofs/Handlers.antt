@@ -6,6 +6,9 @@ use Prim.Native.Nat.{ℕ, _+_, _≤_}
 use native.Mathlib.Omega.{arith}
 use lib.ListN.{length}
 use Rattle.answer.specs.declared.Start.{Start}
+use Rattle.events.proofs.Events.{length-marks}
+use Rattle.events.specs.Events.{marks, blank}
+use Rattle.events.specs.declared.Check.the-variants.{Passed}
 use Rattle.records.proofs.Reading.{Moving, lies-as, fixups-after}
 use Rattle.records.specs.Fields.{fieldsOf}
 use Rattle.records.specs.declared.Field.{Field}
@@ -15,7 +18,6 @@ use Rattle.records.specs.declared.Record.the-variants.{Code, Fixups, End, Fault
 use Rattle.words.proofs.Runs.{length-part}
 use Rattle.words.specs.Runs.{part}
 use Rattle.acx.proofs.Checks.{placing-passed}
-use Rattle.acx.proofs.Events.{length-marks}
 use Rattle.acx.proofs.Lists.{each-map, each-append, pairwise-append}
 use Rattle.acx.proofs.Loads.{Fits}
 use Rattle.acx.proofs.Marks.{length-blank, marks-fields, marks-some, code-apart, fields-fresh}
@@ -23,11 +25,9 @@ use Rattle.acx.proofs.Standing.{limit-le, code-passed, fixups-passed, S
 use Rattle.acx.proofs.Walking.{piecesAfter, Onward, accepted-keeps}
 use Rattle.acx.specs.AtBases.{adjusting}
 use Rattle.acx.specs.Demand2.{Each, FieldsApart, Handler, Inside}
-use Rattle.acx.specs.Events.{marks, blank}
 use Rattle.acx.specs.Pieces.{Piece, size, placeOf, limitOf, events}
 use Rattle.acx.specs.Walk.{accepted, lastOf, lastPlace, lastSize, recordAt, checked, withFields, openingSize, judged}
 use Rattle.acx.specs.declared.Bases.{Bases}
-use Rattle.acx.specs.declared.Check.the-variants.{Passed}
 use Rattle.acx.specs.declared.Form.{Form}
 
 -- pieces below their limits lie in memory

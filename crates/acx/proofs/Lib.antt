@@ -1,5 +1,5 @@
 -- Laws about the definitions of specs/. The loader keeps its contracts by:
-pub mod Events
+pub mod PieceEvents
 pub mod Checks
 pub mod Fields
 pub mod Applying

@@ -6,6 +6,9 @@ use Prim.Native.Nat.{ℕ, zero, suc, _-_}
 use lib.ListN.{length}
 use Rattle.answer.specs.declared.Fault.{Fault}
 use Rattle.answer.specs.declared.Start.{Start}
+use Rattle.events.specs.Events.{Event, Ran}
+use Rattle.events.specs.declared.Check.{Check}
+use Rattle.events.specs.declared.Check.the-variants.{Passed, Failed}
 use Rattle.records.proofs.Reading.{Moving, fixups-after}
 use Rattle.records.specs.Fields.{fieldsOf}
 use Rattle.records.specs.declared.Field.{Field}
@@ -17,12 +20,9 @@ use Rattle.records.specs.declared.Record.the-variants.{Code, Fixups, End, Fault
 use Rattle.words.specs.Runs.{part}
 use Rattle.acx.proofs.Walking.{piecesAfter, Onward, accepted-keeps}
 use Rattle.acx.specs.Demand2.{Each}
-use Rattle.acx.specs.Events.{Event, Ran}
 use Rattle.acx.specs.Pieces.{Piece}
 use Rattle.acx.specs.Walk.{Verdict, accepted, refused, lastOf, recordAt, checked, withFields, judge, walk, from, opening, openingSize, opened, judged}
 use Rattle.acx.specs.declared.Bases.{Bases}
-use Rattle.acx.specs.declared.Check.{Check}
-use Rattle.acx.specs.declared.Check.the-variants.{Passed, Failed}
 use Rattle.acx.specs.declared.Form.{Form}
 
 -- ---- no base changes the pieces

@@ -5,6 +5,9 @@ use mathlib.Core.Path.{_≡_, refl, sym, ap, _∙_}
 use Prim.Native.Nat.{ℕ, _+_, _≤_}
 use native.Mathlib.Omega.{arith}
 use lib.ListN.{length}
+use Rattle.events.proofs.Events.{placed-append, adjusted-append}
+use Rattle.events.specs.Events.{Event, place, marks, blank, placedIn, adjustedIn}
+use Rattle.events.specs.declared.Check.the-variants.{Passed}
 use Rattle.records.proofs.Listing.{fields-fit}
 use Rattle.records.proofs.Reading.{Moving, lies-as, fixups-after}
 use Rattle.records.specs.Fields.{fieldsOf}
@@ -17,14 +20,12 @@ use Rattle.records.specs.declared.Record.the-variants.{Code, Fixups, End, Fault
 use Rattle.words.proofs.Runs.{length-part}
 use Rattle.words.specs.Runs.{part}
 use Rattle.acx.proofs.Checks.{placing-passed, adjusting-all}
-use Rattle.acx.proofs.Events.{events-code, events-fields, placed-append, adjusted-append, placed-adjustments, adjusted-adjustments}
+use Rattle.acx.proofs.PieceEvents.{events-code, events-fields, placed-adjustments, adjusted-adjustments}
 use Rattle.acx.proofs.Walking.{nextOf, piecesAfter, Onward}
 use Rattle.acx.specs.AtBases.{placing, adjusting, applied}
-use Rattle.acx.specs.Events.{Event, place, marks, blank, placedIn, adjustedIn}
 use Rattle.acx.specs.Pieces.{Piece, placeAt, placeOf, limitOf, adjustments, events}
 use Rattle.acx.specs.Walk.{lastOf, lastPlace, lastSize, recordAt, checked, withFields}
 use Rattle.acx.specs.declared.Bases.{Bases}
-use Rattle.acx.specs.declared.Check.the-variants.{Passed}
 
 pub limit-le : (kind : Kind) → limitOf kind ≤ 65536
 limit-le Main = omega arith

@@ -13,6 +13,9 @@ use Rattle.answer.specs.Checks.{need}
 use Rattle.answer.specs.declared.Fault.{Fault}
 use Rattle.answer.specs.declared.Fault.the-variants.{CutShort}
 use Rattle.answer.specs.declared.Start.{Start}
+use Rattle.events.specs.Events.{Event, Ran}
+use Rattle.events.specs.declared.Check.{Check}
+use Rattle.events.specs.declared.Check.the-variants.{Passed, Failed}
 use Rattle.records.proofs.Reading.{Where, lies-as}
 use Rattle.records.specs.Fields.{fieldsOf}
 use Rattle.records.specs.declared.Entry.{Entry}
@@ -22,12 +25,9 @@ use Rattle.words.specs.Runs.{part}
 use Rattle.acx.proofs.Applying.{ending-none}
 use Rattle.acx.proofs.Checks.{failed-passed}
 use Rattle.acx.specs.AtBases.{applied}
-use Rattle.acx.specs.Events.{Event, Ran}
 use Rattle.acx.specs.Pieces.{Piece, events}
 use Rattle.acx.specs.Walk.{Verdict, accepted, refused, lastOf, recordAt, checked, withFields, judge, walk, from, opening, openingSize, opened, judged}
 use Rattle.acx.specs.declared.Bases.{Bases}
-use Rattle.acx.specs.declared.Check.{Check}
-use Rattle.acx.specs.declared.Check.the-variants.{Passed, Failed}
 use Rattle.acx.specs.declared.Form.{Form}
 use Rattle.acx.specs.declared.Form.the-variants.{Disk, Device}
 

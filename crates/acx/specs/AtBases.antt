@@ -7,10 +7,11 @@ use lib.Dec.{leb}
 use lib.ListN.{length}
 use Rattle.answer.specs.Checks.{need}
 use Rattle.answer.specs.Report.{address}
-use Rattle.answer.specs.declared.Fault.{Fault}
 use Rattle.answer.specs.declared.Fault.the-variants.{DoesNotFit, PiecesOverlap, FieldNotLoaded, AdjustedTwice, StartTooHigh, BytesAfterEnd}
 use Rattle.answer.specs.declared.Start.{Start}
 use Rattle.answer.specs.declared.Start.the-variants.{Absent, At}
+use Rattle.events.specs.Events.{Event, place, adjustedMark, markOne, Ran, failed, passed}
+use Rattle.events.specs.declared.Check.{Check}
 use Rattle.records.specs.Fields.{fieldsOf}
 use Rattle.records.specs.declared.Entry.{Entry}
 use Rattle.records.specs.declared.Entry.the-variants.{Nowhere, Fixed, Relative}
@@ -18,18 +19,8 @@ use Rattle.records.specs.declared.Field.{Field}
 use Rattle.records.specs.declared.Record.{Record}
 use Rattle.records.specs.declared.Record.the-variants.{Code, Fixups, End, Faulty}
 use Rattle.words.specs.Runs.{part, allZero, contains}
-use Rattle.acx.specs.Events.{Event, place, adjustedMark, markOne, Ran}
 use Rattle.acx.specs.Pieces.{placeAt, limitOf, width, adjustment}
 use Rattle.acx.specs.declared.Bases.{Bases}
-use Rattle.acx.specs.declared.Check.{Check}
-use Rattle.acx.specs.declared.Check.the-variants.{Passed, Failed}
-
--- what a part that did nothing more comes to at a fault, and where it passed
-abbrev pub failed : Fault → Ran Check
-failed fault = record { answer = Failed fault; events = [] }
-
-abbrev pub passed : List Event → Ran Check
-passed es = record { answer = Passed; events = es }
 
 -- code at a place: "Place + n ≤ 65,536, for 0A ≤ 256 (10); no address already placed (17)"
 unfoldable pub placing : ℕ → ℕ → List ℕ → List ℕ → Ran Check

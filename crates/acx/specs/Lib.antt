@@ -1,5 +1,5 @@
--- What the contracts of `acx` cite, in the order in which to read it; then what that comes to, in the user's words.
-pub mod Events
+-- What the contracts of `acx` cite beside the events of `events`, in the order in which to read it; then what that comes to, in the user's
+-- words.
 pub mod Pieces
 pub mod AtBases
 pub mod Walk

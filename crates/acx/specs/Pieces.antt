@@ -3,6 +3,7 @@
 use mathlib.Core.List.{List, [], _∷_, _++_}
 use Prim.Native.Nat.{ℕ, _+_, _/_}
 use lib.ListN.{length}
+use Rattle.events.specs.Events.{Event, place, adjust}
 use Rattle.records.specs.Fields.{widthOf}
 use Rattle.records.specs.declared.Field.{Field}
 use Rattle.records.specs.declared.Fixup.{Fixup}
@@ -10,7 +11,6 @@ use Rattle.records.specs.declared.Fixup.the-variants.{Low, Page, Word, High}
 use Rattle.records.specs.declared.Kind.{Kind}
 use Rattle.records.specs.declared.Kind.the-variants.{Main, ZeroPage, Absolute}
 use Rattle.words.specs.Numbers.{change}
-use Rattle.acx.specs.Events.{Event, place, adjust}
 use Rattle.acx.specs.declared.Bases.{Bases}
 
 -- a code record with the fields that the fixup records after it list, in file order

@@ -12,6 +12,9 @@ use Rattle.answer.specs.declared.Fault.the-variants.{WrongOpening, CutShort}
 use Rattle.answer.specs.declared.Outcome.{Outcome}
 use Rattle.answer.specs.declared.Outcome.the-variants.{Accepted, Refused}
 use Rattle.answer.specs.declared.Start.{Start}
+use Rattle.events.specs.Events.{Event, marks, blank, placedIn, adjustedIn, Ran}
+use Rattle.events.specs.declared.Check.{Check}
+use Rattle.events.specs.declared.Check.the-variants.{Passed, Failed}
 use Rattle.records.specs.Fields.{fieldsOf}
 use Rattle.records.specs.Records.{read}
 use Rattle.records.specs.declared.Field.{Field}
@@ -22,11 +25,8 @@ use Rattle.records.specs.declared.Record.the-variants.{Code, Fixups, End, Fault
 use Rattle.words.specs.Numbers.{value}
 use Rattle.words.specs.Runs.{part}
 use Rattle.acx.specs.AtBases.{startOf, applied}
-use Rattle.acx.specs.Events.{Event, marks, blank, placedIn, adjustedIn, Ran}
 use Rattle.acx.specs.Pieces.{Piece, size, placeOf, events}
 use Rattle.acx.specs.declared.Bases.{Bases}
-use Rattle.acx.specs.declared.Check.{Check}
-use Rattle.acx.specs.declared.Check.the-variants.{Passed, Failed}
 use Rattle.acx.specs.declared.Form.{Form}
 use Rattle.acx.specs.declared.Form.the-variants.{Disk, Device}
 

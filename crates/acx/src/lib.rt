@@ -4,6 +4,7 @@
 use answer::Fault;
 use answer::Outcome;
 use answer::Start;
+use events::Check;
 use records::Entry;
 use records::Field;
 use records::Fixup;
@@ -17,9 +18,9 @@ ghost use lib.ListN.{length};
 ghost use Rattle.words.specs.Numbers.{on, change};
 ghost use Rattle.answer.specs.Report.{address as addressOf};
 ghost use Rattle.answer.specs.declared.Outcome.the-variants.{Accepted};
+ghost use Rattle.events.specs.Events.{blank, playIf, Did};
 ghost use Rattle.records.specs.Records.{read as readOf};
 ghost use Rattle.records.specs.Fields.{fieldsOf, widthOf};
-ghost use Rattle.acx.specs.Events.{place, blank, playIf, Did};
 ghost use Rattle.acx.specs.Pieces.{placeAt, limitOf, amountOf, adjustment};
 ghost use Rattle.acx.specs.AtBases.{placing, adjusting, ending, startOf, applied};
 ghost use Rattle.acx.specs.Walk.{from, opening as openingOf, openingSize, judged, reported};
@@ -35,9 +36,7 @@ const ZERO_PAGE: usize = 256;
 // The most bytes that a file has.
 const FILE: usize = 65536;
 
-// The marks of the map.
-const PLACED: u8 = 1;
-
+// The mark of a byte that was adjusted.
 const ADJUSTED: u8 = 3;
 
 // The bases of the short call.
@@ -55,12 +54,6 @@ pub enum Form {
 pub struct Bases {
     pub main: u16,
     pub zero: u16,
-}
-
-// What became of a record, of its code or of one of its fields.
-pub enum Check {
-    Passed,
-    Failed(Fault),
 }
 
 // Where a walk stands: the next record's offset; the last code record, its place and its size; what was placed and adjusted so far.
@@ -433,20 +426,8 @@ fn place_code(
     if !free {
         return Check::Failed(Fault::PiecesOverlap);
     }
-    words::fill(&mut map[place..end], PLACED);
-    write_code(code, place, write, memory);
+    events::place(code, place, write, memory, map);
     Check::Passed
-}
-
-// The code in memory, where `write` is true.
-fn write_code(code: &[u8], at: usize, write: bool, memory: &mut [u8])
-    requires { ⌜ at + length (now code) ≤ length (now memory) ⌝ }
-    ensures { λ _. ⌜ now (memory .exit) ≡ playIf write (place at (now (code .entry)) ∷ []) (now (memory .entry)) ⌝ }
-{
-    if write {
-        let end = at + code.len();
-        words::copy(&mut memory[at..end], code);
-    }
 }
 
 // The fields of the last code record that a fixup record lists, one by one.

@@ -47,9 +47,9 @@ adjusted-append (adjust width a amount ∷ es) fs = omega (arith, adjusted-appen
 -- ---- lengths
 
 length-playOne : (e : Event) (m : List ℕ) → length (playOne e m) ≡ length m
-length-playOne (place a bytes) m = length-put m a bytes
+length-playOne (place a bytes) m = length-put m _ _
 length-playOne (reserve a n) m = refl
-length-playOne (adjust width a amount) m = length-change width (on width amount) m a
+length-playOne (adjust width a amount) m = length-change _ _ m _
 
 pub length-play : (es : List Event) (m : List ℕ) → length (play es m) ≡ length m
 unfolding play
@@ -57,9 +57,9 @@ length-play [] m = refl
 length-play (e ∷ es) m = length-play es (playOne e m) ∙ length-playOne e m
 
 length-markOne : (e : Event) (p : List ℕ) → length (markOne e p) ≡ length p
-length-markOne (place a bytes) p = length-put p a (replicate (length bytes) 1)
-length-markOne (reserve a n) p = length-put p a (replicate n 2)
-length-markOne (adjust width a amount) p = length-put p a (replicate width 3)
+length-markOne (place a bytes) p = length-put p _ _
+length-markOne (reserve a n) p = length-put p _ _
+length-markOne (adjust width a amount) p = length-put p _ _
 
 pub length-marks : (es : List Event) (p : List ℕ) → length (marks es p) ≡ length p
 unfolding marks

@@ -6,7 +6,6 @@ use mathlib.Core.Path.{_≡_, refl}
 use Prim.Native.Nat.{ℕ}
 use Rattle.acx.specs.AtBases.{placing, adjusting, ending, applied}
 use Rattle.acx.specs.Call.{load}
-use Rattle.acx.specs.Events.{play, marks, blank, placedIn, adjustedIn}
 use Rattle.acx.specs.Pieces.{amountOf, edited, adjustments, events}
 use Rattle.acx.specs.Walk.{checked, walk, from, opening, judged}
 use Rattle.acx.specs.declared.Bases.{Bases}
@@ -14,6 +13,7 @@ use Rattle.answer.specs.Checks.{need}
 use Rattle.answer.specs.declared.Outcome.{Outcome}
 use Rattle.answer.specs.declared.Outcome.the-variants.{Accepted}
 use Rattle.answer.specs.declared.Start.the-variants.{Absent, At}
+use Rattle.events.specs.Events.{play, marks, blank, placedIn, adjustedIn}
 use Rattle.records.specs.Fields.{fieldsOf}
 use Rattle.records.specs.Records.{readCode, readItems, readFixups, readEnd, read}
 use Rattle.words.specs.Numbers.{number, digits, value, store, on, off, change}

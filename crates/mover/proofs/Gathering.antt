@@ -10,21 +10,21 @@ use borrow.Rule.Slice.PartMut.{midOf, putMid}
 use lib.ListN.{length}
 use Rattle.acx.proofs.Cursors.{Came, advanced-at, came-first, came-found, came-on, came-passes, came-to-end, came-onward}
 use Rattle.acx.proofs.Edits.{length-edited, edited-append}
-use Rattle.acx.proofs.Events.{length-marks}
 use Rattle.acx.proofs.Marks.{length-blank, fields-fresh}
 use Rattle.acx.proofs.Standing.{fixups-passed}
 use Rattle.acx.proofs.Walking.{piecesAfter, Onward, judged-accepted}
 use Rattle.acx.specs.Demand2.{Each, Inside}
 use Rattle.acx.specs.Call.{formOf}
 use Rattle.acx.specs.Cursor.{begun, advanced}
-use Rattle.acx.specs.Events.{marks, blank}
 use Rattle.acx.specs.Pieces.{Piece, size, placeAt, placeOf, edited, events}
 use Rattle.acx.specs.Walk.{accepted, lastOf, lastPlace, lastSize, recordAt, checked, withFields, from, openingSize}
 use Rattle.acx.specs.declared.Bases.{Bases}
-use Rattle.acx.specs.declared.Check.the-variants.{Passed}
 use Rattle.acx.specs.declared.Cursor.{Cursor}
 use Rattle.answer.specs.declared.Fault.{Fault}
 use Rattle.answer.specs.declared.Start.{Start}
+use Rattle.events.proofs.Events.{length-marks}
+use Rattle.events.specs.Events.{marks, blank}
+use Rattle.events.specs.declared.Check.the-variants.{Passed}
 use Rattle.records.proofs.Reading.{Moving, lies-as, fixups-after}
 use Rattle.records.proofs.Record.{the-type}
 use Rattle.records.specs.Fields.{fieldsOf}

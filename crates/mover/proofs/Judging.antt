@@ -9,7 +9,6 @@ use borrow.Author.Tests.{eq-eqb, ne-eqb}
 use lib.ListN.{length}
 use Rattle.acx.proofs.Calling.{isRefused, Few, load-few}
 use Rattle.acx.specs.Call.{settings, placedOf, adjustedOf}
-use Rattle.acx.specs.Events.{blank, Ran, Did}
 use Rattle.acx.specs.Pieces.{Piece}
 use Rattle.acx.specs.Walk.{Verdict, accepted, refused, report, reported}
 use Rattle.acx.specs.declared.Bases.{Bases}
@@ -19,6 +18,7 @@ use Rattle.answer.specs.declared.Fault.the-variants.{WrongBuffer}
 use Rattle.answer.specs.declared.Outcome.{Outcome}
 use Rattle.answer.specs.declared.Outcome.the-variants.{Accepted, Refused}
 use Rattle.answer.specs.declared.Start.{Start}
+use Rattle.events.specs.Events.{blank, Ran, Did}
 use Rattle.mover.proofs.Rulings.{reported-accepted, both, accepted-allows, refused-leaves}
 use Rattle.mover.specs.Call.{Call, loadAt, Ruling, allows, refuses, side, sides, rulingOf, sized, ruling, Allows, piecesOf, outcomeBy, memoryBy, outcomeOf, memoryAfter, mapAfter, scratchAfter, Judged, Done, Moved}
 use Rattle.mover.specs.Move.{moved}

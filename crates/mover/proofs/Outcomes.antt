@@ -8,7 +8,6 @@ use borrow.Author.Tests.{eq-eqb}
 use lib.ListN.{length, getD}
 use Rattle.acx.proofs.Calling.{isRefused, faultIn}
 use Rattle.acx.specs.Call.{settings, Settings, load, call, sized as loadSized, ifSized, mapAfter as loadMap, Loaded}
-use Rattle.acx.specs.Events.{blank, Ran}
 use Rattle.acx.specs.Pieces.{Piece}
 use Rattle.acx.specs.Walk.{Verdict, accepted, atOnce, reported}
 use Rattle.acx.specs.declared.Bases.{Bases}
@@ -18,6 +17,7 @@ use Rattle.answer.specs.declared.Fault.the-variants.{WrongBuffer}
 use Rattle.answer.specs.declared.Outcome.{Outcome}
 use Rattle.answer.specs.declared.Outcome.the-variants.{Accepted, Refused}
 use Rattle.answer.specs.declared.Start.{Start}
+use Rattle.events.specs.Events.{blank, Ran}
 use Rattle.words.specs.Runs.{Bytes}
 use Rattle.mover.proofs.Demand3.{demand3}
 use Rattle.mover.proofs.Rulings.{reported-accepted, allows-is, accepted-allows, refused-leaves, told, ruling-allows, memory-moved, report-told}

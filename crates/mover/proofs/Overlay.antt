@@ -7,15 +7,15 @@ use native.Mathlib.Decide.{decLt}
 use native.Mathlib.Omega.{arith}
 use lib.ListN.{length, getD, set, List·getD-eq-default}
 use lib.Seq.{ext-getD, getD-set-same, getD-set-other}
-use Rattle.acx.proofs.Events.{length-marks}
 use Rattle.acx.proofs.Handlers.{fits-memory}
 use Rattle.acx.proofs.Lists.{each-zip3}
 use Rattle.acx.proofs.Loads.{Fits}
 use Rattle.acx.proofs.Marks.{length-blank, blank-at, marks-outside, marks-some}
 use Rattle.acx.specs.Demand2.{Each, Placed, Handler}
-use Rattle.acx.specs.Events.{Event, marks, blank}
 use Rattle.acx.specs.Pieces.{Piece, size, placeOf, events}
 use Rattle.acx.specs.declared.Bases.{Bases}
+use Rattle.events.proofs.Events.{length-marks}
+use Rattle.events.specs.Events.{Event, marks, blank}
 use Rattle.words.proofs.Runs.{within?, part-agree-at}
 use Rattle.mover.proofs.Rulings.{handler-at, events-at, allows-is, both}
 use Rattle.mover.proofs.Transfers.{length-transfer, transfer-outside, transfer-parts}

@@ -15,7 +15,6 @@ use Rattle.acx.proofs.Loads.{laid, play-laid}
 use Rattle.acx.proofs.Same.{Bare, bare, same-pieces}
 use Rattle.acx.specs.Call.{formOf, settings, memoryAfter as playedBy}
 use Rattle.acx.specs.Demand2.{Each, Handler}
-use Rattle.acx.specs.Events.{Event, play, marks, blank, Ran}
 use Rattle.acx.specs.Pieces.{Piece, events}
 use Rattle.acx.specs.Walk.{Verdict, accepted, refused, judged, report as outcomeReported, reported}
 use Rattle.acx.specs.declared.Bases.{Bases}
@@ -23,6 +22,7 @@ use Rattle.answer.specs.Checks.{need}
 use Rattle.answer.specs.declared.Fault.the-variants.{WrongBuffer}
 use Rattle.answer.specs.declared.Outcome.the-variants.{Accepted}
 use Rattle.answer.specs.declared.Start.{Start}
+use Rattle.events.specs.Events.{Event, play, marks, blank, Ran}
 use Rattle.words.proofs.Runs.{bytes-part}
 use Rattle.words.specs.Runs.{Bytes}
 use Rattle.mover.specs.Call.{Call, loadAt, Ruling, allows, refuses, sides, rulingOf, sized, beforehand, ruling, Allows, piecesOf, outcomeBy, mapBy, memoryBy, outcomeOf, memoryAfter, mapAfter}

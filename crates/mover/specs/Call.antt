@@ -7,7 +7,6 @@ use Prim.Native.Nat.{ℕ, _≤_}
 use lib.Dec.{eqb}
 use lib.ListN.{length}
 use Rattle.acx.specs.Call.{settings, load, ifSized, placedOf, adjustedOf}
-use Rattle.acx.specs.Events.{marks, blank, Ran}
 use Rattle.acx.specs.Pieces.{Piece}
 use Rattle.acx.specs.Walk.{Verdict, accepted, refused, reported}
 use Rattle.acx.specs.declared.Bases.{Bases}
@@ -16,6 +15,7 @@ use Rattle.answer.specs.declared.Fault.{Fault}
 use Rattle.answer.specs.declared.Fault.the-variants.{WrongBuffer}
 use Rattle.answer.specs.declared.Outcome.{Outcome}
 use Rattle.answer.specs.declared.Outcome.the-variants.{Refused}
+use Rattle.events.specs.Events.{marks, blank, Ran}
 use Rattle.mover.specs.Move.{moved}
 use Rattle.mover.specs.declared.Site.{Site}
 

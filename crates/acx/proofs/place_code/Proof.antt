@@ -1,8 +1,6 @@
--- `acx::place_code` meets its contract: the room and the map decide as the definition says, and the part of the map that is lent comes back
--- marked.
+-- `acx::place_code` meets its contract: the room and the map decide as the definition says, and `events::place` carries it out.
 -- Assumes nothing.
 use mathlib.Core.Path.{sym, _∙_}
-use native.Mathlib.Omega.{arith}
 use borrow.Author.Needs.{needs}
 use borrow.Author.Tests.{not-true, not-false}
 use Rattle.acx.proofs.Checks.{placing-high, placing-taken, placing-done}
@@ -34,20 +32,8 @@ returns-2 : tie.Need-returns-2
 returns-2 c = placing-taken _ _ _ _ _ _ (c .before .before .before .before .if1 .left)
     (sym (c .before .is-zero .ensures) ∙ not-true _ (c .if2 .taken))
 
-sub-fill : tie.Need-sub-fill
-sub-fill c = search needs
-
-part-fill-start : tie.Need-part-fill-start
-part-fill-start c = search needs
-
-part-fill-end : tie.Need-part-fill-end
-part-fill-end c = search needs
-
-fill-requires : tie.Need-fill-requires
-fill-requires c κs = search needs
-
-write-code-requires : tie.Need-write-code-requires
-write-code-requires c κs = search needs
+place-requires : tie.Need-place-requires
+place-requires c κs = search needs
 
 same-length-2 : tie.Need-same-length-2
 same-length-2 c = search needs
@@ -57,12 +43,10 @@ same-length-3 c = search needs
 
 returns-3 : tie.Need-returns-3
 returns-3 c =
-    let f = c .before .before .before .before .before .before in
-    let z = f .before .before in
+    let w = c .before .before .before .before in
+    let z = w .before .before .before in
     let i = z .before .before .before .before in
-    let s = i .before .before .before .before in
-    placing-done _ _ _ _ _ _ _ _ (i .if1 .left) (omega (arith, s .pre, i .if1 .left))
-    (sym (z .before .is-zero .ensures) ∙ not-false _ (z .if2 .left)) (f .fill .ensures) (c .before .before .write-code .ensures)
+    placing-done _ _ _ _ _ _ _ _ (i .if1 .left) (sym (z .before .is-zero .ensures) ∙ not-false _ (z .if2 .left)) (w .place .ensures)
 
 pub place-code-spec : {M : Type 1} → statement M
 place-code-spec =
@@ -76,11 +60,7 @@ place-code-spec =
     is-zero-requires
     same-length
     returns-2
-    sub-fill
-    part-fill-start
-    part-fill-end
-    fill-requires
-    write-code-requires
+    place-requires
     same-length-2
     same-length-3
     returns-3)
