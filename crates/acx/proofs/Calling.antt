@@ -9,6 +9,7 @@ use borrow.Author.Tests.{le-leb, lt-leb, leb-true, eq-eqb, ne-eqb}
 use lib.Dec.{leb}
 use lib.ListN.{length, replicate}
 use Rattle.answer.specs.Checks.{need}
+use Rattle.answer.specs.Report.{placedOf, adjustedOf}
 use Rattle.answer.specs.declared.Fault.{Fault}
 use Rattle.answer.specs.declared.Fault.the-variants.{WrongBuffer, SettingOutOfRange, FileTooLong}
 use Rattle.answer.specs.declared.Outcome.{Outcome}
@@ -20,7 +21,7 @@ use Rattle.events.specs.declared.Check.{Check}
 use Rattle.events.specs.declared.Check.the-variants.{Passed, Failed}
 use Rattle.acx.proofs.Standing.{Stands, stands-first, stands-on}
 use Rattle.acx.proofs.Walking.{refused-accepted, accepted-keeps}
-use Rattle.acx.specs.Call.{formOf, Settings, inRange, basesOf, sized, load, call, Carried, placedOf, adjustedOf, Loaded}
+use Rattle.acx.specs.Call.{formOf, Settings, inRange, basesOf, sized, load, call, Carried, Loaded}
 use Rattle.acx.specs.Pieces.{Piece}
 use Rattle.acx.specs.Walk.{Verdict, accepted, refused, atOnce, from, opening, openingSize, judged, report, reported}
 use Rattle.acx.specs.declared.Bases.{Bases}

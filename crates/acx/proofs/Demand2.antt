@@ -9,6 +9,7 @@ use borrow.Author.Tests.{le-leb, leb-true, eq-eqb, eqb-true}
 use lib.Dec.{eqb}
 use lib.ListN.{length, getD}
 use Rattle.answer.specs.Checks.{need}
+use Rattle.answer.specs.Report.{placedOf, adjustedOf}
 use Rattle.answer.specs.declared.Fault.{Fault}
 use Rattle.answer.specs.declared.Outcome.{Outcome}
 use Rattle.answer.specs.declared.Outcome.the-variants.{Accepted, Refused}
@@ -22,7 +23,7 @@ use Rattle.acx.proofs.Loads.{laid, play-laid, laid-outside, laid-plain,
 use Rattle.acx.proofs.Marks.{length-blank, blank-at, marks-outside, marks-plain, marks-fields}
 use Rattle.acx.proofs.PieceEvents.{placed-adjustments, adjusted-adjustments}
 use Rattle.acx.proofs.Standing.{Stands}
-use Rattle.acx.specs.Call.{formOf, Settings, basesOf, load, call, memoryAfter, mapAfter, placedOf, adjustedOf, Loaded}
+use Rattle.acx.specs.Call.{formOf, Settings, basesOf, load, call, memoryAfter, mapAfter, Loaded}
 use Rattle.acx.specs.Demand2.{total, Handler, Demand2, Asked, AcceptedCall}
 use Rattle.acx.specs.Pieces.{Piece, size, placeOf, adjustments, events}
 use Rattle.acx.specs.Walk.{Verdict, accepted, refused, atOnce, judged, report, reported}

@@ -7,6 +7,7 @@ use Prim.Native.Nat.{ℕ, zero, suc, _≤_}
 use lib.Dec.{leb, eqb}
 use lib.ListN.{length}
 use Rattle.answer.specs.Checks.{need}
+use Rattle.answer.specs.Report.{placedOf, adjustedOf}
 use Rattle.answer.specs.declared.Fault.the-variants.{WrongBuffer, SettingOutOfRange, FileTooLong}
 use Rattle.answer.specs.declared.Outcome.{Outcome}
 use Rattle.answer.specs.declared.Outcome.the-variants.{Accepted, Refused}
@@ -76,14 +77,6 @@ pub record Carried (o : Ran Verdict) (m : List ℕ) (r : Outcome) (m′ p′ : L
 abbrev pub ifSized : Bool → List ℕ → List ℕ → List ℕ
 ifSized true new old = new
 ifSized false new old = old
-
-abbrev pub placedOf : Outcome → ℕ
-placedOf (Accepted start placed adjusted names low) = placed
-placedOf (Refused fault offset side) = 0
-
-abbrev pub adjustedOf : Outcome → ℕ
-adjustedOf (Accepted start placed adjusted names low) = adjusted
-adjustedOf (Refused fault offset side) = 0
 
 -- What a call promises: it found memory m and the map p, and answers r and leaves m′ and p′.
 pub record Loaded (s : Settings) (file m p : List ℕ) (r : Outcome) (m′ p′ : List ℕ) : Type 0 where

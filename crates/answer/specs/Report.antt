@@ -50,6 +50,15 @@ numbersOf (Accepted start placed adjusted names low) =
     0 ∷ 0 ∷ 0 ∷ present start ∷ address start ∷ placed ∷ adjusted ∷ names ∷ low ∷ []
 numbersOf (Refused fault offset side) = numberOf fault ∷ offset ∷ side ∷ 0 ∷ 0 ∷ 0 ∷ 0 ∷ 0 ∷ 0 ∷ []
 
+-- the counts of an outcome, "an absent number is zero"
+abbrev pub placedOf : Outcome → ℕ
+placedOf (Accepted start placed adjusted names low) = placed
+placedOf (Refused fault offset side) = 0
+
+abbrev pub adjustedOf : Outcome → ℕ
+adjustedOf (Accepted start placed adjusted names low) = adjusted
+adjustedOf (Refused fault offset side) = 0
+
 -- "the number is also returned"
 abbrev pub reported : Outcome → ℕ
 reported outcome = getD (numbersOf outcome) 0 0

@@ -1,0 +1,2 @@
+-- What the contracts of `names` cite.
+pub mod Names
