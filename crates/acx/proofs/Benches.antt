@@ -13,15 +13,16 @@ use Rattle.answer.specs.declared.Outcome.{Outcome}
 use Rattle.answer.specs.declared.Outcome.the-variants.{Refused}
 use Rattle.answer.specs.declared.Start.{Start}
 use Rattle.events.specs.Events.{Event, play, blank, Ran}
+use Rattle.events.specs.Lists.{Each}
 use Rattle.words.specs.Runs.{part}
 use Rattle.acx.proofs.Calling.{isRefused, faultIn}
 use Rattle.acx.proofs.Demand2.{asked-judged}
 use Rattle.acx.proofs.Handlers.{fits-memory, handled}
-use Rattle.acx.proofs.Lists.{each-zip}
+use Rattle.events.proofs.Lists.{each-zip}
 use Rattle.acx.proofs.Loads.{loaded, laid, play-laid, laid-parts}
 use Rattle.acx.specs.Benches.{RefusedCall, SameProgram}
 use Rattle.acx.specs.Call.{formOf, Settings, basesOf, load, call, memoryAfter, mapAfter, ifSized, Loaded}
-use Rattle.acx.specs.Demand2.{Each, Asked}
+use Rattle.acx.specs.Demand2.{Asked}
 use Rattle.acx.specs.Pieces.{Piece, size, placeOf, events}
 use Rattle.acx.specs.Walk.{Verdict, accepted, refused, atOnce, judged, report, reported}
 

@@ -4,12 +4,13 @@ use mathlib.Core.List.{List, [], _∷_, _++_}
 use mathlib.Core.Path.{_≡_, refl, ap, _∙_}
 use Prim.Native.Nat.{ℕ, _^_, _<_}
 use lib.ListN.{length, getD}
+use Rattle.events.specs.Lists.{Each, Pairwise}
 use Rattle.records.specs.declared.Field.{Field}
 use Rattle.words.proofs.Changes.{value-lt, length-change, bytes-change, change-outside, value-change, value-change-apart, change-change, change-same, change-none, change-comm}
 use Rattle.words.specs.Numbers.{value, change}
 use Rattle.words.specs.Runs.{Bytes}
-use Rattle.acx.proofs.Lists.{each-zip3}
-use Rattle.acx.specs.Demand2.{Each, Pairwise, In, FieldsApart, Inside}
+use Rattle.events.proofs.Lists.{each-zip3}
+use Rattle.acx.specs.Demand2.{In, FieldsApart, Inside}
 use Rattle.acx.specs.Pieces.{width, edited}
 
 -- what g makes of a number fits in the field

@@ -8,6 +8,7 @@ use lib.ListN.{length}
 use Rattle.answer.specs.declared.Start.{Start}
 use Rattle.events.proofs.Events.{length-marks}
 use Rattle.events.specs.Events.{marks, blank}
+use Rattle.events.specs.Lists.{Each}
 use Rattle.events.specs.declared.Check.the-variants.{Passed}
 use Rattle.records.proofs.Reading.{Moving, lies-as, fixups-after}
 use Rattle.records.specs.Fields.{fieldsOf}
@@ -18,13 +19,13 @@ use Rattle.records.specs.declared.Record.the-variants.{Code, Fixups, End, Fault
 use Rattle.words.proofs.Runs.{length-part}
 use Rattle.words.specs.Runs.{part}
 use Rattle.acx.proofs.Checks.{placing-passed}
-use Rattle.acx.proofs.Lists.{each-map, each-append, pairwise-append}
+use Rattle.events.proofs.Lists.{each-map, each-append, pairwise-append}
 use Rattle.acx.proofs.Loads.{Fits}
 use Rattle.acx.proofs.Marks.{length-blank, marks-fields, marks-some, code-apart, fields-fresh}
 use Rattle.acx.proofs.Standing.{limit-le, code-passed, fixups-passed, Stands, stands-first, stands-on}
 use Rattle.acx.proofs.Walking.{piecesAfter, Onward, accepted-keeps}
 use Rattle.acx.specs.AtBases.{adjusting}
-use Rattle.acx.specs.Demand2.{Each, FieldsApart, Handler, Inside}
+use Rattle.acx.specs.Demand2.{FieldsApart, Handler, Inside}
 use Rattle.acx.specs.Pieces.{Piece, size, placeOf, limitOf, events}
 use Rattle.acx.specs.Walk.{accepted, lastOf, lastPlace, lastSize, recordAt, checked, withFields, openingSize, judged}
 use Rattle.acx.specs.declared.Bases.{Bases}

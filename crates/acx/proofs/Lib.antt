@@ -9,7 +9,6 @@ pub mod Cursors
 pub mod Going
 pub mod Calling
 -- Demand 2, and what else holds of every accepted file:
-pub mod Lists
 pub mod Edits
 pub mod Loads
 pub mod Marks

@@ -6,6 +6,7 @@ use Prim.Native.Nat.{ℕ, _+_, _≤_, _<_}
 use lib.ListN.{length, getD}
 use Rattle.events.proofs.Events.{play-append}
 use Rattle.events.specs.Events.{place, play}
+use Rattle.events.specs.Lists.{Each, Pairwise}
 use Rattle.records.specs.declared.Field.{Field}
 use Rattle.words.proofs.Changes.{length-change, change-in-put, value-part}
 use Rattle.words.proofs.Numbers.{on-lt}
@@ -13,8 +14,8 @@ use Rattle.words.proofs.Runs.{length-put, put-outside, part-at, part-put, part-
 use Rattle.words.specs.Numbers.{value, on, change}
 use Rattle.words.specs.Runs.{Bytes, part, put}
 use Rattle.acx.proofs.Edits.{Fitting, length-edited, bytes-edited, edited-plain, edited-each}
-use Rattle.acx.proofs.Lists.{each-all, each-map, each-zip, each-zip3}
-use Rattle.acx.specs.Demand2.{Each, Pairwise, Placed, In, PiecesApart, FieldsApart, Inside}
+use Rattle.events.proofs.Lists.{each-all, each-map, each-zip, each-zip3}
+use Rattle.acx.specs.Demand2.{Placed, In, PiecesApart, FieldsApart, Inside}
 use Rattle.acx.specs.Pieces.{Piece, size, placeOf, width, amountOf, edited, adjustments, events}
 use Rattle.acx.specs.declared.Bases.{Bases}
 

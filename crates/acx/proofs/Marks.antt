@@ -9,15 +9,16 @@ use native.Mathlib.Omega.{arith}
 use lib.ListN.{length, getD, replicate, length-replicate, getD-replicate}
 use Rattle.events.proofs.Events.{marks-append}
 use Rattle.events.specs.Events.{place, marks, blank}
+use Rattle.events.specs.Lists.{Each, Pairwise}
 use Rattle.events.specs.declared.Check.the-variants.{Passed}
 use Rattle.records.specs.declared.Field.{Field}
 use Rattle.words.proofs.Runs.{within?, length-put, put-outside, put-inside, put-in-put, length-part, part-at, zero-at, contains-not}
 use Rattle.words.specs.Runs.{Within, part, put, allZero, contains}
 use Rattle.acx.proofs.Checks.{adjusting-passed}
-use Rattle.acx.proofs.Lists.{each-all, each-map, each-zip}
+use Rattle.events.proofs.Lists.{each-all, each-map, each-zip}
 use Rattle.acx.proofs.Loads.{Fits, lay, lay-outside, lay-parts}
 use Rattle.acx.specs.AtBases.{adjusting}
-use Rattle.acx.specs.Demand2.{Each, Pairwise, Placed, In, PiecesApart, FieldsApart, Inside}
+use Rattle.acx.specs.Demand2.{Placed, In, PiecesApart, FieldsApart, Inside}
 use Rattle.acx.specs.Pieces.{Piece, size, placeOf, width, adjustments, events}
 use Rattle.acx.specs.declared.Bases.{Bases}
 

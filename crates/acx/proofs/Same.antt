@@ -7,6 +7,7 @@ use lib.ListN.{length}
 use Rattle.answer.specs.declared.Fault.{Fault}
 use Rattle.answer.specs.declared.Start.{Start}
 use Rattle.events.specs.Events.{Event, Ran}
+use Rattle.events.specs.Lists.{Each}
 use Rattle.events.specs.declared.Check.{Check}
 use Rattle.events.specs.declared.Check.the-variants.{Passed, Failed}
 use Rattle.records.proofs.Reading.{Moving, fixups-after}
@@ -19,7 +20,6 @@ use Rattle.records.specs.declared.Record.{Record}
 use Rattle.records.specs.declared.Record.the-variants.{Code, Fixups, End, Faulty}
 use Rattle.words.specs.Runs.{part}
 use Rattle.acx.proofs.Walking.{piecesAfter, Onward, accepted-keeps}
-use Rattle.acx.specs.Demand2.{Each}
 use Rattle.acx.specs.Pieces.{Piece}
 use Rattle.acx.specs.Walk.{Verdict, accepted, refused, lastOf, recordAt, checked, withFields, judge, walk, from, opening, openingSize, opened, judged}
 use Rattle.acx.specs.declared.Bases.{Bases}

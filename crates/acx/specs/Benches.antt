@@ -9,9 +9,9 @@ use Rattle.answer.specs.declared.Fault.the-variants.{WrongBuffer}
 use Rattle.answer.specs.declared.Outcome.{Outcome}
 use Rattle.answer.specs.declared.Start.{Start}
 use Rattle.events.specs.Events.{blank}
+use Rattle.events.specs.Lists.{Each}
 use Rattle.words.specs.Runs.{part}
 use Rattle.acx.specs.Call.{formOf, Settings, basesOf, sized}
-use Rattle.acx.specs.Demand2.{Each}
 use Rattle.acx.specs.Pieces.{Piece, size, placeOf}
 use Rattle.acx.specs.Walk.{accepted, judged}
 

@@ -7,6 +7,7 @@ use mathlib.Core.Path.{_≡_}
 use Prim.Native.Nat.{ℕ, _+_, _≤_, _<_}
 use lib.ListN.{length, getD}
 use Rattle.answer.specs.declared.Start.{Start}
+use Rattle.events.specs.Lists.{Each, Pairwise}
 use Rattle.records.specs.declared.Field.{Field}
 use Rattle.words.specs.Numbers.{value, on}
 use Rattle.words.specs.Runs.{Within, Apart, part}
@@ -14,16 +15,6 @@ use Rattle.acx.specs.Call.{formOf, Settings, inRange, basesOf}
 use Rattle.acx.specs.Pieces.{Piece, size, placeOf, limitOf, width, amountOf}
 use Rattle.acx.specs.Walk.{accepted, judged}
 use Rattle.acx.specs.declared.Bases.{Bases}
-
--- of every element
-abbrev pub Each : {A : Type 0} → (A → Type 0) → List A → Type 0
-Each P [] = Unit {0}
-Each P (x ∷ xs) = P x × Each P xs
-
--- of every two elements
-abbrev pub Pairwise : {A : Type 0} → (A → A → Type 0) → List A → Type 0
-Pairwise R [] = Unit {0}
-Pairwise R (x ∷ xs) = Each (R x) xs × Pairwise R xs
 
 -- the address is one of the piece's places: "a byte's place is its record's place plus its index among the code bytes"
 abbrev pub Placed : Bases → ℕ → Piece → Type 0

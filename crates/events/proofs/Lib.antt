@@ -1,3 +1,4 @@
 -- Laws about the definitions of specs/.
 pub mod Events
 pub mod Walks
+pub mod Lists

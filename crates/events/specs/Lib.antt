@@ -1,3 +1,4 @@
 -- What the contracts of `events` cite, and the walk by which a format reads its file.
 pub mod Events
 pub mod Walk
+pub mod Lists

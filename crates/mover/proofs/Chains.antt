@@ -5,11 +5,12 @@ use mathlib.Core.Path.{_≡_, refl, sym, ap, _∙_, subst}
 use Prim.Native.Nat.{ℕ}
 use lib.ListN.{length, getD}
 use Rattle.acx.proofs.Handlers.{fits-memory}
-use Rattle.acx.proofs.Lists.{each-map, each-zip, each-zip3}
+use Rattle.events.proofs.Lists.{each-map, each-zip, each-zip3}
 use Rattle.acx.proofs.Loads.{Fits}
-use Rattle.acx.specs.Demand2.{Each, Placed, Handler, Inside}
+use Rattle.acx.specs.Demand2.{Placed, Handler, Inside}
 use Rattle.acx.specs.Pieces.{Piece, size, placeOf, edited}
 use Rattle.acx.specs.declared.Bases.{Bases}
+use Rattle.events.specs.Lists.{Each}
 use Rattle.words.proofs.Runs.{length-part, bytes-part}
 use Rattle.words.specs.Runs.{part}
 use Rattle.mover.proofs.Rulings.{handler-at, same-at, Allowed, ruling-allows, told, memory-moved, report-told}

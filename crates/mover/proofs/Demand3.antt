@@ -7,11 +7,12 @@ use native.Mathlib.Omega.{arith}
 use lib.ListN.{length, getD}
 use Rattle.acx.proofs.Edits.{edited-plain, edited-each}
 use Rattle.acx.proofs.Handlers.{fits-memory}
-use Rattle.acx.proofs.Lists.{each-map, each-zip, each-zip3}
+use Rattle.events.proofs.Lists.{each-map, each-zip, each-zip3}
 use Rattle.acx.proofs.Loads.{Fits, loaded, length-laid, laid-parts}
-use Rattle.acx.specs.Demand2.{Each, Pairwise, In, FieldsApart, Handler, Inside}
+use Rattle.acx.specs.Demand2.{In, FieldsApart, Handler, Inside}
 use Rattle.acx.specs.Pieces.{Piece, size, placeOf, width, amountOf, edited}
 use Rattle.acx.specs.declared.Bases.{Bases}
+use Rattle.events.specs.Lists.{Each, Pairwise}
 use Rattle.words.proofs.Changes.{value-part}
 use Rattle.words.proofs.Runs.{length-part, part-at, part-agrees, part-agree-at}
 use Rattle.words.specs.Numbers.{value, on, off}

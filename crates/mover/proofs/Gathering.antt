@@ -13,7 +13,7 @@ use Rattle.acx.proofs.Edits.{length-edited, edited-append}
 use Rattle.acx.proofs.Marks.{length-blank, fields-fresh}
 use Rattle.acx.proofs.Standing.{fixups-passed}
 use Rattle.acx.proofs.Walking.{piecesAfter, Onward, judged-accepted}
-use Rattle.acx.specs.Demand2.{Each, Inside}
+use Rattle.acx.specs.Demand2.{Inside}
 use Rattle.acx.specs.Call.{formOf}
 use Rattle.acx.specs.Cursor.{begun, advanced}
 use Rattle.acx.specs.Pieces.{Piece, size, placeAt, placeOf, edited, events}
@@ -24,6 +24,7 @@ use Rattle.answer.specs.declared.Fault.{Fault}
 use Rattle.answer.specs.declared.Start.{Start}
 use Rattle.events.proofs.Events.{length-marks}
 use Rattle.events.specs.Events.{marks, blank}
+use Rattle.events.specs.Lists.{Each}
 use Rattle.events.specs.declared.Check.the-variants.{Passed}
 use Rattle.records.proofs.Reading.{Moving, lies-as, fixups-after}
 use Rattle.records.proofs.Record.{the-type}

@@ -9,7 +9,6 @@ use lib.ListN.{length, getD}
 use Rattle.acx.proofs.Marks.{length-blank}
 use Rattle.acx.specs.AtBases.{placing, adjusting, ending, applied}
 use Rattle.acx.specs.Call.{load}
-use Rattle.acx.specs.Demand2.{Each}
 use Rattle.acx.specs.Pieces.{Piece, amountOf, adjustments, events}
 use Rattle.acx.specs.Walk.{accepted, refused, checked, walk, from, opening, judged}
 use Rattle.acx.specs.declared.Bases.{Bases}
@@ -17,6 +16,7 @@ use Rattle.answer.specs.Checks.{need}
 use Rattle.answer.specs.declared.Fault.the-variants.{WrongBuffer, SettingOutOfRange, DoesNotFit}
 use Rattle.answer.specs.declared.Start.the-variants.{At}
 use Rattle.events.specs.Events.{marks, blank}
+use Rattle.events.specs.Lists.{Each}
 use Rattle.records.specs.Fields.{fieldsOf}
 use Rattle.records.specs.Records.{readCode, readItems, readFixups, readEnd, read}
 use Rattle.records.specs.declared.Fixup.the-variants.{Word}

@@ -7,12 +7,13 @@ use mathlib.Core.Path.{_≡_}
 use Prim.Native.Nat.{ℕ, _+_, _<_}
 use lib.ListN.{length, getD}
 use Rattle.acx.specs.Call.{memoryAfter as playedBy}
-use Rattle.acx.specs.Demand2.{Each, Placed, In}
+use Rattle.acx.specs.Demand2.{Placed, In}
 use Rattle.acx.specs.Pieces.{Piece, size, placeOf, width, amountOf}
 use Rattle.acx.specs.Walk.{accepted}
 use Rattle.acx.specs.declared.Bases.{Bases}
 use Rattle.answer.specs.declared.Outcome.{Outcome}
 use Rattle.answer.specs.declared.Start.{Start}
+use Rattle.events.specs.Lists.{Each}
 use Rattle.words.specs.Numbers.{value, on, off}
 use Rattle.words.specs.Runs.{Bytes}
 use Rattle.mover.specs.Call.{Call, loadAt, Ruling, allows, refuses, ruling, outcomeOf, memoryAfter, mapAfter, Moved}

@@ -6,12 +6,13 @@ use mathlib.Core.Path.{_≡_}
 use Prim.Native.Nat.{ℕ, _+_, _<_}
 use lib.ListN.{length, getD}
 use Rattle.acx.specs.Call.{settings, Loaded}
-use Rattle.acx.specs.Demand2.{Each, Placed, In}
+use Rattle.acx.specs.Demand2.{Placed, In}
 use Rattle.acx.specs.Pieces.{Piece, size, placeOf, width, amountOf}
 use Rattle.answer.specs.declared.Fault.{Fault}
 use Rattle.answer.specs.declared.Fault.the-variants.{WrongBuffer}
 use Rattle.answer.specs.declared.Outcome.{Outcome}
 use Rattle.events.specs.Events.{blank}
+use Rattle.events.specs.Lists.{Each}
 use Rattle.records.specs.declared.Kind.{Kind}
 use Rattle.records.specs.declared.Kind.the-variants.{Main, ZeroPage, Absolute}
 use Rattle.words.specs.Numbers.{value, on, off}

@@ -4,10 +4,11 @@ use mathlib.Core.List.{List}
 use mathlib.Core.Path.{_≡_}
 use Prim.Native.Nat.{ℕ, zero, suc, _+_, _≤_}
 use lib.ListN.{length, getD}
-use Rattle.acx.specs.Demand2.{Each, Inside}
+use Rattle.acx.specs.Demand2.{Inside}
 use Rattle.acx.specs.Pieces.{edited}
 use Rattle.acx.specs.declared.Bases.{Bases}
 use Rattle.acx.specs.declared.Cursor.{Cursor}
+use Rattle.events.specs.Lists.{Each}
 use Rattle.records.specs.Fields.{fieldsOf}
 use Rattle.records.specs.declared.Record.{Record}
 use Rattle.records.specs.declared.Record.the-variants.{Code, Fixups, End, Faulty}

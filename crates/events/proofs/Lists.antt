@@ -1,7 +1,7 @@
 -- What holds of each element of a list, and of every two.
 -- Assumes nothing.
 use mathlib.Core.List.{List, [], _∷_, _++_}
-use Rattle.acx.specs.Demand2.{Each, Pairwise}
+use Rattle.events.specs.Lists.{Each, Pairwise}
 
 module _ {A : Type 0} where
   -- what holds of all elements holds of each

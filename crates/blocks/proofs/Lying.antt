@@ -1,0 +1,91 @@
+-- Where what a block says lies, whatever the file: past the block's offset and in the file, in memory, in the table or in a list of names.
+-- Assumes nothing.
+use mathlib.Core.Bool.{Bool, true, false}
+use mathlib.Core.List.{List}
+use mathlib.Core.Path.{_≡_, refl}
+use Prim.Native.Nat.{ℕ, _+_, _-_, _*_, _/_, _%_, _≤_, _<_}
+use native.Mathlib.Omega.{arith}
+use borrow.Author.Tests.{leb-true}
+use lib.Dec.{ltb, leb}
+use lib.ListN.{length, getD}
+use Rattle.answer.proofs.Checks.{on-need, on-pick}
+use Rattle.answer.specs.Checks.{need}
+use Rattle.answer.specs.declared.Fault.{Fault}
+use Rattle.names.proofs.Searching.{own-inside, lent-inside}
+use Rattle.names.specs.Names.{lookUp}
+use Rattle.names.specs.declared.Definition.{Definition}
+use Rattle.names.specs.declared.Definition.the-variants.{Missing, New, Lent}
+use Rattle.words.specs.Numbers.{value}
+use Rattle.words.specs.Runs.{part}
+use Rattle.blocks.specs.Blocks.{readPlain, readRoom, readRelocatable, readUpdate, byDefinition, readNames, readAddress, readNewName, Marker, plain, names, newName, update, relocatable, firstMarker, markers, readAs, read}
+use Rattle.blocks.specs.Bounds.{Fits}
+use Rattle.blocks.specs.declared.Block.{Block}
+use Rattle.blocks.specs.declared.Block.the-variants.{Faulty}
+use Rattle.blocks.specs.declared.Cursor.{Cursor}
+
+module _ (file : List ℕ) (high : ℕ) (lent own : List ℕ) (c : Cursor) where
+  abbrev Lain : Block → Type 0
+  Lain b = Fits (length file) (c .at) (c .low) (length lent / 8) (length own / 8) b
+
+  checked : (check : Bool) (fault : Fault) (b : Block) → (check ≡ true → Lain b) → Lain (need Faulty check fault b)
+  checked = on-need Faulty Lain (λ fault. record { lies = tt })
+
+  plain-lies : (at : ℕ) → c .at ≤ at → Lain (readPlain file at)
+  unfolding readPlain
+  plain-lies at l =
+      checked _ _ _ (λ h. checked _ _ _ (λ i. checked _ _ _ (λ j. record { lies = (omega arith, leb-true _ _ j) })))
+
+  room-lies : (number : ℕ) (reserves : Bool) → high ≤ 65535 → number ≤ 7 → Lain (readRoom file high c number reserves)
+  unfolding readRoom
+  room-lies number reserves h n =
+      checked _ _ _
+      (λ i. checked _ _ _
+      (λ j. checked _ _ _
+      (λ k. let below : c .low + value 2 file (c .at + 6) ≤ high = leb-true _ _ k in
+      record { lies = (omega arith, leb-true _ _ j, omega arith, omega arith) })))
+
+  relocatable-lies : high ≤ 65535 → Lain (readRelocatable file high c)
+  unfolding readRelocatable
+  relocatable-lies h = checked _ _ _ (λ i. checked _ _ _ (λ j. checked _ _ _ (λ k. room-lies _ _ h (leb-true _ _ j))))
+
+  update-lies : Lain (readUpdate file c)
+  unfolding readUpdate
+  update-lies =
+      checked _ _ _
+      (λ i. checked _ _ _
+      (λ j. checked _ _ _
+      (λ k. let number : getD file (c .at + 2) 0 ≤ 7 = leb-true _ _ j in record { lies = (omega arith, leb-true _ _ i, omega arith) })))
+
+  -- an eight-byte name that ends in the list is one of its names
+  listed : (i n : ℕ) → 8 * i + 8 ≤ n → i < n / 8
+  listed i n h = omega arith
+
+  names-lies : Lain (readNames file lent own c)
+  unfolding readNames
+  names-lies = checked _ _ _ (λ i. by (lookUp own lent (part file (c .at + 2) 8)) refl (leb-true _ _ i))
+    where
+      by : (d : Definition) → lookUp own lent (part file (c .at + 2) 8) ≡ d → c .at + 12 ≤ length file → Lain (byDefinition (c .at + 12) d)
+      by Missing e l = record { lies = tt }
+      by (New i) e l = record { lies = (omega arith, l, listed i (length own) (own-inside own lent _ i e)) }
+      by (Lent i) e l = record { lies = (omega arith, l, listed i (length lent) (lent-inside own lent _ i e)) }
+
+  new-name-lies : Lain (readNewName file c)
+  unfolding readNewName readAddress
+  new-name-lies =
+      checked _ _ _
+      (λ h. checked _ _ _
+      (λ i. checked _ _ _
+      (λ j. checked _ _ _
+      (λ k. checked _ _ _
+      (λ l. let header : c .at + 13 ≤ length file = leb-true _ _ h in record { lies = (omega arith, omega arith) })))))
+
+  marked-lies : high ≤ 65535 → (m : Marker) → Lain (readAs file high lent own c m)
+  marked-lies h plain = plain-lies (c .at + 2) (omega arith)
+  marked-lies h names = names-lies
+  marked-lies h newName = new-name-lies
+  marked-lies h update = update-lies
+  marked-lies h relocatable = relocatable-lies h
+
+  pub read-lies : high ≤ 65535 → Fits (length file) (c .at) (c .low) (length lent / 8) (length own / 8) (read file high lent own c)
+  unfolding read
+  read-lies h = checked _ _ _ (λ i. on-pick Lain _ _ _ (λ j. plain-lies (c .at) (omega arith)) (λ j. marked-lies h (getD markers (value 2 file (c .at) - firstMarker) plain)))

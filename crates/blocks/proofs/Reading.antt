@@ -1,0 +1,282 @@
+-- The checks of a block, over plain values: what each comes to where it holds and where it fails. The functions' proofs cite these.
+-- Assumes nothing.
+use mathlib.Core.Bool.{Bool, true, false, not, _&&_, false≢true}
+use mathlib.Core.List.{List}
+use mathlib.Core.Path.{_≡_, refl, sym, ap, _∙_}
+use Prim.Native.Nat.{ℕ, zero, suc, _+_, _-_, _%_, _<_, _≤_}
+use native.Mathlib.Omega.{arith}
+use borrow.Author.Tests.{lt-leb, le-leb, lt-ltb, le-ltb, ne-eqb}
+use lib.Dec.{ltb, leb, eqb}
+use lib.ListN.{length, getD}
+use Rattle.answer.proofs.Checks.{on-need}
+use Rattle.answer.specs.Checks.{need, pick}
+use Rattle.answer.specs.declared.Fault.{Fault}
+use Rattle.answer.specs.declared.Fault.the-variants.{CutShort, NotKnown, BlockTaken, BlockMissing, LengthNotAllowed, DoesNotFit, NameUnknown, TooManyNames, NameOutsideBlock}
+use Rattle.names.specs.Names.{lookUp}
+use Rattle.names.specs.declared.Definition.{Definition}
+use Rattle.names.specs.declared.Definition.the-variants.{Missing, New, Lent}
+use Rattle.updates.specs.Items.{slotAt}
+use Rattle.updates.specs.declared.Slot.{Slot}
+use Rattle.words.proofs.Numbers.{off-is}
+use Rattle.words.specs.Numbers.{value}
+use Rattle.words.specs.Runs.{part}
+use Rattle.blocks.specs.Blocks.{readPlain, dataSize, isId, reserveOnly, readRoom, readRelocatable, readUpdate, byDefinition, readNames, readAddress, readNewName, plain, markers, readAs, read, amountOf}
+use Rattle.blocks.specs.Bounds.{Listed, InMemory}
+use Rattle.blocks.specs.declared.Block.{Block}
+use Rattle.blocks.specs.declared.Block.the-variants.{Plain, Relocatable, Update, NewName, Faulty}
+use Rattle.blocks.specs.declared.Cursor.{Cursor}
+use Rattle.blocks.specs.declared.Source.{Source}
+use Rattle.blocks.specs.declared.Source.the-variants.{Number, LentName, OwnName}
+
+-- ---- what is in memory
+
+-- where a plain block ends
+abbrev plainEnd : Block → ℕ
+plainEnd (Plain address from size) = address + size
+plainEnd (Relocatable reserves number offset from size) = 0
+plainEnd (Update source from) = 0
+plainEnd (NewName from address) = 0
+plainEnd (Faulty fault) = 0
+
+pub in-memory : (b : Block) → plainEnd b ≤ 65536 → InMemory b
+in-memory b h = record { ends = λ address from size e. rw (← ap plainEnd e) h }
+
+in-need : (check : Bool) (fault : Fault) (b : Block) → InMemory b → InMemory (need Faulty check fault b)
+in-need check fault b h = on-need Faulty InMemory (λ f. in-memory (Faulty f) (omega arith)) check fault b (λ e. h)
+
+-- no other block is plain
+pub room-in-memory : (file : List ℕ) (high : ℕ) (c : Cursor) (number : ℕ) (reserves : Bool) → InMemory (readRoom file high c number reserves)
+unfolding readRoom
+room-in-memory file high c number reserves = in-need _ _ _ (in-need _ _ _ (in-need _ _ _ (in-memory _ (omega arith))))
+
+pub relocatable-in-memory : (file : List ℕ) (high : ℕ) (c : Cursor) → InMemory (readRelocatable file high c)
+unfolding readRelocatable
+relocatable-in-memory file high c = in-need _ _ _ (in-need _ _ _ (in-need _ _ _ (room-in-memory file high c _ _)))
+
+pub update-in-memory : (file : List ℕ) (c : Cursor) → InMemory (readUpdate file c)
+unfolding readUpdate
+update-in-memory file c = in-need _ _ _ (in-need _ _ _ (in-need _ _ _ (in-memory _ (omega arith))))
+
+pub names-in-memory : (file lent own : List ℕ) (c : Cursor) → InMemory (readNames file lent own c)
+unfolding readNames
+names-in-memory file lent own c = in-need _ _ _ (by (lookUp own lent _))
+  where
+    by : (d : Definition) → InMemory (byDefinition (c .at + 12) d)
+    by Missing = in-memory _ (omega arith)
+    by (New i) = in-memory _ (omega arith)
+    by (Lent i) = in-memory _ (omega arith)
+
+pub new-name-in-memory : (file : List ℕ) (c : Cursor) → InMemory (readNewName file c)
+unfolding readNewName readAddress
+new-name-in-memory file c =
+    in-need _ _ _ (in-need _ _ _ (in-need _ _ _ (in-need _ _ _ (in-need _ _ _ (in-memory _ (omega arith))))))
+
+-- ---- plain
+
+module _ (file : List ℕ) (at : ℕ) where
+  pub plain-cut : length file < at + 4 → Faulty CutShort ≡ readPlain file at
+  unfolding readPlain need
+  plain-cut h = rw (lt-leb _ _ h) refl
+
+  module _ (start last : ℕ) (es : start ≡ value 2 file at) (el : last ≡ value 2 file (at + 2)) (header : at + 4 ≤ length file) where
+    pub plain-back : last < start → Faulty LengthNotAllowed ≡ readPlain file at
+    unfolding readPlain need
+    plain-back h = rw (le-leb _ _ header, ← es, ← el, lt-leb _ _ h) refl
+
+    pub plain-short : start ≤ last → length file < at + 4 + (last - start + 1) → Faulty CutShort ≡ readPlain file at
+    unfolding readPlain need
+    plain-short h i = rw (le-leb _ _ header, ← es, ← el, le-leb _ _ h, lt-leb _ _ i) refl
+
+    pub plain-read : start ≤ last → at + 4 + (last - start + 1) ≤ length file → Plain start (at + 4) (last - start + 1) ≡ readPlain file at
+    unfolding readPlain need
+    plain-read h i = rw (le-leb _ _ header, ← es, ← el, le-leb _ _ h, le-leb _ _ i) refl
+
+-- ---- relocatable
+
+module _ (file : List ℕ) (high : ℕ) (c : Cursor) (number : ℕ) (reserves : Bool) where
+  pub room-used : slotAt (c .table) number .taken ≡ true → Faulty BlockTaken ≡ readRoom file high c number reserves
+  unfolding readRoom need
+  room-used h = rw h refl
+
+  module _ (new : slotAt (c .table) number .taken ≡ false) where
+    pub room-eighth : 7 ≤ c .count → Faulty BlockTaken ≡ readRoom file high c number reserves
+    unfolding readRoom need
+    room-eighth h = rw (new, le-ltb _ _ h) refl
+
+    module _ (left : c .count < 7) (size k : ℕ) (es : size ≡ value 2 file (c .at + 6)) (ek : k ≡ dataSize reserves size) where
+      pub room-cut : length file < c .at + 8 + k → Faulty CutShort ≡ readRoom file high c number reserves
+      unfolding readRoom need
+      room-cut h = let i : length file < c .at + 8 + dataSize reserves size = rw (← ek) h in rw (new, lt-ltb _ _ left, ← es, lt-leb _ _ i) refl
+
+      module _ (here : c .at + 8 + k ≤ length file) where
+        held : c .at + 8 + dataSize reserves size ≤ length file
+        held = rw (← ek) here
+
+        pub room-high : high < c .low + size → Faulty DoesNotFit ≡ readRoom file high c number reserves
+        unfolding readRoom need
+        room-high h = rw (new, lt-ltb _ _ left, ← es, le-leb _ _ held, lt-leb _ _ h) refl
+
+        pub room-read : c .low + size ≤ high → (offset : ℕ) → offset ≡ value 2 file (c .at + 4)
+            → Relocatable reserves number offset (c .at + 8) size ≡ readRoom file high c number reserves
+        unfolding readRoom need
+        room-read h offset eo = rw (new, lt-ltb _ _ left, ← es, le-leb _ _ held, le-leb _ _ h, eo) refl
+
+module _ (file : List ℕ) (high : ℕ) (c : Cursor) where
+  pub relocatable-cut : length file < c .at + 8 → Faulty CutShort ≡ readRelocatable file high c
+  unfolding readRelocatable need
+  relocatable-cut h = rw (lt-leb _ _ h) refl
+
+  module _ (header : c .at + 8 ≤ length file) (number : ℕ) (en : number ≡ getD file (c .at + 2) 0) where
+    pub relocatable-number : 7 < number → Faulty NotKnown ≡ readRelocatable file high c
+    unfolding readRelocatable need
+    relocatable-number h = rw (le-leb _ _ header, ← en, lt-leb _ _ h) refl
+
+    module _ (known : number ≤ 7) (id : ℕ) (ei : id ≡ getD file (c .at + 3) 0) where
+      pub relocatable-data : (r : Block) → id ≡ 0 → r ≡ readRoom file high c number false → r ≡ readRelocatable file high c
+      unfolding readRelocatable need
+      relocatable-data r e h = let f : getD file (c .at + 3) 0 ≡ 0 = sym ei ∙ e in rw (le-leb _ _ header, ← en, le-leb _ _ known, f) h
+
+      pub relocatable-reserves : (r : Block) → id ≡ 128 → r ≡ readRoom file high c number true → r ≡ readRelocatable file high c
+      unfolding readRelocatable need
+      relocatable-reserves r e h = let f : getD file (c .at + 3) 0 ≡ 128 = sym ei ∙ e in rw (le-leb _ _ header, ← en, le-leb _ _ known, f) h
+
+      pub relocatable-id : (id ≡ 0 → ⊥) → (id ≡ 128 → ⊥) → Faulty NotKnown ≡ readRelocatable file high c
+      unfolding readRelocatable need
+      relocatable-id h i = rw (le-leb _ _ header, ← en, le-leb _ _ known, ← ei, ne-eqb _ _ h, ne-eqb _ _ i) refl
+
+-- ---- update
+
+module _ (file : List ℕ) (c : Cursor) where
+  pub update-cut : length file < c .at + 5 → Faulty CutShort ≡ readUpdate file c
+  unfolding readUpdate need
+  update-cut h = rw (lt-leb _ _ h) refl
+
+  module _ (header : c .at + 5 ≤ length file) (number : ℕ) (en : number ≡ getD file (c .at + 2) 0) where
+    pub update-number : 7 < number → Faulty NotKnown ≡ readUpdate file c
+    unfolding readUpdate need
+    update-number h = rw (le-leb _ _ header, ← en, lt-leb _ _ h) refl
+
+    pub update-missing : number ≤ 7 → slotAt (c .table) number .taken ≡ false → Faulty BlockMissing ≡ readUpdate file c
+    unfolding readUpdate need
+    update-missing h i = rw (le-leb _ _ header, ← en, le-leb _ _ h, i) refl
+
+    pub update-read : number ≤ 7 → slotAt (c .table) number .taken ≡ true → Update (Number number) (c .at + 5) ≡ readUpdate file c
+    unfolding readUpdate need
+    update-read h i = rw (le-leb _ _ header, ← en, le-leb _ _ h, i) refl
+
+-- ---- new name
+
+module _ (file : List ℕ) (c : Cursor) (slot : Slot) (offset : ℕ) (eo : offset ≡ value 2 file (c .at + 3)) where
+  pub address-below : offset < slot .offset → Faulty NameOutsideBlock ≡ readAddress file c slot
+  unfolding readAddress need
+  address-below h = rw (← eo, lt-leb _ _ h) refl
+
+  module _ (above : slot .offset ≤ offset) where
+    pub address-past : slot .size ≤ offset - slot .offset → Faulty NameOutsideBlock ≡ readAddress file c slot
+    unfolding readAddress need
+    address-past h = rw (← eo, le-leb _ _ above, le-ltb _ _ h) refl
+
+    module _ (inside : offset - slot .offset < slot .size) where
+      pub address-full : 32 ≤ c .named → Faulty TooManyNames ≡ readAddress file c slot
+      unfolding readAddress need
+      address-full h = rw (← eo, le-leb _ _ above, lt-ltb _ _ inside, le-ltb _ _ h) refl
+
+      pub address-read : c .named < 32 → NewName (c .at + 5) (slot .address + (offset - slot .offset)) ≡ readAddress file c slot
+      unfolding readAddress need
+      address-read h = rw (← eo, le-leb _ _ above, lt-ltb _ _ inside, lt-ltb _ _ h) refl
+
+module _ (file : List ℕ) (c : Cursor) where
+  pub new-name-cut : length file < c .at + 13 → Faulty CutShort ≡ readNewName file c
+  unfolding readNewName need
+  new-name-cut h = rw (lt-leb _ _ h) refl
+
+  module _ (header : c .at + 13 ≤ length file) (number : ℕ) (en : number ≡ getD file (c .at + 2) 0) where
+    pub new-name-number : 7 < number → Faulty NotKnown ≡ readNewName file c
+    unfolding readNewName need
+    new-name-number h = rw (le-leb _ _ header, ← en, lt-leb _ _ h) refl
+
+    pub new-name-missing : number ≤ 7 → slotAt (c .table) number .taken ≡ false → Faulty BlockMissing ≡ readNewName file c
+    unfolding readNewName need
+    new-name-missing h i = rw (le-leb _ _ header, ← en, le-leb _ _ h, i) refl
+
+    pub new-name-read : (r : Block) → number ≤ 7 → slotAt (c .table) number .taken ≡ true → r ≡ readAddress file c (slotAt (c .table) number)
+        → r ≡ readNewName file c
+    unfolding readNewName need
+    new-name-read r h i e = rw (le-leb _ _ header, ← en, le-leb _ _ h, i) e
+
+-- ---- what words grow by
+
+-- a listed source stands in its table or list
+pub listed-number : (lent own : ℕ) (s : Source) (n : ℕ) → Listed lent own s → s ≡ Number n → n < 8
+listed-number lent own s n h e = rw e at h
+
+pub listed-lent : (lent own : ℕ) (s : Source) (i : ℕ) → Listed lent own s → s ≡ LentName i → i < lent
+listed-lent lent own s i h e = rw e at h
+
+pub listed-own : (lent own : ℕ) (s : Source) (i : ℕ) → Listed lent own s → s ≡ OwnName i → i < own
+listed-own lent own s i h e = rw e at h
+
+module _ (table : List Slot) (lent own : List ℕ) (s : Source) where
+  pub amount-number : (n r : ℕ) → s ≡ Number n → r < 65536 → (r + slotAt table n .offset) % 65536 ≡ slotAt table n .address
+      → r ≡ amountOf table lent own s
+  amount-number n r e h i = rw e (off-is 2 _ _ r h i)
+
+  pub amount-lent : (i r : ℕ) → s ≡ LentName i → r ≡ getD lent i 0 → r ≡ amountOf table lent own s
+  amount-lent i r e h = rw e h
+
+  pub amount-own : (i r : ℕ) → s ≡ OwnName i → r ≡ getD own i 0 → r ≡ amountOf table lent own s
+  amount-own i r e h = rw e h
+
+-- ---- names
+
+module _ (file lent own : List ℕ) (c : Cursor) where
+  pub names-cut : length file < c .at + 12 → Faulty CutShort ≡ readNames file lent own c
+  unfolding readNames need
+  names-cut h = rw (lt-leb _ _ h) refl
+
+  pub names-read : (name : List ℕ) (d e : Definition) → c .at + 12 ≤ length file → name ≡ part file (c .at + 2) 8 → d ≡ lookUp own lent name → d ≡ e
+      → byDefinition (c .at + 12) e ≡ readNames file lent own c
+  unfolding readNames need
+  names-read name d e h en ed de = rw (le-leb _ _ h, ← en, ← ed, de) refl
+
+-- ---- by the first word
+
+module _ (file : List ℕ) (high : ℕ) (lent own : List ℕ) (c : Cursor) where
+  pub read-cut : length file < c .at + 2 → Faulty CutShort ≡ read file high lent own c
+  unfolding read need
+  read-cut h = rw (lt-leb _ _ h) refl
+
+  module _ (header : c .at + 2 ≤ length file) (word : ℕ) (ew : word ≡ value 2 file (c .at)) (r : Block) where
+    pub read-unmarked : word < 65530 → r ≡ readPlain file (c .at) → r ≡ read file high lent own c
+    unfolding read need pick
+    read-unmarked h e = rw (le-leb _ _ header, ← ew, lt-ltb _ _ h) e
+
+    marked : (w : ℕ) → word ≡ w → 65530 ≤ w → r ≡ readAs file high lent own c (getD markers (w - 65530) plain) → r ≡ read file high lent own c
+    unfolding read need pick
+    marked w e h i = let f : value 2 file (c .at) ≡ w = sym ew ∙ e in rw (le-leb _ _ header, f, le-ltb _ _ h) i
+
+    pub read-names : word ≡ 65531 → r ≡ readNames file lent own c → r ≡ read file high lent own c
+    read-names e i = marked 65531 e (omega arith) i
+
+    pub read-new-name : word ≡ 65532 → r ≡ readNewName file c → r ≡ read file high lent own c
+    read-new-name e i = marked 65532 e (omega arith) i
+
+    pub read-update : word ≡ 65533 → r ≡ readUpdate file c → r ≡ read file high lent own c
+    read-update e i = marked 65533 e (omega arith) i
+
+    pub read-relocatable : word ≡ 65534 → r ≡ readRelocatable file high c → r ≡ read file high lent own c
+    read-relocatable e i = marked 65534 e (omega arith) i
+
+    -- (FFFA and FFFF are what is left)
+    pub read-marked : word < 65536 → 65530 ≤ word → (word ≡ 65531 → ⊥) → (word ≡ 65532 → ⊥) → (word ≡ 65533 → ⊥) → (word ≡ 65534 → ⊥)
+        → r ≡ readPlain file (c .at + 2) → r ≡ read file high lent own c
+    read-marked below above h i j k e = by (word - 65530) (omega arith)
+      where
+        by : (n : ℕ) → word ≡ n + 65530 → r ≡ read file high lent own c
+        by zero f = marked 65530 f (omega arith) e
+        by (suc zero) f = absurd (h f)
+        by (suc (suc zero)) f = absurd (i f)
+        by (suc (suc (suc zero))) f = absurd (j f)
+        by (suc (suc (suc (suc zero)))) f = absurd (k f)
+        by (suc (suc (suc (suc (suc zero))))) f = marked 65535 f (omega arith) e
+        by (suc (suc (suc (suc (suc (suc n)))))) f = absurd (omega arith)

@@ -1,0 +1,40 @@
+-- Bounds that the contracts of `blocks` ask for and give: where what a block says lies. They follow from the definitions and the widths of the
+-- numbers.
+-- Assumes nothing.
+use mathlib.Core.List.{List}
+use mathlib.Core.Path.{_≡_}
+use Prim.Native.Nat.{ℕ, _+_, _≤_, _<_}
+use Rattle.updates.specs.Items.{slotAt}
+use Rattle.updates.specs.declared.Slot.{Slot}
+use Rattle.names.specs.Names.{nameSize}
+use Rattle.blocks.specs.Blocks.{dataSize}
+use Rattle.blocks.specs.declared.Block.{Block}
+use Rattle.blocks.specs.declared.Block.the-variants.{Plain, Relocatable, Update, NewName, Faulty}
+use Rattle.blocks.specs.declared.Source.{Source}
+use Rattle.blocks.specs.declared.Source.the-variants.{Number, LentName, OwnName}
+
+-- every block of a table ends at an address
+pub record Packed (table : List Slot) : Type 0 where
+  pub packed : (number : ℕ) → slotAt table number .address + slotAt table number .size ≤ 65535
+
+-- a source is in the table, or in its list of so many names
+abbrev pub Listed : ℕ → ℕ → Source → Type 0
+Listed lent own (Number number) = number < 8
+Listed lent own (LentName i) = i < lent
+Listed lent own (OwnName i) = i < own
+
+-- what a plain block places lies in memory, since its last byte has an address
+pub record InMemory (b : Block) : Type 0 where
+  pub ends : (address from size : ℕ) → b ≡ Plain address from size → address + size ≤ 65536
+
+-- what a block says begins past its offset, and lies in a file of so many bytes, below 65,536, and in the lists of so many names
+abbrev pub Lies : ℕ → ℕ → ℕ → ℕ → ℕ → Block → Type 0
+Lies len at low lent own (Plain address from size) = (at < from) × (from + size ≤ len)
+Lies len at low lent own (Relocatable reserves number offset from size) =
+    (at < from) × (from + dataSize reserves size ≤ len) × (low + size ≤ 65535) × (number < 8)
+Lies len at low lent own (Update source from) = (at < from) × (from ≤ len) × Listed lent own source
+Lies len at low lent own (NewName from address) = (at < from) × (from + nameSize ≤ len)
+Lies len at low lent own (Faulty fault) = Unit {0}
+
+pub record Fits (len at low lent own : ℕ) (b : Block) : Type 0 where
+  pub lies : Lies len at low lent own b

@@ -1,0 +1,59 @@
+-- One word adjusted and one item carried out, over plain values: what each check comes to. The functions' proofs cite these.
+-- Assumes nothing.
+use mathlib.Core.Bool.{Bool, true, false}
+use mathlib.Core.List.{List, [], _∷_}
+use mathlib.Core.Path.{_≡_, refl}
+use Prim.Native.Nat.{ℕ, _+_, _-_}
+use borrow.Rule.Slice.PartMut.{midOf}
+use Rattle.answer.specs.Checks.{need}
+use Rattle.answer.specs.declared.Fault.{Fault}
+use Rattle.answer.specs.declared.Fault.the-variants.{FieldNotLoaded, AdjustedTwice}
+use Rattle.events.proofs.Events.{did-none}
+use Rattle.events.specs.Events.{adjust, adjustedMark, Reached, Did}
+use Rattle.events.specs.declared.Check.{Check}
+use Rattle.events.specs.declared.Check.the-variants.{Passed, Failed}
+use Rattle.words.proofs.Lent.{lent-is}
+use Rattle.words.specs.Runs.{part, contains}
+use Rattle.updates.specs.Bodies.{wordLoaded, adjusting, applied}
+use Rattle.updates.specs.declared.Item.{Item}
+use Rattle.updates.specs.declared.Item.the-variants.{Wrong, End, Move, Adjust}
+
+-- ---- a word adjusted
+
+module _ (amount a : ℕ) (write : Bool) (m p : List ℕ) where
+  -- a byte that is not loaded
+  pub adjusting-unloaded : wordLoaded p a ≡ false → Did Check (adjusting amount a p) write m p (Failed FieldNotLoaded) m p
+  unfolding adjusting need
+  adjusting-unloaded e = rw e (did-none _ write m p)
+
+  module _ (loaded : wordLoaded p a ≡ true) where
+    -- a byte that was adjusted before
+    pub adjusting-twice : contains adjustedMark (midOf a (a + 2 - a) p) ≡ true → Did Check (adjusting amount a p) write m p (Failed AdjustedTwice) m p
+    unfolding adjusting need
+    adjusting-twice t =
+        let u : contains adjustedMark (part p a 2) ≡ true = rw (lent-is a 2 p) at t in
+        rw (loaded, u) (did-none _ write m p)
+
+    -- the word grows
+    pub adjusting-done : (m′ p′ : List ℕ) → contains adjustedMark (midOf a (a + 2 - a) p) ≡ false
+        → Reached (adjust 2 a amount ∷ []) write m p m′ p′ → Did Check (adjusting amount a p) write m p Passed m′ p′
+    unfolding adjusting need
+    adjusting-done m′ p′ t d =
+        let u : contains adjustedMark (part p a 2) ≡ false = rw (lent-is a 2 p) at t in
+        rw (loaded, u) (record { answer = refl; memory = d .memory; map = d .map })
+
+-- ---- an item carried out
+
+module _ (amount : ℕ) (item : Item) (write : Bool) (m p : List ℕ) where
+  pub applied-wrong : (fault : Fault) → item ≡ Wrong fault → Did Check (applied amount item p) write m p (Failed fault) m p
+  applied-wrong fault e = rw e (did-none _ write m p)
+
+  pub applied-end : (next : ℕ) → item ≡ End next → Did Check (applied amount item p) write m p Passed m p
+  applied-end next e = rw e (did-none _ write m p)
+
+  pub applied-move : (counter next : ℕ) → item ≡ Move counter next → Did Check (applied amount item p) write m p Passed m p
+  applied-move counter next e = rw e (did-none _ write m p)
+
+  pub applied-adjust : (counter next : ℕ) (r : Check) (m′ p′ : List ℕ) → item ≡ Adjust counter next
+      → Did Check (adjusting amount counter p) write m p r m′ p′ → Did Check (applied amount item p) write m p r m′ p′
+  applied-adjust counter next r m′ p′ e d = rw e d

@@ -1,0 +1,194 @@
+-- One item read: what each test comes to, over plain values, and where an item that was read ends in its file.
+-- Assumes nothing.
+use mathlib.Core.Bool.{true, false}
+use mathlib.Core.List.{List}
+use mathlib.Core.Path.{_≡_, refl}
+use Prim.Native.Nat.{ℕ, _+_, _<_, _≤_}
+use native.Mathlib.Omega.{arith}
+use borrow.Author.Tests.{le-leb, lt-leb, lt-ltb, le-ltb, leb-true, ltb-true}
+use lib.ListN.{length, getD}
+use Rattle.answer.proofs.Checks.{on-need, on-pick}
+use Rattle.answer.specs.Checks.{need, pick}
+use Rattle.answer.specs.declared.Fault.{Fault}
+use Rattle.answer.specs.declared.Fault.the-variants.{CutShort, NotKnown, BlockMissing, CounterUnusable}
+use Rattle.words.specs.Numbers.{value}
+use Rattle.updates.specs.Items.{slotAt, adding, setting, aiming, skipped, skipping, read}
+use Rattle.updates.specs.declared.Counter.{Counter}
+use Rattle.updates.specs.declared.Counter.the-variants.{Unset, Set}
+use Rattle.updates.specs.declared.Item.{Item}
+use Rattle.updates.specs.declared.Item.the-variants.{Wrong, End, Move, Adjust}
+use Rattle.updates.specs.declared.Slot.{Slot}
+
+-- ---- 00 to FB
+
+module _ (amount next : ℕ) (counter : Counter) where
+  -- nothing to add to
+  pub adding-unset : counter ≡ Unset → Wrong CounterUnusable ≡ adding amount next counter
+  adding-unset e = rw e refl
+
+  -- a sum where no word lies
+  pub adding-high : (from : ℕ) → counter ≡ Set from → 65534 < from + amount → Wrong CounterUnusable ≡ adding amount next counter
+  unfolding need
+  adding-high from e h = rw (e, lt-leb _ _ h) refl
+
+  -- a word to adjust
+  pub adding-there : (from : ℕ) → counter ≡ Set from → from + amount ≤ 65534 → Adjust (from + amount) next ≡ adding amount next counter
+  unfolding need
+  adding-there from e h = rw (e, le-leb _ _ h) refl
+
+-- ---- FD
+
+module _ (file : List ℕ) (at : ℕ) where
+  -- no word left
+  pub setting-cut : length file < at + 3 → Wrong CutShort ≡ setting file at
+  unfolding setting need
+  setting-cut h = rw (lt-leb _ _ h) refl
+
+  -- a counter where no word lies
+  pub setting-high : (word : ℕ) → at + 3 ≤ length file → word ≡ value 2 file (at + 1) → 65534 < word → Wrong CounterUnusable ≡ setting file at
+  unfolding setting need
+  setting-high word h e i = rw (le-leb _ _ h, ← e, lt-leb _ _ i) refl
+
+  -- a word to adjust
+  pub setting-there : (word : ℕ) → at + 3 ≤ length file → word ≡ value 2 file (at + 1) → word ≤ 65534 → Adjust word (at + 3) ≡ setting file at
+  unfolding setting need
+  setting-there word h e i = rw (le-leb _ _ h, ← e, le-leb _ _ i) refl
+
+-- ---- FE
+
+module _ (file : List ℕ) (table : List Slot) (at : ℕ) where
+  -- no number left
+  pub aiming-cut : length file < at + 2 → Wrong CutShort ≡ aiming file table at
+  unfolding aiming need
+  aiming-cut h = rw (lt-leb _ _ h) refl
+
+  module _ (number : ℕ) (h : at + 2 ≤ length file) (e : number ≡ getD file (at + 1) 0) where
+    -- no number of a block
+    pub aiming-unknown : 7 < number → Wrong NotKnown ≡ aiming file table at
+    unfolding aiming need
+    aiming-unknown i = rw (le-leb _ _ h, ← e, lt-leb _ _ i) refl
+
+    -- a block that is not there
+    pub aiming-missing : number ≤ 7 → slotAt table number .taken ≡ false → Wrong BlockMissing ≡ aiming file table at
+    unfolding aiming need
+    aiming-missing i t = rw (le-leb _ _ h, ← e, le-leb _ _ i, t) refl
+
+    -- the block's address
+    pub aiming-there : number ≤ 7 → slotAt table number .taken ≡ true → Move (slotAt table number .address) (at + 2) ≡ aiming file table at
+    unfolding aiming need
+    aiming-there i t = rw (le-leb _ _ h, ← e, le-leb _ _ i, t) refl
+
+-- ---- FF
+
+module _ (next : ℕ) (counter : Counter) where
+  -- nothing to add to
+  pub skipping-unset : counter ≡ Unset → Wrong CounterUnusable ≡ skipping next counter
+  skipping-unset e = rw e refl
+
+  -- a sum past the last address
+  pub skipping-high : (from : ℕ) → counter ≡ Set from → 65535 < from + skipped → Wrong CounterUnusable ≡ skipping next counter
+  unfolding need
+  skipping-high from e h = rw (e, lt-leb _ _ h) refl
+
+  -- the counter further on
+  pub skipping-there : (from : ℕ) → counter ≡ Set from → from + skipped ≤ 65535 → Move (from + skipped) next ≡ skipping next counter
+  unfolding need
+  skipping-there from e h = rw (e, le-leb _ _ h) refl
+
+-- ---- an item, by its byte
+
+module _ (file : List ℕ) (table : List Slot) (at : ℕ) (counter : Counter) where
+  -- none left
+  pub reading-cut : length file ≤ at → Wrong CutShort ≡ read file table at counter
+  unfolding read need
+  reading-cut h = rw (le-ltb _ _ h) refl
+
+  module _ (h : at < length file) where
+    pub reading-add : (r : Item) → getD file at 0 ≤ 0xFB → r ≡ adding (getD file at 0) (at + 1) counter → r ≡ read file table at counter
+    unfolding read need pick
+    reading-add r i e = rw (lt-ltb _ _ h, le-leb _ _ i) e
+
+    pub reading-end : getD file at 0 ≡ 0xFC → End (at + 1) ≡ read file table at counter
+    unfolding read need pick
+    reading-end i = rw (lt-ltb _ _ h, i) refl
+
+    pub reading-set : (r : Item) → getD file at 0 ≡ 0xFD → r ≡ setting file at → r ≡ read file table at counter
+    unfolding read need pick
+    reading-set r i e = rw (lt-ltb _ _ h, i) e
+
+    pub reading-aim : (r : Item) → getD file at 0 ≡ 0xFE → r ≡ aiming file table at → r ≡ read file table at counter
+    unfolding read need pick
+    reading-aim r i e = rw (lt-ltb _ _ h, i) e
+
+    pub reading-skip : (r : Item) → getD file at 0 ≡ 0xFF → r ≡ skipping (at + 1) counter → r ≡ read file table at counter
+    unfolding read need pick
+    reading-skip r i e = rw (lt-ltb _ _ h, i) e
+
+-- ---- an item lies in its file, and the word that it adjusts in memory
+
+-- where an item that begins at `at` ends, in a file of `len` bytes, and the counter of a word to adjust
+abbrev pub Where : ℕ → ℕ → Item → Type 0
+Where len at (Wrong fault) = Unit {0}
+Where len at (End next) = (at < next) × (next ≤ len)
+Where len at (Move counter next) = (at < next) × (next ≤ len)
+Where len at (Adjust counter next) = (at < next) × (next ≤ len) × (counter ≤ 65534)
+
+-- the same as a record, whose arguments antt finds by itself
+pub record Lies (len at : ℕ) (item : Item) : Type 0 where
+  pub lies : Where len at item
+
+-- a fault lies nowhere
+bad : (len at : ℕ) (fault : Fault) → Lies len at (Wrong fault)
+bad len at fault = record { lies = tt }
+
+-- 00 to FB
+adding-lies : (len at amount : ℕ) (counter : Counter) → at < len → Lies len at (adding amount (at + 1) counter)
+adding-lies len at amount Unset h = bad len at _
+adding-lies len at amount (Set from) h =
+    on-need Wrong (Lies len at) (bad _ _) _ _ _ (λ i. record { lies = (omega arith, omega arith, leb-true _ _ i) })
+
+-- FD
+setting-lies : (file : List ℕ) (at : ℕ) → Lies (length file) at (setting file at)
+unfolding setting
+setting-lies file at =
+    let P = Lies (length file) at in
+    on-need Wrong P (bad _ _) _ _ _
+    (λ h. on-need Wrong P (bad _ _) _ _ _
+    (λ i. record { lies = (omega arith, leb-true _ _ h, leb-true _ _ i) }))
+
+-- FE
+aiming-lies : (file : List ℕ) (table : List Slot) (at : ℕ) → Lies (length file) at (aiming file table at)
+unfolding aiming
+aiming-lies file table at =
+    let P = Lies (length file) at in
+    on-need Wrong P (bad _ _) _ _ _
+    (λ h. on-need Wrong P (bad _ _) _ _ _
+    (λ _. on-need Wrong P (bad _ _) _ _ _
+    (λ _. record { lies = (omega arith, leb-true _ _ h) })))
+
+-- FF
+skipping-lies : (len at : ℕ) (counter : Counter) → at < len → Lies len at (skipping (at + 1) counter)
+skipping-lies len at Unset h = bad len at _
+skipping-lies len at (Set from) h = on-need Wrong (Lies len at) (bad _ _) _ _ _ (λ _. record { lies = (omega arith, omega arith) })
+
+-- the item at an offset lies in the file, whatever its byte
+pub read-lies : (file : List ℕ) (table : List Slot) (at : ℕ) (counter : Counter) → Lies (length file) at (read file table at counter)
+unfolding read
+read-lies file table at counter =
+    let P = Lies (length file) at in
+    on-need Wrong P (bad _ _) _ _ _
+    (λ h. on-pick P _ _ _ (λ _. adding-lies (length file) at _ counter (ltb-true _ _ h))
+    (λ _. on-pick P _ _ _ (λ _. end-lies (ltb-true _ _ h))
+    (λ _. on-pick P _ _ _ (λ _. setting-lies file at)
+    (λ _. on-pick P _ _ _ (λ _. aiming-lies file table at)
+    (λ _. skipping-lies (length file) at counter (ltb-true _ _ h))))))
+  where
+    end-lies : at < length file → Lies (length file) at (End (at + 1))
+    end-lies h = record { lies = (omega arith, omega arith) }
+
+-- the same of an item known to be what is read
+pub lies-as : (file : List ℕ) (table : List Slot) (at : ℕ) (counter : Counter) (item : Item) → read file table at counter ≡ item
+    → Where (length file) at item
+lies-as file table at counter item e =
+    let h : Lies (length file) at item = rw (← e) (read-lies file table at counter) in
+    h .lies

@@ -1,0 +1,92 @@
+-- An update body, item by item, each over the map as the items before it left it.
+-- Assumes nothing.
+use mathlib.Core.Bool.{Bool, not, _&&_, _||_}
+use mathlib.Core.List.{List, [], _∷_}
+use Prim.Native.Nat.{ℕ, _+_, _-_}
+use lib.Dec.{eqb}
+use lib.ListN.{length, getD}
+use Rattle.answer.specs.Checks.{need}
+use Rattle.answer.specs.declared.Fault.{Fault}
+use Rattle.answer.specs.declared.Fault.the-variants.{CutShort, FieldNotLoaded, AdjustedTwice}
+use Rattle.events.specs.Events.{Event, adjust, placedMark, adjustedMark, adjustedIn, Ran, failed, passed}
+use Rattle.events.specs.Walk.{Turn, ends, leads, from}
+use Rattle.events.specs.declared.Check.{Check}
+use Rattle.events.specs.declared.Check.the-variants.{Passed, Failed}
+use Rattle.words.specs.Runs.{part, contains}
+use Rattle.updates.specs.Items.{read}
+use Rattle.updates.specs.declared.Counter.{Counter}
+use Rattle.updates.specs.declared.Counter.the-variants.{Unset, Set}
+use Rattle.updates.specs.declared.Ended.{Ended}
+use Rattle.updates.specs.declared.Ended.the-variants.{Broken, Done}
+use Rattle.updates.specs.declared.Item.{Item}
+use Rattle.updates.specs.declared.Item.the-variants.{Wrong, End, Move, Adjust}
+use Rattle.updates.specs.declared.Slot.{Slot}
+
+-- "marked 1 or 3"
+abbrev pub isLoaded : ℕ → Bool
+isLoaded mark = eqb mark placedMark || eqb mark adjustedMark
+
+-- both bytes of the word at an address are
+abbrev pub wordLoaded : List ℕ → ℕ → Bool
+wordLoaded map a = isLoaded (getD map a 0) && isLoaded (getD map (a + 1) 0)
+
+-- "both bytes marked 1 or 3 (12); neither marked 3 (13)"
+unfoldable pub adjusting : ℕ → ℕ → List ℕ → Ran Check
+adjusting amount a map =
+    need failed (wordLoaded map a) FieldNotLoaded
+    (need failed (not (contains adjustedMark (part map a 2))) AdjustedTwice
+    (passed (adjust 2 a amount ∷ [])))
+
+-- an item carried out: each listed word grows by one amount
+abbrev pub applied : ℕ → Item → List ℕ → Ran Check
+applied amount (Wrong fault) map = failed fault
+applied amount (End next) map = passed []
+applied amount (Move counter next) map = passed []
+applied amount (Adjust counter next) map = adjusting amount counter map
+
+-- where a body stands: the next item's offset, and the counter
+pub record Place : Type 0 where
+  pub at : ℕ
+  pub counter : Counter
+
+-- how a body ends: at a fault, or after its FC
+pub data Stop : Type 0 where
+  broken : Fault → Stop
+  done : ℕ → Stop
+
+abbrev pub judge : Check → Item → Turn Place Stop
+judge (Failed fault) item = ends (broken fault)
+judge Passed (Wrong fault) = ends (broken fault)
+judge Passed (End next) = ends (done next)
+judge Passed (Move counter next) = leads (record { at = next; counter = Set counter })
+judge Passed (Adjust counter next) = leads (record { at = next; counter = Set counter })
+
+-- one item: read, carried out, and where that leads
+unfoldable pub turn : List ℕ → List Slot → ℕ → Place → List ℕ → Ran (Turn Place Stop)
+turn file table amount s map =
+    let item = read file table (s .at) (s .counter) in
+    record { answer = judge (applied amount item map .answer) item; events = applied amount item map .events }
+
+-- (there is no item past the file's end)
+abbrev pub bytesLeft : List ℕ → Place → ℕ
+bytesLeft file s = length file - s .at
+
+-- the items from a place on
+unfoldable pub items : List ℕ → List Slot → ℕ → Place → List ℕ → Ran Stop
+items file table amount s map = from (turn file table amount) (λ z. broken CutShort) (bytesLeft file) s map
+
+-- "the counter is unset at each body's start"
+abbrev pub begun : ℕ → Place
+begun at = record { at = at; counter = Unset }
+
+-- a body from its first item
+abbrev pub body : List ℕ → List Slot → ℕ → ℕ → List ℕ → Ran Stop
+body file table amount at map = items file table amount (begun at) map
+
+-- with the number of fields adjusted
+abbrev pub counted : Stop → List Event → Ended
+counted (broken fault) es = Broken fault
+counted (done next) es = Done next (adjustedIn es)
+
+abbrev pub ended : Ran Stop → Ran Ended
+ended o = record { answer = counted (o .answer) (o .events); events = o .events }

@@ -1,0 +1,63 @@
+-- One item of an update body, with no map in mind: "00 to FB adds that amount, then adjusts the word at the counter. FC ends. FD with a word
+-- sets the counter there and adjusts. FE with a number sets it to that block's address and adjusts nothing. FF adds 250 and adjusts nothing."
+-- Assumes nothing.
+use mathlib.Core.List.{List}
+use Prim.Native.Nat.{ℕ, _+_}
+use mathlib.Core.Bool.{false}
+use lib.Dec.{ltb, leb, eqb}
+use lib.ListN.{length, getD}
+use Rattle.answer.specs.Checks.{need, pick}
+use Rattle.answer.specs.declared.Fault.the-variants.{CutShort, NotKnown, BlockMissing, CounterUnusable}
+use Rattle.words.specs.Numbers.{value}
+use Rattle.updates.specs.declared.Counter.{Counter}
+use Rattle.updates.specs.declared.Counter.the-variants.{Unset, Set}
+use Rattle.updates.specs.declared.Item.{Item}
+use Rattle.updates.specs.declared.Item.the-variants.{Wrong, End, Move, Adjust}
+use Rattle.updates.specs.declared.Slot.{Slot}
+
+-- the relocatable blocks so far stand in a table of eight slots, by their numbers; an empty slot:
+abbrev pub emptySlot : Slot
+emptySlot = record { taken = false; address = 0; offset = 0; size = 0 }
+
+abbrev pub slotAt : List Slot → ℕ → Slot
+slotAt table number = getD table number emptySlot
+
+-- 00 to FB: "counter set where one is added (11); counter at most .. 65,534 to adjust (11)"
+abbrev pub adding : ℕ → ℕ → Counter → Item
+adding amount next Unset = Wrong CounterUnusable
+adding amount next (Set counter) = need Wrong (leb (counter + amount) 65534) CounterUnusable (Adjust (counter + amount) next)
+
+-- FD: "present (5)", then "at most .. 65,534 to adjust (11)"
+unfoldable pub setting : List ℕ → ℕ → Item
+setting file at =
+    need Wrong (leb (at + 3) (length file)) CutShort
+    (need Wrong (leb (value 2 file (at + 1)) 65534) CounterUnusable
+    (Adjust (value 2 file (at + 1)) (at + 3)))
+
+-- FE: "present (5); for FE, number (6), block there (8)"
+unfoldable pub aiming : List ℕ → List Slot → ℕ → Item
+aiming file table at =
+    let slot = slotAt table (getD file (at + 1) 0) in
+    need Wrong (leb (at + 2) (length file)) CutShort
+    (need Wrong (leb (getD file (at + 1) 0) 7) NotKnown
+    (need Wrong (slot .taken) BlockMissing
+    (Move (slot .address) (at + 2))))
+
+-- "FF adds 250": "counter set where one is added (11); counter at most 65,535"
+abbrev pub skipped : ℕ
+skipped = 250
+
+abbrev pub skipping : ℕ → Counter → Item
+skipping next Unset = Wrong CounterUnusable
+skipping next (Set counter) = need Wrong (leb (counter + skipped) 65535) CounterUnusable (Move (counter + skipped) next)
+
+-- the item at an offset, with the counter as the items before it left it: "Each item: present (5)", and then as its byte says
+unfoldable pub read : List ℕ → List Slot → ℕ → Counter → Item
+read file table at counter =
+    let byte = getD file at 0 in
+    need Wrong (ltb at (length file)) CutShort
+    (pick (leb byte 0xFB) (adding byte (at + 1) counter)
+    (pick (eqb byte 0xFC) (End (at + 1))
+    (pick (eqb byte 0xFD) (setting file at)
+    (pick (eqb byte 0xFE) (aiming file table at)
+    (skipping (at + 1) counter)))))

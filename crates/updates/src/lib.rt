@@ -1,0 +1,264 @@
+// Update bodies: the items that move a counter through memory and adjust the words there, over a lent memory and map.
+use answer::Fault;
+use events::Check;
+ghost use mathlib.Core.Path.{_≡_};
+ghost use Prim.Native.Nat.{ℕ, _+_, _≤_};
+ghost use lib.ListN.{length};
+ghost use Rattle.events.specs.Events.{Did};
+ghost use Rattle.updates.specs.Items.{adding, setting, aiming, skipping, read as readOf};
+ghost use Rattle.updates.specs.Bodies.{isLoaded, wordLoaded, adjusting, applied, body as bodyOf, ended};
+ghost use Rattle.updates.specs.Cursor.{begun, advanced};
+ghost use Rattle.updates.specs.declared.Item.the-variants.{Adjust};
+
+// The mark of an adjusted byte.
+const ADJUSTED: u8 = 3;
+
+// What FF adds to the counter.
+const SKIP: usize = 250;
+
+// The slot of a relocatable block: whether there is one of this number, its address, its offset and its size.
+pub struct Slot {
+    pub taken: bool,
+    pub address: u16,
+    pub offset: u16,
+    pub size: u16,
+}
+
+// The counter of a body.
+pub enum Counter {
+    Unset,
+    Set(u16),
+}
+
+// What an item says: the body's end, a counter that only moves, or one where a word is adjusted; and where the next item begins.
+pub enum Item {
+    Wrong(Fault),
+    End(usize),
+    Move { counter: u16, next: usize },
+    Adjust { counter: u16, next: usize },
+}
+
+// How a body ends: at a fault, or with the offset after it and the number of words adjusted.
+pub enum Ended {
+    Broken(Fault),
+    Done { next: usize, adjusted: usize },
+}
+
+// Where a body stands: the next item's offset, the counter, and the words adjusted so far.
+pub struct Cursor {
+    pub at: usize,
+    pub counter: Counter,
+    pub adjusted: usize,
+}
+
+// A body from its first item, which begins at `at`: each word that it lists grows by the amount.
+pub fn body(
+    file: &[u8],
+    table: [Slot; 8],
+    amount: u16,
+    at: usize,
+    write: bool,
+    memory: &mut [u8],
+    map: &mut [u8],
+) -> Ended
+    requires { ⌜ (length (now file) ≤ 65536) × (at ≤ length (now file)) × (length (now memory) ≡ 65536) × (length (now map) ≡ 65536) ⌝ }
+    ensures { λ r. ⌜ Did Ended (ended (bodyOf (now (file .entry)) table amount at (now (map .entry)))) write (now (memory .entry)) (now (map .entry)) r (now (memory .exit)) (now (map .exit)) ⌝ }
+{
+    let mut cursor = begin(at);
+    loop {
+        let counter = cursor.counter;
+        let item = read(file, table, cursor.at, counter);
+        let check = apply(item, amount, write, memory, map);
+        if let Check::Failed(fault) = check {
+            return Ended::Broken(fault);
+        }
+        if let Item::End(next) = item {
+            return Ended::Done {
+                next,
+                adjusted: cursor.adjusted,
+            };
+        }
+        cursor = advance(cursor, item);
+    }
+}
+
+// Whether the word at `at` is marked as loaded, in both bytes.
+pub fn word_loaded(map: &[u8], at: usize) -> bool
+    requires { ⌜ at + 2 ≤ length (now map) ⌝ }
+    ensures { λ r. ⌜ r ≡ wordLoaded (now (map .entry)) at ⌝ }
+{
+    let first = is_loaded(map[at]);
+    if !first {
+        return false;
+    }
+    is_loaded(map[at + 1])
+}
+
+// Whether a mark is that of a loaded byte: placed, or adjusted since.
+fn is_loaded(mark: u8) -> bool
+    ensures { λ r. ⌜ r ≡ isLoaded mark ⌝ }
+{
+    match mark {
+        1 => true,
+        3 => true,
+        _ => false,
+    }
+}
+
+// The item at `at`.
+fn read(file: &[u8], table: [Slot; 8], at: usize, counter: Counter) -> Item
+    requires { ⌜ length (now file) ≤ 65536 ⌝ }
+    ensures { λ r. ⌜ r ≡ readOf (now (file .entry)) table at counter ⌝ }
+{
+    if file.len() <= at {
+        return Item::Wrong(Fault::CutShort);
+    }
+    let byte = file[at];
+    match byte {
+        0..=251 => add(byte, at + 1, counter),
+        252 => Item::End(at + 1),
+        253 => set(file, at),
+        254 => aim(file, table, at),
+        255 => skip(at + 1, counter),
+    }
+}
+
+// 00 to FB: the amount on the counter, where a word is then adjusted.
+fn add(amount: u8, next: usize, counter: Counter) -> Item
+    ensures { λ r. ⌜ r ≡ adding amount next counter ⌝ }
+{
+    match counter {
+        Counter::Unset => Item::Wrong(Fault::CounterUnusable),
+        Counter::Set(from) => {
+            let to = from as usize + amount as usize;
+            if 65534 < to {
+                return Item::Wrong(Fault::CounterUnusable);
+            }
+            Item::Adjust {
+                counter: to as u16,
+                next,
+            }
+        }
+    }
+}
+
+// FD: the counter set by a word, and the word there adjusted.
+fn set(file: &[u8], at: usize) -> Item
+    requires { ⌜ (at ≤ length (now file)) × (length (now file) ≤ 65536) ⌝ }
+    ensures { λ r. ⌜ r ≡ setting (now (file .entry)) at ⌝ }
+{
+    let next = at + 3;
+    if file.len() < next {
+        return Item::Wrong(Fault::CutShort);
+    }
+    let counter = words::word_at(file, at + 1);
+    if 65534 < counter {
+        return Item::Wrong(Fault::CounterUnusable);
+    }
+    Item::Adjust { counter, next }
+}
+
+// FE: the counter set to the address of a block.
+fn aim(file: &[u8], table: [Slot; 8], at: usize) -> Item
+    requires { ⌜ (at ≤ length (now file)) × (length (now file) ≤ 65536) ⌝ }
+    ensures { λ r. ⌜ r ≡ aiming (now (file .entry)) table at ⌝ }
+{
+    let next = at + 2;
+    if file.len() < next {
+        return Item::Wrong(Fault::CutShort);
+    }
+    let number = words::wide(file[at + 1]);
+    if 7 < number {
+        return Item::Wrong(Fault::NotKnown);
+    }
+    let slot = table[number];
+    if !slot.taken {
+        return Item::Wrong(Fault::BlockMissing);
+    }
+    Item::Move {
+        counter: slot.address,
+        next,
+    }
+}
+
+// FF: the counter further on.
+fn skip(next: usize, counter: Counter) -> Item
+    ensures { λ r. ⌜ r ≡ skipping next counter ⌝ }
+{
+    match counter {
+        Counter::Unset => Item::Wrong(Fault::CounterUnusable),
+        Counter::Set(from) => {
+            let to = from as usize + SKIP;
+            if 65535 < to {
+                return Item::Wrong(Fault::CounterUnusable);
+            }
+            Item::Move {
+                counter: to as u16,
+                next,
+            }
+        }
+    }
+}
+
+// The item carried out.
+fn apply(item: Item, amount: u16, write: bool, memory: &mut [u8], map: &mut [u8]) -> Check
+    requires { ⌜ ((counter next : ℕ) → item ≡ Adjust counter next → counter ≤ 65534) × (length (now memory) ≡ 65536) × (length (now map) ≡ 65536) ⌝ }
+    ensures { λ r. ⌜ Did Check (applied amount item (now (map .entry))) write (now (memory .entry)) (now (map .entry)) r (now (memory .exit)) (now (map .exit)) ⌝ }
+{
+    match item {
+        Item::Wrong(fault) => Check::Failed(fault),
+        Item::End(next) => Check::Passed,
+        Item::Move { counter, next } => Check::Passed,
+        Item::Adjust { counter, next } => adjust(counter as usize, amount, write, memory, map),
+    }
+}
+
+// The word at `at`, loaded and not adjusted since.
+fn adjust(at: usize, amount: u16, write: bool, memory: &mut [u8], map: &mut [u8]) -> Check
+    requires { ⌜ (at ≤ 65534) × (length (now memory) ≡ 65536) × (length (now map) ≡ 65536) ⌝ }
+    ensures { λ r. ⌜ Did Check (adjusting amount at (now (map .entry))) write (now (memory .entry)) (now (map .entry)) r (now (memory .exit)) (now (map .exit)) ⌝ }
+{
+    let loaded = word_loaded(map, at);
+    if !loaded {
+        return Check::Failed(Fault::FieldNotLoaded);
+    }
+    let end = at + 2;
+    let adjusted = words::contains(&map[at..end], ADJUSTED);
+    if adjusted {
+        return Check::Failed(Fault::AdjustedTwice);
+    }
+    events::adjust_word(at, amount, write, memory, map);
+    Check::Passed
+}
+
+// The cursor of a body that begins at `at`.
+fn begin(at: usize) -> Cursor
+    ensures { λ r. ⌜ r ≡ begun at ⌝ }
+{
+    Cursor {
+        at,
+        counter: Counter::Unset,
+        adjusted: 0,
+    }
+}
+
+// The cursor after an item that passed and is not the last.
+fn advance(cursor: Cursor, item: Item) -> Cursor
+    requires { ⌜ cursor .adjusted ≤ 65536 ⌝ }
+    ensures { λ r. ⌜ r ≡ advanced cursor item ⌝ }
+{
+    match item {
+        Item::Wrong(fault) => cursor,
+        Item::End(next) => cursor,
+        Item::Move { counter, next } => Cursor {
+            at: next,
+            counter: Counter::Set(counter),
+            adjusted: cursor.adjusted,
+        },
+        Item::Adjust { counter, next } => Cursor {
+            at: next,
+            counter: Counter::Set(counter),
+            adjusted: cursor.adjusted + 1,
+        },
+    }
+}
