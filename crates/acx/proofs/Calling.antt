@@ -32,11 +32,6 @@ pub form-device : (n : ℕ) → (n ≡ 0 → ⊥) → Device ≡ formOf n
 form-device zero h = absurd (h refl)
 form-device (suc n) h = refl
 
--- a map of the right length, all zero
-pub cleared : (n : ℕ) (p : List ℕ) → n ≡ 65536 → p ≡ replicate n 0 → p ≡ blank
-unfolding blank
-cleared n p l e = e ∙ ap (λ (k : ℕ). replicate k 0) l
-
 -- ---- the opening and the records
 
 module _ (form : Form) (file : List ℕ) (b : Bases) (write : Bool) (m : List ℕ) (c : Check) (o : c ≡ opening form file) where

@@ -1,11 +1,11 @@
 -- Where what a block says lies, whatever the file: past the block's offset and in the file, in memory, in the table or in a list of names.
 -- Assumes nothing.
-use mathlib.Core.Bool.{Bool, true, false}
+use mathlib.Core.Bool.{Bool, true, false, not, _&&_, false≢true}
 use mathlib.Core.List.{List}
 use mathlib.Core.Path.{_≡_, refl}
 use Prim.Native.Nat.{ℕ, _+_, _-_, _*_, _/_, _%_, _≤_, _<_}
 use native.Mathlib.Omega.{arith}
-use borrow.Author.Tests.{leb-true}
+use borrow.Author.Tests.{leb-true, ltb-true}
 use lib.Dec.{ltb, leb}
 use lib.ListN.{length, getD}
 use Rattle.answer.proofs.Checks.{on-need, on-pick}
@@ -15,17 +15,23 @@ use Rattle.names.proofs.Searching.{own-inside, lent-inside}
 use Rattle.names.specs.Names.{lookUp}
 use Rattle.names.specs.declared.Definition.{Definition}
 use Rattle.names.specs.declared.Definition.the-variants.{Missing, New, Lent}
+use Rattle.updates.specs.Items.{slotAt}
 use Rattle.words.specs.Numbers.{value}
 use Rattle.words.specs.Runs.{part}
-use Rattle.blocks.specs.Blocks.{readPlain, readRoom, readRelocatable, readUpdate, byDefinition, readNames, readAddress, readNewName, Marker, plain, names, newName, update, relocatable, firstMarker, markers, readAs, read}
+use Rattle.blocks.specs.Blocks.{readPlain, mostBlocks, readRoom, readRelocatable, readUpdate, byDefinition, readNames, readAddress, readNewName, Marker, plain, names, newName, update, relocatable, firstMarker, markers, readAs, read}
 use Rattle.blocks.specs.Bounds.{Fits}
 use Rattle.blocks.specs.declared.Block.{Block}
 use Rattle.blocks.specs.declared.Block.the-variants.{Faulty}
 use Rattle.blocks.specs.declared.Cursor.{Cursor}
 
+-- the second of two tests that hold
+second : (a b : Bool) → a && b ≡ true → b ≡ true
+second true b e = e
+second false b e = absurd (false≢true e)
+
 module _ (file : List ℕ) (high : ℕ) (lent own : List ℕ) (c : Cursor) where
   abbrev Lain : Block → Type 0
-  Lain b = Fits (length file) (c .at) (c .low) (length lent / 8) (length own / 8) b
+  Lain b = Fits (length file) c (length lent / 8) (length own / 8) b
 
   checked : (check : Bool) (fault : Fault) (b : Block) → (check ≡ true → Lain b) → Lain (need Faulty check fault b)
   checked = on-need Faulty Lain (λ fault. record { lies = tt })
@@ -42,7 +48,8 @@ module _ (file : List ℕ) (high : ℕ) (lent own : List ℕ) (c : Cursor) where
       (λ i. checked _ _ _
       (λ j. checked _ _ _
       (λ k. let below : c .low + value 2 file (c .at + 6) ≤ high = leb-true _ _ k in
-      record { lies = (omega arith, leb-true _ _ j, omega arith, omega arith) })))
+      let left = second (not (slotAt (c .table) number .taken)) (ltb (c .count) mostBlocks) i in
+      record { lies = (omega arith, leb-true _ _ j, omega arith, omega arith, ltb-true _ _ left) })))
 
   relocatable-lies : high ≤ 65535 → Lain (readRelocatable file high c)
   unfolding readRelocatable
@@ -77,7 +84,7 @@ module _ (file : List ℕ) (high : ℕ) (lent own : List ℕ) (c : Cursor) where
       (λ i. checked _ _ _
       (λ j. checked _ _ _
       (λ k. checked _ _ _
-      (λ l. let header : c .at + 13 ≤ length file = leb-true _ _ h in record { lies = (omega arith, omega arith) })))))
+      (λ l. let header : c .at + 13 ≤ length file = leb-true _ _ h in record { lies = (omega arith, omega arith, ltb-true _ _ l) })))))
 
   marked-lies : high ≤ 65535 → (m : Marker) → Lain (readAs file high lent own c m)
   marked-lies h plain = plain-lies (c .at + 2) (omega arith)
@@ -86,6 +93,6 @@ module _ (file : List ℕ) (high : ℕ) (lent own : List ℕ) (c : Cursor) where
   marked-lies h update = update-lies
   marked-lies h relocatable = relocatable-lies h
 
-  pub read-lies : high ≤ 65535 → Fits (length file) (c .at) (c .low) (length lent / 8) (length own / 8) (read file high lent own c)
+  pub read-lies : high ≤ 65535 → Fits (length file) c (length lent / 8) (length own / 8) (read file high lent own c)
   unfolding read
   read-lies h = checked _ _ _ (λ i. on-pick Lain _ _ _ (λ j. plain-lies (c .at) (omega arith)) (λ j. marked-lies h (getD markers (value 2 file (c .at) - firstMarker) plain)))

@@ -7,9 +7,10 @@ use Prim.Native.Nat.{ℕ, _+_, _≤_, _<_}
 use Rattle.updates.specs.Items.{slotAt}
 use Rattle.updates.specs.declared.Slot.{Slot}
 use Rattle.names.specs.Names.{nameSize}
-use Rattle.blocks.specs.Blocks.{dataSize}
+use Rattle.blocks.specs.Blocks.{dataSize, mostBlocks, mostNames}
 use Rattle.blocks.specs.declared.Block.{Block}
 use Rattle.blocks.specs.declared.Block.the-variants.{Plain, Relocatable, Update, NewName, Faulty}
+use Rattle.blocks.specs.declared.Cursor.{Cursor}
 use Rattle.blocks.specs.declared.Source.{Source}
 use Rattle.blocks.specs.declared.Source.the-variants.{Number, LentName, OwnName}
 
@@ -27,14 +28,15 @@ Listed lent own (OwnName i) = i < own
 pub record InMemory (b : Block) : Type 0 where
   pub ends : (address from size : ℕ) → b ≡ Plain address from size → address + size ≤ 65536
 
--- what a block says begins past its offset, and lies in a file of so many bytes, below 65,536, and in the lists of so many names
-abbrev pub Lies : ℕ → ℕ → ℕ → ℕ → ℕ → Block → Type 0
-Lies len at low lent own (Plain address from size) = (at < from) × (from + size ≤ len)
-Lies len at low lent own (Relocatable reserves number offset from size) =
-    (at < from) × (from + dataSize reserves size ≤ len) × (low + size ≤ 65535) × (number < 8)
-Lies len at low lent own (Update source from) = (at < from) × (from ≤ len) × Listed lent own source
-Lies len at low lent own (NewName from address) = (at < from) × (from + nameSize ≤ len)
-Lies len at low lent own (Faulty fault) = Unit {0}
+-- what a block at a cursor says begins past its offset and lies in a file of so many bytes, below 65,536, in the lists of so many names; and
+-- there is a block or a name left for it
+abbrev pub Lies : ℕ → Cursor → ℕ → ℕ → Block → Type 0
+Lies len c lent own (Plain address from size) = (c .at < from) × (from + size ≤ len)
+Lies len c lent own (Relocatable reserves number offset from size) =
+    (c .at < from) × (from + dataSize reserves size ≤ len) × (c .low + size ≤ 65535) × (number < 8) × (c .count < mostBlocks)
+Lies len c lent own (Update source from) = (c .at < from) × (from ≤ len) × Listed lent own source
+Lies len c lent own (NewName from address) = (c .at < from) × (from + nameSize ≤ len) × (c .named < mostNames)
+Lies len c lent own (Faulty fault) = Unit {0}
 
-pub record Fits (len at low lent own : ℕ) (b : Block) : Type 0 where
-  pub lies : Lies len at low lent own b
+pub record Fits (len : ℕ) (c : Cursor) (lent own : ℕ) (b : Block) : Type 0 where
+  pub lies : Lies len c lent own b

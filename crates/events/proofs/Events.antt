@@ -12,7 +12,7 @@ use Rattle.words.proofs.Lent.{lent-is, back-is}
 use Rattle.words.proofs.Runs.{length-put, length-part}
 use Rattle.words.specs.Numbers.{on, change}
 use Rattle.words.specs.Runs.{put}
-use Rattle.events.specs.Events.{Event, place, reserve, adjust, playOne, play, markOne, marks, placedIn, adjustedIn, Ran, playIf, Reached, Did}
+use Rattle.events.specs.Events.{Event, place, reserve, adjust, playOne, play, markOne, marks, blank, placedIn, adjustedIn, Ran, playIf, Reached, Did}
 
 -- ---- one list after another
 
@@ -88,6 +88,13 @@ reached-more es write m₀ p₀ m p m′ p′ o r h d =
       memory = d .memory ∙ ap (λ (t : List ℕ). playIf write (o .events) t) (h .memory) ∙ sym (play-if-append write es (o .events) m₀);
       map = d .map ∙ ap (λ (t : List ℕ). marks (o .events) t) (h .map) ∙ sym (marks-append es (o .events) p₀);
     }
+
+-- ---- the clear map
+
+-- a map of the right length, all zero
+pub cleared : (n : ℕ) (p : List ℕ) → n ≡ 65536 → p ≡ replicate n 0 → p ≡ blank
+unfolding blank
+cleared n p l e = e ∙ ap (λ (k : ℕ). replicate k 0) l
 
 -- ---- parts that were lent
 

@@ -3,7 +3,8 @@
 -- Assumes nothing.
 use mathlib.Core.Path.{_∙_}
 use borrow.Author.Needs.{needs}
-use Rattle.acx.proofs.Calling.{cleared, carried-refused, carried-accepted}
+use Rattle.events.proofs.Events.{cleared}
+use Rattle.acx.proofs.Calling.{carried-refused, carried-accepted}
 use Rattle.acx.proofs.load_sized.Statement.{statement}
 use Rattle.acx.proofs.load_sized.Tie as tie
 

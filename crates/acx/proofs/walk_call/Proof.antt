@@ -4,7 +4,8 @@ use mathlib.Core.Path.{sym, _∙_}
 use native.Mathlib.Omega.{arith}
 use borrow.Author.Needs.{needs}
 use borrow.Author.Tests.{not-true, not-false}
-use Rattle.acx.proofs.Calling.{cleared, range-bounds, call-range, call-long, call-walked}
+use Rattle.events.proofs.Events.{cleared}
+use Rattle.acx.proofs.Calling.{range-bounds, call-range, call-long, call-walked}
 use Rattle.acx.proofs.walk_call.Statement.{statement}
 use Rattle.acx.proofs.walk_call.Tie as tie
 use Rattle.acx.specs.Call.{settings}

@@ -2,7 +2,7 @@
 -- Assumes nothing.
 use mathlib.Core.Path.{_∙_}
 use borrow.Author.Needs.{needs}
-use Rattle.acx.proofs.Calling.{cleared}
+use Rattle.events.proofs.Events.{cleared}
 use Rattle.mover.proofs.Overlay.{length-map, overlaid-moved}
 use Rattle.mover.proofs.carry.Statement.{statement}
 use Rattle.mover.proofs.carry.Tie as tie

@@ -2,7 +2,7 @@
 -- Assumes nothing.
 use mathlib.Core.Path.{_∙_}
 use borrow.Author.Needs.{needs}
-use Rattle.acx.proofs.Calling.{cleared}
+use Rattle.events.proofs.Events.{cleared}
 use Rattle.mover.proofs.Judging.{side-refused, side-accepted}
 use Rattle.mover.proofs.judge_side.Statement.{statement}
 use Rattle.mover.proofs.judge_side.Tie as tie

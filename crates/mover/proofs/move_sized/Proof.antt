@@ -3,7 +3,7 @@
 -- Assumes nothing.
 use mathlib.Core.Path.{_∙_}
 use borrow.Author.Needs.{needs}
-use Rattle.acx.proofs.Calling.{cleared}
+use Rattle.events.proofs.Events.{cleared}
 use Rattle.mover.proofs.Judging.{judged-allows, done-refused, done-moved}
 use Rattle.mover.proofs.Rulings.{ranges}
 use Rattle.mover.proofs.move_sized.Statement.{statement}

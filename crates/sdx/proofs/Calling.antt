@@ -1,0 +1,309 @@
+-- A load as a whole, over plain values: the two walks, the acceptance, the settings and the lengths.
+-- Assumes nothing.
+use mathlib.Core.Bool.{Bool, true, false, _&&_, false≢true}
+use mathlib.Core.List.{List, [], _++_, append-nil}
+use mathlib.Core.Path.{_≡_, refl, sym, ap, _∙_}
+use Prim.Native.Nat.{ℕ, _+_, _-_, _*_, _≤_, _<_}
+use native.Mathlib.Omega.{arith}
+use borrow.Author.Tests.{le-leb, lt-leb, leb-true, eqb-true, eqb-false}
+use borrow.Rule.Slice.PartMut.{midOf, putMid}
+use lib.Dec.{leb, eqb}
+use lib.ListN.{length, replicate, take, drop, length-replicate, drop-of-length-le}
+use lib.Seq.{sets-eq}
+use Rattle.answer.proofs.Checks.{on-need}
+use Rattle.answer.specs.Checks.{need, pick}
+use Rattle.answer.specs.Report.{placedOf, adjustedOf}
+use Rattle.answer.specs.declared.Fault.{Fault}
+use Rattle.answer.specs.declared.Fault.the-variants.{WrongBuffer, SettingOutOfRange, FileTooLong, CutShort}
+use Rattle.answer.specs.declared.Outcome.{Outcome}
+use Rattle.answer.specs.declared.Outcome.the-variants.{Accepted, Refused}
+use Rattle.answer.specs.declared.Start.{Start}
+use Rattle.answer.specs.declared.Start.the-variants.{Absent}
+use Rattle.events.proofs.Events.{placed-append, adjusted-append}
+use Rattle.events.proofs.Walks.{walk-keeps}
+use Rattle.events.specs.Events.{Event, play, marks, blank, placedIn, adjustedIn, Ran}
+use Rattle.events.specs.Walk.{Turn, ends, leads}
+use Rattle.events.specs.declared.Check.{Check}
+use Rattle.events.specs.declared.Check.the-variants.{Passed, Failed}
+use Rattle.updates.specs.Bodies.{Stop, broken, done}
+use Rattle.words.proofs.Lent.{lent-is, back-is}
+use Rattle.words.proofs.Runs.{part-put, length-part}
+use Rattle.words.specs.Runs.{part, put}
+use Rattle.sdx.proofs.Going.{stopped-finished, namedIn, placedTo, adjustedTo}
+use Rattle.sdx.proofs.Rooms.{front-holds}
+use Rattle.sdx.proofs.Turning.{led-ends, turn-falls, turn-end, turn-block}
+use Rattle.sdx.specs.Call.{ranged, inRange, listed, sized, load, call, startIn, report, filledUp, Rooms, rooms, Carried, right, Loaded}
+use Rattle.sdx.specs.Parts.{walked, progressOf, Went, Reported}
+use Rattle.sdx.specs.Walk.{Given, Progress, Verdict, finished, refused, judge, blockAt, outcomeAt, turn, bytesLeft, blocksFrom, begun, blocksOf, atOnce, opening, opened, judged}
+use Rattle.sdx.specs.declared.Walked.{Walked}
+use Rattle.sdx.specs.declared.Walked.the-variants.{Stopped, Finished}
+
+-- both of two tests hold
+pub and-true : (a b : Bool) → a && b ≡ true → (a ≡ true) × (b ≡ true)
+and-true true b e = (refl, e)
+and-true false b e = absurd (false≢true e)
+
+abbrev isFinished : Verdict → ℕ
+isFinished (finished z) = 1
+isFinished (refused fault z) = 0
+
+pub refused-finished : {fault : Fault} {y z : Progress} → refused fault y ≡ finished z → ⊥
+refused-finished e = let n : _≡_ {A = ℕ} 0 1 = ap isFinished e in omega arith
+
+-- ---- the rest of a room is cleared
+
+-- a room whose end from k on was filled with zeros
+pub rest-cleared : (n k : ℕ) (l w : List ℕ) → k ≤ n → length l ≡ n → w ≡ replicate (length (midOf k (n - k) l)) 0
+    → putMid k (n - k) l w ≡ filledUp n (part l 0 k)
+unfolding put part
+rest-cleared n k l w h e f =
+    let size : n - k ≡ k + (n - k) - k = omega arith in
+    let inside : k + (n - k) ≤ length l = omega (arith, e) in
+    let lent : length (midOf k (n - k) l) ≡ n - k =
+    ap (λ (i : ℕ). length (midOf k i l)) size ∙ ap length (lent-is k (n - k) l) ∙ length-part l k (n - k) inside in
+    let is : w ≡ replicate (n - k) 0 = f ∙ ap (λ (i : ℕ). replicate i 0) lent in
+    let long : length w ≡ n - k = ap length is ∙ length-replicate (n - k) 0 in
+    let front : length (take k (drop 0 l)) ≡ k = length-part l 0 k (omega (arith, e)) in
+    let past : length l ≤ k + length w = omega (arith, e, long) in
+    let none : drop (k + length w) l ≡ [] = drop-of-length-le l past in
+    ap (λ (i : ℕ). putMid k i l w) size
+    ∙ back-is k (n - k) l w inside long
+    ∙ sets-eq w l k (omega (arith, e, long))
+    ∙ ap (λ (r : List ℕ). take k l ++ w ++ r) none
+    ∙ append-nil (take k l ++ w)
+    ∙ ap (λ (r : List ℕ). take k l ++ r) is
+    ∙ ap (λ (i : ℕ). take k l ++ replicate (n - i) 0) (sym front)
+
+-- an acceptance, with both rooms
+pub reported-as : {low named placed adjusted : ℕ} {m p ns ads ns′ ads′ : List ℕ} {start : Start} → start ≡ startIn p m
+    → ns′ ≡ filledUp 256 (part ns 0 (8 * named)) → ads′ ≡ filledUp 32 (part ads 0 named)
+    → Reported low named placed adjusted (rooms m p ns ads) (Accepted start placed adjusted named low) ns′ ads′
+reported-as e f g = record { outcome = rw e refl; names = f; addresses = g }
+
+-- ---- first checked, then carried out
+
+-- what a stopped walk is reported as
+abbrev refusal : Walked → Outcome
+refusal (Stopped fault offset) = Refused fault offset 0
+refusal (Finished low named placed adjusted) = Accepted Absent 0 0 0 0
+
+abbrev lowIn : Walked → ℕ
+lowIn (Stopped fault offset) = 0
+lowIn (Finished low named placed adjusted) = low
+
+accepted-same : {start t : Start} {a b i j k l n q : ℕ} → start ≡ t → a ≡ b → i ≡ j → k ≡ l → n ≡ q → Accepted start a i k n ≡ Accepted t b j l q
+accepted-same e f g h i = rw (e, f, g, h, i) refl
+
+-- (memory was not written while the file was checked)
+module _ {o : Ran Verdict} {m p ns ads m₁ p₁ ns₁ ads₁ dry-names dry-addresses : List ℕ} {r₁ : Walked}
+    (first : Went o false (rooms m p dry-names dry-addresses) r₁ (rooms m₁ p₁ ns₁ ads₁)) where
+  pub carried-refused : {fault : Fault} {offset : ℕ} {p′ : List ℕ} → r₁ ≡ Stopped fault offset → p′ ≡ blank
+      → Carried o (rooms m p ns ads) (Refused fault offset 0) (rooms m₁ p′ ns ads)
+  carried-refused {fault} {offset} {p′} e clear = by (o .answer) refl
+    where
+      by : (v : Verdict) → o .answer ≡ v → Carried o (rooms m p ns ads) (Refused fault offset 0) (rooms m₁ p′ ns ads)
+      by (finished z) f = absurd (stopped-finished (sym e ∙ first .did .answer ∙ ap (λ (v : Verdict). walked v (o .events)) f))
+      by (refused k z) f =
+          record {
+            outcome = rw f (ap refusal (sym e ∙ first .did .answer ∙ ap (λ (v : Verdict). walked v (o .events)) f));
+            memory = rw f (first .did .memory);
+            map = rw f clear;
+            names = rw f refl;
+            addresses = rw f refl;
+          }
+
+  -- the second walk does what the first one found, and the acceptance reports it
+  pub carried-accepted : {low named placed adjusted : ℕ} {p₀ m₂ p₂ ns₂ ads₂ ns₃ ads₃ : List ℕ} {r₂ : Walked} {r : Outcome}
+      → r₁ ≡ Finished low named placed adjusted → length ns ≡ 256 → length ads ≡ 32
+      → p₀ ≡ blank → Went o true (rooms m₁ p₀ ns ads) r₂ (rooms m₂ p₂ ns₂ ads₂)
+      → Reported low named placed adjusted (rooms m₂ p₂ ns₂ ads₂) r ns₃ ads₃
+      → Carried o (rooms m p ns ads) r (rooms m₂ p₂ ns₃ ads₃)
+  carried-accepted {low} {named} {placed} {adjusted} {p₀} {m₂} {p₂} {ns₂} {ads₂} {ns₃} {ads₃} {r₂} {r} e room spots clear second told = by (o .answer) refl
+    where
+      by : (v : Verdict) → o .answer ≡ v → Carried o (rooms m p ns ads) r (rooms m₂ p₂ ns₃ ads₃)
+      by (refused k z) f = absurd (stopped-finished (sym (ap (λ (v : Verdict). walked v (o .events)) f) ∙ sym (first .did .answer) ∙ e))
+      by (finished z) f =
+          let w : Finished low named placed adjusted ≡ walked (finished z) (o .events) =
+          sym e ∙ first .did .answer ∙ ap (λ (v : Verdict). walked v (o .events)) f in
+          let n : named ≡ length (z .addresses) = ap namedIn w in
+          let few : named ≤ 32 = first .bounded low named placed adjusted e .0 in
+          let bytes : length (z .names) ≡ 8 * named =
+          ap (λ (v : Verdict). length (progressOf v .names)) (sym f) ∙ first .eights
+          ∙ ap (λ (v : Verdict). 8 * length (progressOf v .addresses)) f ∙ ap (λ (i : ℕ). 8 * i) (sym n) in
+          let memory : m₂ ≡ play (o .events) m = second .did .memory ∙ ap (λ (t : List ℕ). play (o .events) t) (first .did .memory) in
+          let map : p₂ ≡ marks (o .events) blank = second .did .map ∙ ap (λ (q : List ℕ). marks (o .events) q) clear in
+          let names : part ns₂ 0 (8 * named) ≡ z .names =
+          front-holds ns (z .names) ns₂ (8 * named) (second .names ∙ ap (λ (v : Verdict). put ns 0 (progressOf v .names)) f) bytes
+          (omega (arith, room, few)) in
+          let addresses : part ads₂ 0 named ≡ z .addresses =
+          front-holds ads (z .addresses) ads₂ named (second .addresses ∙ ap (λ (v : Verdict). put ads 0 (progressOf v .addresses)) f) (sym n)
+          (omega (arith, spots, few)) in
+          record {
+            outcome = rw f
+                (told .outcome
+                ∙ accepted-same (ap (λ (q : List ℕ). startIn q m₂) map ∙ ap (λ (t : List ℕ). startIn (marks (o .events) blank) t) memory)
+                (ap placedTo w) (ap adjustedTo w) n (ap lowIn w));
+            memory = rw f memory;
+            map = rw f map;
+            names = rw f (told .names ∙ ap (λ (l : List ℕ). filledUp 256 l) names);
+            addresses = rw f (told .addresses ∙ ap (λ (l : List ℕ). filledUp 32 l) addresses);
+          }
+
+-- ---- the settings, the file's length and its opening
+
+module _ (file : List ℕ) (g : Given) where
+  pub load-range : inRange g ≡ false → load file g ≡ atOnce g SettingOutOfRange
+  unfolding load need
+  load-range h = rw h refl
+
+  pub load-long : inRange g ≡ true → 65536 < length file → load file g ≡ atOnce g FileTooLong
+  unfolding load need
+  load-long h i = rw (h, lt-leb _ _ i) refl
+
+  pub load-opening : inRange g ≡ true → length file ≤ 65536 → (fault : Fault) → opening file ≡ Failed fault → load file g ≡ atOnce g fault
+  unfolding load need judged
+  load-opening h i fault e = rw (h, le-leb _ _ i, e) refl
+
+  pub load-blocks : inRange g ≡ true → length file ≤ 65536 → opening file ≡ Passed → load file g ≡ blocksOf file g
+  unfolding load need judged
+  load-blocks h i e = rw (h, le-leb _ _ i, e) refl
+
+  module _ {m p ns ads : List ℕ} where
+    pub sized-refused : {fault : Fault} {r : Outcome} {p′ : List ℕ} → load file g ≡ atOnce g fault → r ≡ Refused fault 0 0 → p′ ≡ blank
+        → Carried (load file g) (rooms m p ns ads) r (rooms m p′ ns ads)
+    sized-refused e f clear = rw e (record { outcome = f; memory = refl; map = clear; names = refl; addresses = refl })
+
+    pub sized-carried : {r : Outcome} {p₀ : List ℕ} {b′ : Rooms} → load file g ≡ blocksOf file g → Carried (blocksOf file g) (rooms m p₀ ns ads) r b′
+        → Carried (load file g) (rooms m p ns ads) r b′
+    sized-carried e h =
+        rw e
+        (record { outcome = h .outcome; memory = h .memory; map = h .map; names = h .names; addresses = h .addresses })
+
+-- settings in range
+pub range-bounds : (low high : ℕ) → ranged low high ≡ true → (low ≤ high) × (high ≤ 65535)
+range-bounds low high e = let x = and-true (leb low high) (leb high 65535) e in (leb-true _ _ (x .0), leb-true _ _ (x .1))
+
+-- ---- the counts
+
+-- the walk's events so far are no more than the bytes behind it
+record Behind (file : List ℕ) (z : Progress) (es : List Event) : Type 0 where
+  inside : z .cursor .at ≤ length file
+  counts : placedIn es + adjustedIn es ≤ z .cursor .at
+
+abbrev isFinish : Turn Progress Verdict → ℕ
+isFinish (ends (finished z)) = 1
+isFinish (ends (refused fault z)) = 0
+isFinish (leads z) = 0
+
+-- only the file's end finishes a walk, and it does nothing
+finish-none : (file : List ℕ) (g : Given) (y z : Progress) (map : List ℕ) → turn file g y map .answer ≡ ends (finished z) → turn file g y map .events ≡ []
+finish-none file g y z map e = by (eqb (y .cursor .at) (length file)) refl
+  where
+    never : (s : Stop) → judge file y (blockAt file g y) (outcomeAt file g y map .events) s ≡ ends (finished z) → ⊥
+    never (broken fault) f = let n : _≡_ {A = ℕ} 0 1 = ap isFinish f in omega arith
+    never (done next) f = let n : _≡_ {A = ℕ} 0 1 = ap isFinish f in omega arith
+
+    by : (t : Bool) → eqb (y .cursor .at) (length file) ≡ t → turn file g y map .events ≡ []
+    by true h = ap (λ (q : Ran (Turn Progress Verdict)). q .events) (turn-end file g y map (eqb-true _ _ h))
+    by false h =
+        absurd (never (outcomeAt file g y map .answer) (sym (ap (λ (q : Ran (Turn Progress Verdict)). q .answer) (turn-block file g y map (eqb-false _ _ h))) ∙ e))
+
+-- neither count of a finished load exceeds the file's length
+pub record Few (n : ℕ) (o : Ran Verdict) : Type 0 where
+  pub counts : (z : Progress) → o .answer ≡ finished z → placedIn (o .events) + adjustedIn (o .events) ≤ n
+
+pub blocks-few : (file : List ℕ) (g : Given) → g .high ≤ 65535 → Few (length file) (blocksOf file g)
+unfolding blocksFrom placedIn adjustedIn
+blocks-few file g top = record { counts = counts }
+  where
+    keeps : (y z : Progress) (es : List Event) → Behind file y es → turn file g y (marks es blank) .answer ≡ leads z
+        → Behind file z (es ++ turn file g y (marks es blank) .events)
+    keeps y z es h e =
+        let l = led-ends file g top y z (marks es blank) e in
+        let fs = turn file g y (marks es blank) .events in
+        record { inside = l .inside; counts = omega (arith, h .counts, l .behind, placed-append es fs, adjusted-append es fs) }
+
+    counts : (z : Progress) → blocksOf file g .answer ≡ finished z → placedIn (blocksOf file g .events) + adjustedIn (blocksOf file g .events) ≤ length file
+    counts z e =
+        let x = walk-keeps (turn file g) (λ y. refused CutShort y) (bytesLeft file) (turn-falls file g top) (Behind file) blank keeps (begun g)
+        (record { inside = omega arith; counts = omega arith }) in
+        let none = finish-none file g (x .state) z (marks (x .before) blank) (x .answer ∙ ap ends e) in
+        let es : blocksOf file g .events ≡ x .before = x .events ∙ ap (λ (fs : List Event). x .before ++ fs) none ∙ append-nil (x .before) in
+        rw es (omega (arith, x .held .counts, x .held .inside))
+
+few-at-once : (n : ℕ) (g : Given) (fault : Fault) → Few n (atOnce g fault)
+few-at-once n g fault = record { counts = λ z e. absurd (refused-finished e) }
+
+few-need : (n : ℕ) (g : Given) (c : Bool) (fault : Fault) (o : Ran Verdict) → (c ≡ true → Few n o) → Few n (need (atOnce g) c fault o)
+few-need n g = on-need (atOnce g) (Few n) (few-at-once n g)
+
+few-opened : (n : ℕ) (g : Given) (c : Check) (o : Ran Verdict) → Few n o → Few n (opened g c o)
+few-opened n g Passed o h = h
+few-opened n g (Failed fault) o h = few-at-once n g fault
+
+pub load-few : (file : List ℕ) (g : Given) → Few (length file) (load file g)
+unfolding load judged
+load-few file g =
+    few-need _ g _ _ _
+    (λ h. few-need _ g _ _ _ (λ i. few-opened _ g (opening file) _ (blocks-few file g (range-bounds (g .low) (g .high) h .1))))
+
+-- ---- whatever the buffers
+
+reported-few : (n : ℕ) (m : List ℕ) (o : Ran Verdict) → Few n o
+    → (placedOf (report m (o .answer) (o .events)) ≤ n) × (adjustedOf (report m (o .answer) (o .events)) ≤ n)
+reported-few n m o h = by (o .answer) refl
+  where
+    by : (v : Verdict) → o .answer ≡ v → (placedOf (report m v (o .events)) ≤ n) × (adjustedOf (report m v (o .events)) ≤ n)
+    by (finished z) e = let k = h .counts z e in (omega (arith, k), omega (arith, k))
+    by (refused fault z) e = (omega arith, omega arith)
+
+module _ (file : List ℕ) (g : Given) (b : Rooms) where
+  pub loaded-wrong : (r : Outcome) → right g b ≡ false → r ≡ Refused WrongBuffer 0 0 → Loaded file g b r b
+  unfolding call need pick
+  loaded-wrong r h e =
+      record {
+        outcome = rw (h, e) refl;
+        memory = rw h refl;
+        map = rw h refl;
+        names = rw h refl;
+        addresses = rw h refl;
+        placed-fits = rw e (omega arith);
+        adjusted-fits = rw e (omega arith);
+      }
+
+  pub loaded-right : (r : Outcome) (b′ : Rooms) → right g b ≡ true → Carried (load file g) b r b′ → Loaded file g b r b′
+  unfolding call need pick
+  loaded-right r b′ h d =
+      let few = reported-few (length file) (b .memory) (load file g) (load-few file g) in
+      record {
+        outcome = rw h (d .outcome);
+        memory = rw h (d .memory);
+        map = rw h (d .map);
+        names = rw h (d .names);
+        addresses = rw h (d .addresses);
+        placed-fits = rw (d .outcome) (few .0);
+        adjusted-fits = rw (d .outcome) (few .1);
+      }
+
+-- all that is lent has its length
+pub record Sizes (g : Given) (b : Rooms) : Type 0 where
+  pub memory : length (b .memory) ≡ 65536
+  pub map : length (b .map) ≡ 65536
+  pub names : length (b .names) ≡ 256
+  pub addresses : length (b .addresses) ≡ 32
+  pub known : length (g .names) ≡ 8 * length (g .addresses)
+
+pub right-sizes : (g : Given) (b : Rooms) → right g b ≡ true → Sizes g b
+right-sizes g b e =
+    let h = and-true (eqb (length (b .memory)) 65536) _ e in
+    let i = and-true (eqb (length (b .map)) 65536) _ (h .1) in
+    let j = and-true (eqb (length (b .names)) 256) _ (i .1) in
+    let k = and-true (eqb (length (b .addresses)) 32) (listed g) (j .1) in
+    let l = and-true (leb (length (g .addresses)) 256) _ (k .1) in
+    record {
+      memory = eqb-true _ _ (h .0);
+      map = eqb-true _ _ (i .0);
+      names = eqb-true _ _ (j .0);
+      addresses = eqb-true _ _ (k .0);
+      known = eqb-true _ _ (l .1);
+    }

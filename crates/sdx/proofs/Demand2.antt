@@ -1,0 +1,177 @@
+-- Demand 2 for SDX files, as specs/Demand2.antt states it.
+-- Assumes nothing.
+use mathlib.Core.Bool.{Bool, true, false, _&&_, false≢true}
+use mathlib.Core.List.{List, _∷_, _++_}
+use mathlib.Core.Path.{_≡_, refl, sym, ap, _∙_}
+use Prim.Native.Nat.{ℕ, _≤_}
+use native.Mathlib.Omega.{arith}
+use borrow.Author.Tests.{le-leb, leb-true, eqb-true}
+use lib.Dec.{leb, eqb}
+use lib.ListN.{length, getD}
+use Rattle.answer.specs.Checks.{need, pick}
+use Rattle.answer.specs.Report.{placedOf, adjustedOf}
+use Rattle.answer.specs.declared.Fault.{Fault}
+use Rattle.answer.specs.declared.Outcome.{Outcome}
+use Rattle.answer.specs.declared.Outcome.the-variants.{Accepted, Refused}
+use Rattle.answer.specs.declared.Start.{Start}
+use Rattle.events.proofs.Lists.{each-map}
+use Rattle.events.specs.Events.{Event, adjust, play, marks, blank, placedIn, adjustedIn, Ran}
+use Rattle.words.specs.Runs.{Bytes}
+use Rattle.sdx.proofs.Keeping.{Keeps, refused-finished, judged-keeps}
+use Rattle.sdx.proofs.Lawful.{Lawful, length-blank, blank-at, marks-untouched, marks-last, play-others, put-held, play-fields}
+use Rattle.sdx.proofs.Passing.{and-true}
+use Rattle.sdx.specs.Call.{listed, namesRoom, addressesRoom, load, call, startIn, report, memoryAfter, mapAfter, filledUp, namesAfter, addressesAfter, Rooms, right, Loaded}
+use Rattle.sdx.specs.Demand2.{Among, Demand2, Asked, AcceptedCall}
+use Rattle.sdx.specs.Walk.{Given, Progress, Verdict, finished, refused, atOnce, judged}
+
+-- what the events of a file leave that kept to the rules
+kept-demand2 : (file : List ℕ) (g : Given) (z : Progress) (es : List Event) (m : List ℕ) → Keeps file g z es → length m ≡ 65536
+    → Demand2 file g z es m (play es m) (marks es blank) (placedIn es) (adjustedIn es)
+kept-demand2 file g z es m k n =
+    let split : (before : List Event) (e : Event) (after : List Event) → Among es before e after → Lawful blank (before ++ (e ∷ after)) =
+    λ before e after h. rw (h .order) at (k .lawful) in
+    record {
+      deeds = k .deeds;
+      by-rule = each-map (λ d h. h .by-rule) (z .deeds) (k .ruled);
+      names = k .names;
+      addresses = k .addresses;
+      loaded = λ x byte h. put-held es blank m x byte n (k .lawful) h;
+      fields = λ before after a amount h. rw (h .order) (play-fields before after a amount m n (split before (adjust 2 a amount) after h));
+      others = λ x w. play-others es m x (k .lawful) w;
+      untouched-marks = λ x w. marks-untouched es blank x w ∙ blank-at x;
+      last-marks = λ before after e x h t w. ap (λ (fs : List Event). getD (marks fs blank) x 0) (h .order)
+          ∙ marks-last before after e blank x length-blank (split before e after h) t w;
+      placed-count = refl;
+      adjusted-count = refl;
+      placed-fits = omega (arith, k .counts, k .inside);
+      adjusted-fits = omega (arith, k .counts, k .inside);
+    }
+
+-- Demand 2, of every accepted file, with all settings and in every memory
+pub demand2 : (file : List ℕ) (g : Given) (z : Progress) (m : List ℕ) → g .high ≤ 65535 → Bytes file → length m ≡ 65536
+    → judged file g .answer ≡ finished z
+    → Demand2 file g z (judged file g .events) m (play (judged file g .events) m) (marks (judged file g .events) blank)
+    (placedIn (judged file g .events)) (adjustedIn (judged file g .events))
+demand2 file g z m top bytes n e = kept-demand2 file g z (judged file g .events) m (judged-keeps file g top bytes z e) n
+
+-- ---- of every call
+
+-- a check that was passed
+need-finished : (g : Given) (c : Bool) (fault : Fault) (o : Ran Verdict) (z : Progress) → need (atOnce g) c fault o .answer ≡ finished z
+    → (c ≡ true) × (need (atOnce g) c fault o ≡ o)
+unfolding need
+need-finished g true fault o z e = (refl, refl)
+need-finished g false fault o z e = absurd (refused-finished fault _ z e)
+
+-- an acceptance is of a call as asked
+pub finished-asked : (file : List ℕ) (g : Given) (b : Rooms) (z : Progress) → call file g (right g b) .answer ≡ finished z → Asked file g b
+unfolding call load
+finished-asked file g b z e =
+    let x = need-finished g _ _ _ z e in
+    let y = need-finished g _ _ _ z (sym (ap (λ (o : Ran Verdict). o .answer) (x .1)) ∙ e) in
+    let w = need-finished g _ _ _ z (sym (ap (λ (o : Ran Verdict). o .answer) (x .1 ∙ y .1)) ∙ e) in
+    record { buffers = x .0; settings = y .0; fits = leb-true _ _ (w .0) }
+
+-- and comes to what the file comes to
+pub asked-judged : (file : List ℕ) (g : Given) (b : Rooms) → Asked file g b → call file g (right g b) ≡ judged file g
+unfolding call load need
+asked-judged file g b a = rw (a .buffers, a .settings, le-leb _ _ (a .fits)) refl
+
+-- what was asked of memory and of the settings
+pub asked-memory : (file : List ℕ) (g : Given) (b : Rooms) → Asked file g b → length (b .memory) ≡ 65536
+asked-memory file g b a =
+    eqb-true _ _
+    (and-true (eqb (length (b .memory)) 65536)
+    (eqb (length (b .map)) 65536 && (eqb (length (b .names)) namesRoom && (eqb (length (b .addresses)) addressesRoom && listed g)))
+    (a .buffers) .0)
+
+pub asked-top : (file : List ℕ) (g : Given) (b : Rooms) → Asked file g b → g .high ≤ 65535
+asked-top file g b a = leb-true _ _ (and-true (leb (g .low) (g .high)) (leb (g .high) 65535) (a .settings) .1)
+
+-- What a call as asked answers and leaves, of a file that the rules accept.
+pub record Left (file : List ℕ) (g : Given) (z : Progress) (b : Rooms) (r : Outcome) (b′ : Rooms) : Type 0 where
+  pub outcome : r ≡ report (b .memory) (finished z) (judged file g .events)
+  pub memory : b′ .memory ≡ play (judged file g .events) (b .memory)
+  pub map : b′ .map ≡ marks (judged file g .events) blank
+  pub names : b′ .names ≡ filledUp namesRoom (z .names)
+  pub addresses : b′ .addresses ≡ filledUp addressesRoom (z .addresses)
+
+-- such a call leaves what its events make
+pub call-leaves : (file : List ℕ) (g : Given) (b b′ : Rooms) (r : Outcome) → Loaded file g b r b′ → Asked file g b → (z : Progress)
+    → judged file g .answer ≡ finished z
+    → Left file g z b r b′
+unfolding pick
+call-leaves file g b b′ r d a z e =
+    let c = asked-judged file g b a in
+    let o = call file g (right g b) in
+    let es = judged file g .events in
+    let j : (A : Type 0) (f : Verdict → List Event → A) → f (o .answer) (o .events) ≡ f (finished z) es =
+    λ A f. ap (λ (o : Ran Verdict). f (o .answer) (o .events)) c ∙ ap (λ (v : Verdict). f v es) e in
+    record {
+      outcome = d .outcome ∙ j Outcome (λ v fs. report (b .memory) v fs);
+      memory = d .memory ∙ j (List ℕ) (λ v fs. memoryAfter v fs (b .memory));
+      map = d .map ∙ ap (λ (t : Bool). pick t (mapAfter (o .answer) (o .events)) (b .map)) (a .buffers) ∙ j (List ℕ) (λ v fs. mapAfter v fs);
+      names = d .names ∙ j (List ℕ) (λ v fs. namesAfter v (b .names));
+      addresses = d .addresses ∙ j (List ℕ) (λ v fs. addressesAfter v (b .addresses));
+    }
+
+-- the number of new names, and low, of an outcome
+abbrev namedOf : Outcome → ℕ
+namedOf (Accepted start placed adjusted named low) = named
+namedOf (Refused fault offset side) = 0
+
+abbrev lowOf : Outcome → ℕ
+lowOf (Accepted start placed adjusted named low) = low
+lowOf (Refused fault offset side) = 0
+
+-- whether it is a refusal
+abbrev pub isRefused : Outcome → Bool
+isRefused (Accepted start placed adjusted named low) = false
+isRefused (Refused fault offset side) = true
+
+-- what is reported as accepted was finished
+reported-finished : (m : List ℕ) (v : Verdict) (es : List Event) → isRefused (report m v es) ≡ false → (z : Progress) × (v ≡ finished z)
+reported-finished m (finished z) es e = (z, refl)
+reported-finished m (refused fault z) es e = absurd (false≢true (sym e))
+
+-- a call as asked of a file that the rules accept
+accepted-call : (file : List ℕ) (g : Given) (b b′ : Rooms) (r : Outcome) (z : Progress) → Loaded file g b r b′ → Bytes file → Asked file g b
+    → judged file g .answer ≡ finished z
+    → (start : Start) (placed adjusted named low : ℕ)
+    → r ≡ Accepted start placed adjusted named low
+    → AcceptedCall file g b b′ placed adjusted named low
+accepted-call file g b b′ r z d bytes a f start placed adjusted named low e =
+    let l = call-leaves file g b b′ r d a z f in
+    let s : Accepted start placed adjusted named low ≡ report (b .memory) (finished z) (judged file g .events) = sym e ∙ l .outcome in
+    let ep : placed ≡ placedIn (judged file g .events) = ap placedOf s in
+    let ea : adjusted ≡ adjustedIn (judged file g .events) = ap adjustedOf s in
+    record {
+      asked = a;
+      end = z;
+      follows = f;
+      leaves = rw (l .memory, l .map, ep, ea) (demand2 file g z (b .memory) (asked-top file g b a) bytes (asked-memory file g b a) f);
+      new-names = l .names;
+      new-addresses = l .addresses;
+      named-count = ap namedOf s;
+      low-after = ap lowOf s;
+    }
+
+-- Demand 2, of every accepted call
+pub call-demand2 : (file : List ℕ) (g : Given) (b b′ : Rooms) (r : Outcome) → Loaded file g b r b′ → Bytes file → (start : Start)
+    (placed adjusted named low : ℕ)
+    → r ≡ Accepted start placed adjusted named low
+    → AcceptedCall file g b b′ placed adjusted named low
+call-demand2 file g b b′ r d bytes start placed adjusted named low e =
+    let o = call file g (right g b) in
+    let x = reported-finished (b .memory) (o .answer) (o .events) (ap isRefused (sym (d .outcome) ∙ e)) in
+    let a = finished-asked file g b (x .0) (x .1) in
+    let f = ap (λ (k : Ran Verdict). k .answer) (sym (asked-judged file g b a)) ∙ x .1 in
+    accepted-call file g b b′ r (x .0) d bytes a f start placed adjusted named low e
+
+-- a call as asked accepts every file that the rules accept: with the start that map and memory show, the counts of its events, the number of
+-- new names and low afterwards
+pub call-accepts : (file : List ℕ) (g : Given) (b b′ : Rooms) (r : Outcome) (z : Progress) → Asked file g b → judged file g .answer ≡ finished z
+    → Loaded file g b r b′
+    → r ≡ Accepted (startIn (b′ .map) (b′ .memory)) (placedIn (judged file g .events)) (adjustedIn (judged file g .events)) (length (z .addresses))
+    (z .cursor .low)
+call-accepts file g b b′ r z a f d = let l = call-leaves file g b b′ r d a z f in rw (l .memory, l .map) (l .outcome)

@@ -1,0 +1,15 @@
+-- Laws about the definitions of specs/. The loader keeps its contracts by:
+pub mod Parts
+pub mod Turning
+pub mod Rooms
+pub mod Going
+pub mod Calling
+-- Demand 2, and what else holds of every accepted file:
+pub mod Lawful
+pub mod Passing
+pub mod Keeping
+pub mod Demand2
+pub mod Same
+pub mod Benches
+-- Rows of the bench table:
+pub mod Bench

@@ -1,0 +1,36 @@
+-- Two sentences of the user about every call, in terms of the loader's contract. Proved in proofs/Benches.antt.
+-- Assumes nothing.
+use mathlib.Core.Bool.{true, false}
+use mathlib.Core.List.{List}
+use mathlib.Core.Path.{_≡_}
+use Prim.Native.Nat.{ℕ}
+use lib.ListN.{getD}
+use Rattle.answer.specs.declared.Fault.{Fault}
+use Rattle.answer.specs.declared.Fault.the-variants.{WrongBuffer}
+use Rattle.answer.specs.declared.Outcome.{Outcome}
+use Rattle.events.specs.Events.{Event, blank}
+use Rattle.sdx.specs.Call.{load, Rooms, right}
+use Rattle.sdx.specs.Demand2.{Places, Among}
+use Rattle.sdx.specs.Walk.{Given, Progress, finished}
+
+-- "A refusal leaves program memory untouched, and the other buffers hold what document 01 names": a call that was refused found the buffers b,
+-- and left b′
+pub record RefusedCall (g : Given) (fault : Fault) (b b′ : Rooms) : Type 0 where
+  pub memory : b′ .memory ≡ b .memory
+  pub names : b′ .names ≡ b .names
+  pub addresses : b′ .addresses ≡ b .addresses
+  -- "Refusal 1 changes nothing"
+  pub wrong-buffer : right g b ≡ false → (fault ≡ WrongBuffer) × (b′ .map ≡ b .map)
+  -- "Every other refusal leaves .. the map all zero"
+  pub other : right g b ≡ true → b′ .map ≡ blank
+
+-- "Two benches with the same settings must never hold two different programs from one file": two calls of a file, whatever their buffers held
+-- before, answer r and t, and leave the buffers b and d. (A file that is refused, for its settings or its length too, leaves no program.)
+pub record SameProgram (file : List ℕ) (g : Given) (r t : Outcome) (b d : Rooms) : Type 0 where
+  pub outcome : r ≡ t
+  pub map : b .map ≡ d .map
+  -- every byte that a block placed, and the new names
+  pub program : (z : Progress) → load file g .answer ≡ finished z → (before after : List Event) (e : Event) (x : ℕ)
+      → Among (load file g .events) before e after → Places x e → getD (b .memory) x 0 ≡ getD (d .memory) x 0
+  pub names : (z : Progress) → load file g .answer ≡ finished z → b .names ≡ d .names
+  pub addresses : (z : Progress) → load file g .answer ≡ finished z → b .addresses ≡ d .addresses
