@@ -29,12 +29,13 @@ use Rattle.updates.specs.Bodies.{Stop, broken, done}
 use Rattle.words.proofs.Lent.{lent-is, back-is}
 use Rattle.words.proofs.Runs.{part-put, length-part}
 use Rattle.words.specs.Runs.{part, put}
-use Rattle.sdx.proofs.Going.{stopped-finished, namedIn, placedTo, adjustedTo}
+use Rattle.sdx.proofs.Going.{stopped-finished, totalsIn}
 use Rattle.sdx.proofs.Rooms.{front-holds}
 use Rattle.sdx.proofs.Turning.{led-ends, turn-falls, turn-end, turn-block}
 use Rattle.sdx.specs.Call.{ranged, inRange, listed, sized, load, call, startIn, report, filledUp, Rooms, rooms, Carried, right, Loaded}
-use Rattle.sdx.specs.Parts.{walked, progressOf, Went, Reported}
+use Rattle.sdx.specs.Parts.{walked, progressOf, Went, Checked, Reported}
 use Rattle.sdx.specs.Walk.{Given, Progress, Verdict, finished, refused, judge, blockAt, outcomeAt, turn, bytesLeft, blocksFrom, begun, blocksOf, atOnce, opening, opened, judged}
+use Rattle.sdx.specs.declared.Totals.{Totals}
 use Rattle.sdx.specs.declared.Walked.{Walked}
 use Rattle.sdx.specs.declared.Walked.the-variants.{Stopped, Finished}
 
@@ -75,74 +76,71 @@ rest-cleared n k l w h e f =
     ∙ ap (λ (i : ℕ). take k l ++ replicate (n - i) 0) (sym front)
 
 -- an acceptance, with both rooms
-pub reported-as : {low named placed adjusted : ℕ} {m p ns ads ns′ ads′ : List ℕ} {start : Start} → start ≡ startIn p m
-    → ns′ ≡ filledUp 256 (part ns 0 (8 * named)) → ads′ ≡ filledUp 32 (part ads 0 named)
-    → Reported low named placed adjusted (rooms m p ns ads) (Accepted start placed adjusted named low) ns′ ads′
+pub reported-as : {t : Totals} {m p ns ads ns′ ads′ : List ℕ} {start : Start} → start ≡ startIn p m
+    → ns′ ≡ filledUp 256 (part ns 0 (8 * t .named)) → ads′ ≡ filledUp 32 (part ads 0 (t .named))
+    → Reported t (rooms m p ns ads) (Accepted start (t .placed) (t .adjusted) (t .named) (t .low)) ns′ ads′
 reported-as e f g = record { outcome = rw e refl; names = f; addresses = g }
 
 -- ---- first checked, then carried out
 
+-- a walk that only checks has written no memory
+pub checked-as : {o : Ran Verdict} {m p ns ads m′ p′ ns′ ads′ p″ : List ℕ} {r : Walked}
+    → Went o false (rooms m p ns ads) r (rooms m′ p′ ns′ ads′) → p″ ≡ blank → Checked o m r m′ p″
+checked-as h clear = record { answer = h .did .answer; memory = h .did .memory; map = clear; bounded = h .bounded }
+
 -- what a stopped walk is reported as
 abbrev refusal : Walked → Outcome
 refusal (Stopped fault offset) = Refused fault offset 0
-refusal (Finished low named placed adjusted) = Accepted Absent 0 0 0 0
-
-abbrev lowIn : Walked → ℕ
-lowIn (Stopped fault offset) = 0
-lowIn (Finished low named placed adjusted) = low
+refusal (Finished t) = Accepted Absent 0 0 0 0
 
 accepted-same : {start t : Start} {a b i j k l n q : ℕ} → start ≡ t → a ≡ b → i ≡ j → k ≡ l → n ≡ q → Accepted start a i k n ≡ Accepted t b j l q
 accepted-same e f g h i = rw (e, f, g, h, i) refl
 
--- (memory was not written while the file was checked)
-module _ {o : Ran Verdict} {m p ns ads m₁ p₁ ns₁ ads₁ dry-names dry-addresses : List ℕ} {r₁ : Walked}
-    (first : Went o false (rooms m p dry-names dry-addresses) r₁ (rooms m₁ p₁ ns₁ ads₁)) where
-  pub carried-refused : {fault : Fault} {offset : ℕ} {p′ : List ℕ} → r₁ ≡ Stopped fault offset → p′ ≡ blank
-      → Carried o (rooms m p ns ads) (Refused fault offset 0) (rooms m₁ p′ ns ads)
-  carried-refused {fault} {offset} {p′} e clear = by (o .answer) refl
+module _ {o : Ran Verdict} {m p ns ads m₁ p₁ : List ℕ} {r₁ : Walked} (first : Checked o m r₁ m₁ p₁) where
+  pub carried-refused : {fault : Fault} {offset : ℕ} → r₁ ≡ Stopped fault offset
+      → Carried o (rooms m p ns ads) (Refused fault offset 0) (rooms m₁ p₁ ns ads)
+  carried-refused {fault} {offset} e = by (o .answer) refl
     where
-      by : (v : Verdict) → o .answer ≡ v → Carried o (rooms m p ns ads) (Refused fault offset 0) (rooms m₁ p′ ns ads)
-      by (finished z) f = absurd (stopped-finished (sym e ∙ first .did .answer ∙ ap (λ (v : Verdict). walked v (o .events)) f))
+      by : (v : Verdict) → o .answer ≡ v → Carried o (rooms m p ns ads) (Refused fault offset 0) (rooms m₁ p₁ ns ads)
+      by (finished z) f = absurd (stopped-finished (sym e ∙ first .answer ∙ ap (λ (v : Verdict). walked v (o .events)) f))
       by (refused k z) f =
           record {
-            outcome = rw f (ap refusal (sym e ∙ first .did .answer ∙ ap (λ (v : Verdict). walked v (o .events)) f));
-            memory = rw f (first .did .memory);
-            map = rw f clear;
+            outcome = rw f (ap refusal (sym e ∙ first .answer ∙ ap (λ (v : Verdict). walked v (o .events)) f));
+            memory = rw f (first .memory);
+            map = rw f (first .map);
             names = rw f refl;
             addresses = rw f refl;
           }
 
   -- the second walk does what the first one found, and the acceptance reports it
-  pub carried-accepted : {low named placed adjusted : ℕ} {p₀ m₂ p₂ ns₂ ads₂ ns₃ ads₃ : List ℕ} {r₂ : Walked} {r : Outcome}
-      → r₁ ≡ Finished low named placed adjusted → length ns ≡ 256 → length ads ≡ 32
-      → p₀ ≡ blank → Went o true (rooms m₁ p₀ ns ads) r₂ (rooms m₂ p₂ ns₂ ads₂)
-      → Reported low named placed adjusted (rooms m₂ p₂ ns₂ ads₂) r ns₃ ads₃
+  pub carried-accepted : {t : Totals} {m₂ p₂ ns₂ ads₂ ns₃ ads₃ : List ℕ} {r₂ : Walked} {r : Outcome} → r₁ ≡ Finished t → length ns ≡ 256
+      → length ads ≡ 32 → Went o true (rooms m₁ p₁ ns ads) r₂ (rooms m₂ p₂ ns₂ ads₂) → Reported t (rooms m₂ p₂ ns₂ ads₂) r ns₃ ads₃
       → Carried o (rooms m p ns ads) r (rooms m₂ p₂ ns₃ ads₃)
-  carried-accepted {low} {named} {placed} {adjusted} {p₀} {m₂} {p₂} {ns₂} {ads₂} {ns₃} {ads₃} {r₂} {r} e room spots clear second told = by (o .answer) refl
+  carried-accepted {t} {m₂} {p₂} {ns₂} {ads₂} {ns₃} {ads₃} {r₂} {r} e room spots second told = by (o .answer) refl
     where
       by : (v : Verdict) → o .answer ≡ v → Carried o (rooms m p ns ads) r (rooms m₂ p₂ ns₃ ads₃)
-      by (refused k z) f = absurd (stopped-finished (sym (ap (λ (v : Verdict). walked v (o .events)) f) ∙ sym (first .did .answer) ∙ e))
+      by (refused k z) f = absurd (stopped-finished (sym (ap (λ (v : Verdict). walked v (o .events)) f) ∙ sym (first .answer) ∙ e))
       by (finished z) f =
-          let w : Finished low named placed adjusted ≡ walked (finished z) (o .events) =
-          sym e ∙ first .did .answer ∙ ap (λ (v : Verdict). walked v (o .events)) f in
-          let n : named ≡ length (z .addresses) = ap namedIn w in
-          let few : named ≤ 32 = first .bounded low named placed adjusted e .0 in
-          let bytes : length (z .names) ≡ 8 * named =
-          ap (λ (v : Verdict). length (progressOf v .names)) (sym f) ∙ first .eights
+          let w : Finished t ≡ walked (finished z) (o .events) = sym e ∙ first .answer ∙ ap (λ (v : Verdict). walked v (o .events)) f in
+          let n : t .named ≡ length (z .addresses) = ap (λ (q : Walked). totalsIn q .named) w in
+          let few : t .named ≤ 32 = first .bounded .counts t e .0 in
+          let bytes : length (z .names) ≡ 8 * t .named =
+          ap (λ (v : Verdict). length (progressOf v .names)) (sym f) ∙ second .eights
           ∙ ap (λ (v : Verdict). 8 * length (progressOf v .addresses)) f ∙ ap (λ (i : ℕ). 8 * i) (sym n) in
-          let memory : m₂ ≡ play (o .events) m = second .did .memory ∙ ap (λ (t : List ℕ). play (o .events) t) (first .did .memory) in
-          let map : p₂ ≡ marks (o .events) blank = second .did .map ∙ ap (λ (q : List ℕ). marks (o .events) q) clear in
-          let names : part ns₂ 0 (8 * named) ≡ z .names =
-          front-holds ns (z .names) ns₂ (8 * named) (second .names ∙ ap (λ (v : Verdict). put ns 0 (progressOf v .names)) f) bytes
+          let memory : m₂ ≡ play (o .events) m = second .did .memory ∙ ap (λ (l : List ℕ). play (o .events) l) (first .memory) in
+          let map : p₂ ≡ marks (o .events) blank = second .did .map ∙ ap (λ (q : List ℕ). marks (o .events) q) (first .map) in
+          let names : part ns₂ 0 (8 * t .named) ≡ z .names =
+          front-holds ns (z .names) ns₂ (8 * t .named) (second .names ∙ ap (λ (v : Verdict). put ns 0 (progressOf v .names)) f) bytes
           (omega (arith, room, few)) in
-          let addresses : part ads₂ 0 named ≡ z .addresses =
-          front-holds ads (z .addresses) ads₂ named (second .addresses ∙ ap (λ (v : Verdict). put ads 0 (progressOf v .addresses)) f) (sym n)
+          let addresses : part ads₂ 0 (t .named) ≡ z .addresses =
+          front-holds ads (z .addresses) ads₂ (t .named) (second .addresses ∙ ap (λ (v : Verdict). put ads 0 (progressOf v .addresses)) f) (sym n)
           (omega (arith, spots, few)) in
           record {
             outcome = rw f
                 (told .outcome
-                ∙ accepted-same (ap (λ (q : List ℕ). startIn q m₂) map ∙ ap (λ (t : List ℕ). startIn (marks (o .events) blank) t) memory)
-                (ap placedTo w) (ap adjustedTo w) n (ap lowIn w));
+                ∙ accepted-same (ap (λ (q : List ℕ). startIn q m₂) map ∙ ap (λ (l : List ℕ). startIn (marks (o .events) blank) l) memory)
+                (ap (λ (q : Walked). totalsIn q .placed) w) (ap (λ (q : Walked). totalsIn q .adjusted) w) n
+                (ap (λ (q : Walked). totalsIn q .low) w));
             memory = rw f memory;
             map = rw f map;
             names = rw f (told .names ∙ ap (λ (l : List ℕ). filledUp 256 l) names);

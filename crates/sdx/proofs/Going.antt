@@ -27,8 +27,9 @@ use Rattle.words.specs.Runs.{part, put}
 use Rattle.sdx.proofs.Rooms.{front-is, front-holds, behind, Counted, counted-on, Tabled, tabled-first, tabled-on}
 use Rattle.sdx.proofs.Turning.{Ends, carried-ends, advanced-at, stepped, turn-end, turn-block, block-fits, turn-falls}
 use Rattle.sdx.specs.Call.{Rooms, rooms}
-use Rattle.sdx.specs.Parts.{walked, progressOf, Went, placedBy, NameFits, RoomFits, Noted}
+use Rattle.sdx.specs.Parts.{totals, walked, progressOf, Bounded, Went, placedBy, NameFits, RoomFits, Noted}
 use Rattle.sdx.specs.Walk.{Given, carried, advanced, nameIn, addressIn, Deed, Progress, Verdict, finished, refused, judge, blockAt, outcomeAt, turn, bytesLeft, blocksFrom, firstCursor, begun, blocksOf}
+use Rattle.sdx.specs.declared.Totals.{Totals}
 use Rattle.sdx.specs.declared.Walked.{Walked}
 use Rattle.sdx.specs.declared.Walked.the-variants.{Stopped, Finished}
 
@@ -73,31 +74,39 @@ stop-done (done k) es next adjusted e = (ap (λ (r : Ended). done (nextIn r)) e,
 eighth : {n k : ℕ} → n ≡ 8 * k → n / 8 ≡ k
 eighth e = omega (arith, e)
 
-finished-same : (low : ℕ) {n k i j l m : ℕ} → k ≡ n → i ≡ j → l ≡ m → Finished low n i l ≡ Finished low k j m
+finished-same : (low : ℕ) {n k i j l m : ℕ} → k ≡ n → i ≡ j → l ≡ m → Finished (totals low n i l) ≡ Finished (totals low k j m)
 finished-same low e f g = rw (e, f, g) refl
 
 abbrev isFinished : Walked → ℕ
 isFinished (Stopped fault offset) = 0
-isFinished (Finished low named placed adjusted) = 1
+isFinished (Finished t) = 1
 
-pub stopped-finished : {fault : Fault} {offset low named placed adjusted : ℕ} → Stopped fault offset ≡ Finished low named placed adjusted → ⊥
+pub stopped-finished : {fault : Fault} {offset : ℕ} {t : Totals} → Stopped fault offset ≡ Finished t → ⊥
 stopped-finished e = let z : _≡_ {A = ℕ} 0 1 = ap isFinished e in omega arith
 
 abbrev offsetIn : Walked → ℕ
 offsetIn (Stopped fault offset) = offset
-offsetIn (Finished low named placed adjusted) = 0
+offsetIn (Finished t) = 0
 
-abbrev pub namedIn : Walked → ℕ
-namedIn (Stopped fault offset) = 0
-namedIn (Finished low named placed adjusted) = named
+-- what a walk that has finished comes to
+abbrev pub totalsIn : Walked → Totals
+totalsIn (Stopped fault offset) = totals 0 0 0 0
+totalsIn (Finished t) = t
 
-abbrev pub placedTo : Walked → ℕ
-placedTo (Stopped fault offset) = 0
-placedTo (Finished low named placed adjusted) = placed
+bounded-stopped : (fault : Fault) (offset : ℕ) → offset ≤ 65536 → Bounded (Stopped fault offset)
+bounded-stopped fault offset h =
+    record { offset = λ f at e. omega (arith, ap offsetIn e, h); counts = λ t e. absurd (stopped-finished e) }
 
-abbrev pub adjustedTo : Walked → ℕ
-adjustedTo (Stopped fault offset) = 0
-adjustedTo (Finished low named placed adjusted) = adjusted
+bounded-finished : (low named placed adjusted : ℕ) → named ≤ 32 → placed ≤ 65536 → adjusted ≤ 65536 → Bounded (Finished (totals low named placed adjusted))
+bounded-finished low named placed adjusted h i j =
+    record {
+      offset = λ f at e. absurd (stopped-finished (sym e));
+      counts = λ t e. (
+        omega (arith, ap (λ (w : Walked). totalsIn w .named) e, h),
+        omega (arith, ap (λ (w : Walked). totalsIn w .placed) e, i),
+        omega (arith, ap (λ (w : Walked). totalsIn w .adjusted) e, j),
+      );
+    }
 
 -- ---- where the loop stands
 
@@ -169,7 +178,7 @@ module _ {file : List ℕ} {g : Given} {write : Bool} {b : Rooms} where
         came-end (turn file g) (λ y. refused CutShort y) (bytesLeft file) (turn-falls file g top) (blocksOf file g) (x .events) here blank (x .came) v e
 
     -- at the file's end the walk has finished
-    pub going-done : c .at ≡ length file → Went (blocksOf file g) write b (Finished (c .low) (c .named) placed adjusted) b′
+    pub going-done : c .at ≡ length file → Went (blocksOf file g) write b (Finished (totals (c .low) (c .named) placed adjusted)) b′
     going-done e =
         let t = turn-end file g here (marks (x .events) blank) e in
         let w : blocksOf file g ≡ record { answer = finished here; events = x .events } =
@@ -187,12 +196,8 @@ module _ {file : List ℕ} {g : Given} {write : Bool} {b : Rooms} where
           names = x .new-names;
           addresses = x .new-addresses;
           eights = x .counted .bytes ∙ ap (λ (n : ℕ). 8 * n) (sym (x .counted .each));
-          within = λ fault offset f. absurd (stopped-finished (sym f));
-          bounded = λ low named i j f. (
-            omega (arith, ap namedIn f, x .counted .few),
-            omega (arith, ap placedTo f, x .placed-is, x .behind-it, x .inside, short),
-            omega (arith, ap adjustedTo f, x .adjusted-is, x .behind-it, x .inside, short),
-          );
+          bounded = bounded-finished (c .low) (c .named) placed adjusted (x .counted .few) (omega (arith, x .placed-is, x .behind-it, x .inside, short))
+              (omega (arith, x .adjusted-is, x .behind-it, x .inside, short));
         })
 
     -- the block that the program reads is the definition's
@@ -261,8 +266,7 @@ module _ {file : List ℕ} {g : Given} {write : Bool} {b : Rooms} where
               names = x .new-names;
               addresses = x .new-addresses;
               eights = x .counted .bytes ∙ ap (λ (n : ℕ). 8 * n) (sym (x .counted .each));
-              within = λ f offset i. omega (arith, ap offsetIn i, x .inside, short);
-              bounded = λ low named i j f. absurd (stopped-finished f);
+              bounded = bounded-stopped fault (c .at) (omega (arith, x .inside, short));
             })
 
         -- else the loop goes on behind the block

@@ -48,10 +48,13 @@ carried file lent own c (Update source from) map = body file (c .table) (amountO
 carried file lent own c (NewName from address) map = record { answer = done (from + nameSize); events = [] }
 carried file lent own c (Faulty fault) map = record { answer = broken fault; events = [] }
 
--- the cursor after a block: a relocatable one "gets address low; low rises by the length"
-abbrev pub advanced : Cursor → Block → ℕ → Cursor
-advanced c (Plain address from size) next = record { at = next; low = c .low; count = c .count; named = c .named; table = c .table }
-advanced c (Relocatable reserves number offset from size) next =
+-- the cursor at another offset, with so many new names
+abbrev pub passed : Cursor → ℕ → ℕ → Cursor
+passed c next named = record { at = next; low = c .low; count = c .count; named = named; table = c .table }
+
+-- the cursor with a block more: "It gets address low; low rises by the length."
+abbrev pub withBlock : Cursor → ℕ → ℕ → ℕ → ℕ → Cursor
+withBlock c number offset size next =
     record {
       at = next;
       low = c .low + size;
@@ -59,8 +62,13 @@ advanced c (Relocatable reserves number offset from size) next =
       named = c .named;
       table = set (c .table) number (record { taken = true; address = c .low; offset = offset; size = size });
     }
-advanced c (Update source from) next = record { at = next; low = c .low; count = c .count; named = c .named; table = c .table }
-advanced c (NewName from address) next = record { at = next; low = c .low; count = c .count; named = c .named + 1; table = c .table }
+
+-- the cursor after a block that ends at an offset
+abbrev pub advanced : Cursor → Block → ℕ → Cursor
+advanced c (Plain address from size) next = passed c next (c .named)
+advanced c (Relocatable reserves number offset from size) next = withBlock c number offset size next
+advanced c (Update source from) next = passed c next (c .named)
+advanced c (NewName from address) next = passed c next (c .named + 1)
 advanced c (Faulty fault) next = c
 
 -- the name that a block brings, and its address

@@ -16,9 +16,9 @@ ghost use Rattle.blocks.specs.Blocks.{dataSize};
 ghost use Rattle.blocks.specs.Bounds.{InMemory, Fits};
 ghost use Rattle.events.specs.Events.{blank, Did};
 ghost use Rattle.updates.specs.Bodies.{ended};
-ghost use Rattle.sdx.specs.Walk.{placing, laying, carried, advanced, firstCursor, blocksOf, opening as openingOf};
+ghost use Rattle.sdx.specs.Walk.{placing, laying, carried, passed, withBlock, advanced, firstCursor, blocksOf, opening as openingOf};
 ghost use Rattle.sdx.specs.Call.{given, usual, ranged, sized, load as loadOf, startIn, rooms, Carried, Loaded};
-ghost use Rattle.sdx.specs.Parts.{Went, placedBy, NameFits, RoomFits, Noted, Reported};
+ghost use Rattle.sdx.specs.Parts.{totals, Went, Checked, placedBy, NameFits, RoomFits, Noted, Reported};
 
 // The length of memory and of the map.
 const MEMORY: usize = 65536;
@@ -48,18 +48,18 @@ const USUAL_LOW: u32 = 7936;
 
 const USUAL_HIGH: u32 = 39936;
 
-// How a walk ends: at a fault, or at the file's end with low, the number of new names, and the counts.
+// What a walk to the file's end comes to: low, the number of new names, the bytes placed and the fields adjusted.
+pub struct Totals {
+    pub low: u16,
+    pub named: usize,
+    pub placed: usize,
+    pub adjusted: usize,
+}
+
+// How a walk ends: with the fault of the block at an offset, or at the file's end.
 pub enum Walked {
-    Stopped {
-        fault: Fault,
-        offset: usize,
-    },
-    Finished {
-        low: u16,
-        named: usize,
-        placed: usize,
-        adjusted: usize,
-    },
+    Stopped(Fault, usize),
+    Finished(Totals),
 }
 
 // Loads a file. Refuses with the first fault; memory and the rooms for new names are then as they were.
@@ -233,33 +233,14 @@ fn load_blocks(
     requires { ⌜ (length (now file) ≤ 65536) × (length (now «known_names») ≡ 8 * length (now «known_addresses»)) × (length (now memory) ≡ 65536) × (length (now map) ≡ 65536) × (length (now «new_names») ≡ 256) × (length (now «new_addresses») ≡ 32) × (now map ≡ blank) ⌝ }
     ensures { λ r. ⌜ Carried (blocksOf (now (file .entry)) (given (now («known_names» .entry)) (now («known_addresses» .entry)) low high)) (rooms (now (memory .entry)) (now (map .entry)) (now («new_names» .entry)) (now («new_addresses» .entry))) r (rooms (now (memory .exit)) (now (map .exit)) (now («new_names» .exit)) (now («new_addresses» .exit))) ⌝ }
 {
-    let mut names = [0u8; 256];
-    let mut addresses = [0u16; 32];
-    let checked = walk(
-        file,
-        low,
-        high,
-        known_names,
-        known_addresses,
-        false,
-        memory,
-        map,
-        &mut names,
-        &mut addresses,
-    );
-    words::fill(map, 0);
+    let checked = check(file, low, high, known_names, known_addresses, memory, map);
     match checked {
-        Walked::Stopped { fault, offset } => Outcome::Refused {
+        Walked::Stopped(fault, offset) => Outcome::Refused {
             fault,
             offset: offset as u32,
             side: 0,
         },
-        Walked::Finished {
-            low: top,
-            named,
-            placed,
-            adjusted,
-        } => {
+        Walked::Finished(totals) => {
             let again = walk(
                 file,
                 low,
@@ -272,18 +253,40 @@ fn load_blocks(
                 new_names,
                 new_addresses,
             );
-            finish(
-                top,
-                named,
-                placed,
-                adjusted,
-                memory,
-                map,
-                new_names,
-                new_addresses,
-            )
+            finish(totals, memory, map, new_names, new_addresses)
         }
     }
+}
+
+// The walk that only checks, with rooms of its own for new names. The map is clear again after it.
+fn check(
+    file: &[u8],
+    low: u16,
+    high: u16,
+    known_names: &[u8],
+    known_addresses: &[u16],
+    memory: &mut [u8],
+    map: &mut [u8],
+) -> Walked
+    requires { ⌜ (length (now file) ≤ 65536) × (length (now «known_names») ≡ 8 * length (now «known_addresses»)) × (length (now memory) ≡ 65536) × (length (now map) ≡ 65536) × (now map ≡ blank) ⌝ }
+    ensures { λ r. ⌜ Checked (blocksOf (now (file .entry)) (given (now («known_names» .entry)) (now («known_addresses» .entry)) low high)) (now (memory .entry)) r (now (memory .exit)) (now (map .exit)) ⌝ }
+{
+    let mut names = [0u8; NAMES];
+    let mut addresses = [0u16; ADDRESSES];
+    let walked = walk(
+        file,
+        low,
+        high,
+        known_names,
+        known_addresses,
+        false,
+        memory,
+        map,
+        &mut names,
+        &mut addresses,
+    );
+    words::fill(map, 0);
+    walked
 }
 
 // All blocks of a file, over a clear map.
@@ -291,59 +294,52 @@ fn walk(
     file: &[u8],
     low: u16,
     high: u16,
-    known_names: &[u8],
-    known_addresses: &[u16],
+    lent_names: &[u8],
+    lent_addresses: &[u16],
     write: bool,
     memory: &mut [u8],
     map: &mut [u8],
     new_names: &mut [u8],
     new_addresses: &mut [u16],
 ) -> Walked
-    requires { ⌜ (length (now file) ≤ 65536) × (length (now «known_names») ≡ 8 * length (now «known_addresses»)) × (length (now memory) ≡ 65536) × (length (now map) ≡ 65536) × (length (now «new_names») ≡ 256) × (length (now «new_addresses») ≡ 32) × (now map ≡ blank) ⌝ }
-    ensures { λ r. ⌜ Went (blocksOf (now (file .entry)) (given (now («known_names» .entry)) (now («known_addresses» .entry)) low high)) write (rooms (now (memory .entry)) (now (map .entry)) (now («new_names» .entry)) (now («new_addresses» .entry))) r (rooms (now (memory .exit)) (now (map .exit)) (now («new_names» .exit)) (now («new_addresses» .exit))) ⌝ }
+    requires { ⌜ (length (now file) ≤ 65536) × (length (now «lent_names») ≡ 8 * length (now «lent_addresses»)) × (length (now memory) ≡ 65536) × (length (now map) ≡ 65536) × (length (now «new_names») ≡ 256) × (length (now «new_addresses») ≡ 32) × (now map ≡ blank) ⌝ }
+    ensures { λ r. ⌜ Went (blocksOf (now (file .entry)) (given (now («lent_names» .entry)) (now («lent_addresses» .entry)) low high)) write (rooms (now (memory .entry)) (now (map .entry)) (now («new_names» .entry)) (now («new_addresses» .entry))) r (rooms (now (memory .exit)) (now (map .exit)) (now («new_names» .exit)) (now («new_addresses» .exit))) ⌝ }
 {
     let mut cursor = first(low);
-    let mut placed = 0;
-    let mut adjusted = 0;
+    let mut bytes = 0;
+    let mut fields = 0;
     loop {
         if cursor.at == file.len() {
-            return Walked::Finished {
-                low: cursor.low,
-                named: cursor.named,
-                placed,
-                adjusted,
-            };
+            return Walked::Finished(total(cursor, bytes, fields));
         }
         let named = cursor.named;
         let size = NAME * named;
-        let found = blocks::read(file, high, known_names, &new_names[0..size], cursor);
-        let ended = carry_out(
-            file,
-            found,
-            cursor,
-            known_addresses,
-            &new_addresses[0..named],
-            write,
-            memory,
-            map,
-        );
+        let found = blocks::read(file, high, lent_names, &new_names[0..size], cursor);
+        let own = &new_addresses[0..named];
+        let ended = carry_out(file, found, cursor, lent_addresses, own, write, memory, map);
         match ended {
             Ended::Broken(fault) => {
-                return Walked::Stopped {
-                    fault,
-                    offset: cursor.at,
-                };
+                return Walked::Stopped(fault, cursor.at);
             }
-            Ended::Done {
-                next,
-                adjusted: more,
-            } => {
+            Ended::Done { next, adjusted } => {
                 note(file, found, named, new_names, new_addresses);
-                placed += placed_by(found);
-                adjusted += more;
+                bytes += placed_by(found);
+                fields += adjusted;
                 cursor = advance(cursor, found, next);
             }
         }
+    }
+}
+
+// What a walk comes to that has reached the file's end.
+fn total(cursor: Cursor, placed: usize, adjusted: usize) -> Totals
+    ensures { λ r. ⌜ r ≡ totals (cursor .low) (cursor .named) placed adjusted ⌝ }
+{
+    Totals {
+        low: cursor.low,
+        named: cursor.named,
+        placed,
+        adjusted,
     }
 }
 
@@ -490,81 +486,81 @@ fn advance(cursor: Cursor, found: Block, next: usize) -> Cursor
     requires { ⌜ (cursor .count ≤ 65536) × (cursor .named ≤ 65536) × RoomFits (cursor .low) found ⌝ }
     ensures { λ r. ⌜ r ≡ advanced cursor found next ⌝ }
 {
-    let mut table = cursor.table;
     match found {
         Block::Plain {
             address,
             from,
             size,
-        } => Cursor {
-            at: next,
-            low: cursor.low,
-            count: cursor.count,
-            named: cursor.named,
-            table,
-        },
+        } => pass(cursor, next, cursor.named),
         Block::Relocatable {
             reserves,
             number,
             offset,
             from,
             size,
-        } => {
-            table[number] = Slot {
-                taken: true,
-                address: cursor.low,
-                offset,
-                size,
-            };
-            Cursor {
-                at: next,
-                low: cursor.low + size,
-                count: cursor.count + 1,
-                named: cursor.named,
-                table,
-            }
-        }
-        Block::Update { source, from } => Cursor {
-            at: next,
-            low: cursor.low,
-            count: cursor.count,
-            named: cursor.named,
-            table,
-        },
-        Block::NewName { from, address } => Cursor {
-            at: next,
-            low: cursor.low,
-            count: cursor.count,
-            named: cursor.named + 1,
-            table,
-        },
+        } => add_block(cursor, number, offset, size, next),
+        Block::Update { source, from } => pass(cursor, next, cursor.named),
+        Block::NewName { from, address } => pass(cursor, next, cursor.named + 1),
         Block::Faulty(fault) => cursor,
+    }
+}
+
+// The cursor at another offset, with so many new names.
+fn pass(cursor: Cursor, next: usize, named: usize) -> Cursor
+    ensures { λ r. ⌜ r ≡ passed cursor next named ⌝ }
+{
+    let table = cursor.table;
+    Cursor {
+        at: next,
+        low: cursor.low,
+        count: cursor.count,
+        named,
+        table,
+    }
+}
+
+// The cursor with a block more, which lies at low.
+fn add_block(cursor: Cursor, number: usize, offset: u16, size: u16, next: usize) -> Cursor
+    requires { ⌜ (cursor .count ≤ 65536) × (cursor .low + size ≤ 65535) × (number < 8) ⌝ }
+    ensures { λ r. ⌜ r ≡ withBlock cursor number offset size next ⌝ }
+{
+    let mut table = cursor.table;
+    table[number] = Slot {
+        taken: true,
+        address: cursor.low,
+        offset,
+        size,
+    };
+    Cursor {
+        at: next,
+        low: cursor.low + size,
+        count: cursor.count + 1,
+        named: cursor.named,
+        table,
     }
 }
 
 // The acceptance of a file whose blocks are carried out; the rest of the rooms for new names is cleared.
 fn finish(
-    low: u16,
-    named: usize,
-    placed: usize,
-    adjusted: usize,
+    totals: Totals,
     memory: &[u8],
     map: &[u8],
     new_names: &mut [u8],
     new_addresses: &mut [u16],
 ) -> Outcome
-    requires { ⌜ (named ≤ 32) × (placed ≤ 65536) × (adjusted ≤ 65536) × (length (now memory) ≡ 65536) × (length (now map) ≡ 65536) × (length (now «new_names») ≡ 256) × (length (now «new_addresses») ≡ 32) ⌝ }
-    ensures { λ r. ⌜ Reported low named placed adjusted (rooms (now (memory .entry)) (now (map .entry)) (now («new_names» .entry)) (now («new_addresses» .entry))) r (now («new_names» .exit)) (now («new_addresses» .exit)) ⌝ }
+    requires { ⌜ (totals .named ≤ 32) × (totals .placed ≤ 65536) × (totals .adjusted ≤ 65536) × (length (now memory) ≡ 65536) × (length (now map) ≡ 65536) × (length (now «new_names») ≡ 256) × (length (now «new_addresses») ≡ 32) ⌝ }
+    ensures { λ r. ⌜ Reported totals (rooms (now (memory .entry)) (now (map .entry)) (now («new_names» .entry)) (now («new_addresses» .entry))) r (now («new_names» .exit)) (now («new_addresses» .exit)) ⌝ }
 {
+    let named = totals.named;
     let size = NAME * named;
     words::fill(&mut new_names[size..NAMES], 0);
     clear(&mut new_addresses[named..ADDRESSES]);
     Outcome::Accepted {
         start: start(memory, map),
-        placed: placed as u32,
-        adjusted: adjusted as u32,
+        placed: totals.placed as u32,
+        adjusted: totals.adjusted as u32,
         new_names: named as u32,
-        low: low as u32,
+        low: totals.low as u32,
     }
 }
 

@@ -1,68 +1,70 @@
 -- `sdx::advance` meets its contract: the cursor of the definition, by the kind of the block.
 -- Assumes nothing.
 use mathlib.Core.Path.{refl}
-use native.Mathlib.Omega.{arith}
 use borrow.Author.Needs.{needs}
 use Rattle.sdx.proofs.advance.Statement.{statement}
 use Rattle.sdx.proofs.advance.Tie as tie
 
--- src/lib.rt:496:13
+-- src/lib.rt:491:13
 enum-known-found : tie.Need-enum-known-found
 enum-known-found c = search needs
 
--- src/lib.rt:507:13
+-- src/lib.rt:494:14
+pass-requires : tie.Need-pass-requires
+pass-requires c κs = search needs
+
+-- src/lib.rt:496:13
 enum-known-found-2 : tie.Need-enum-known-found-2
 enum-known-found-2 c = search needs
 
--- src/lib.rt:513:13
-mul-table : tie.Need-mul-table
-mul-table c = let h = c .before .before .before .before .pre .2 .ends _ _ _ _ _ (c .before .found2 .given .1) in omega (arith, h .1)
+-- src/lib.rt:501:14
+add-block-requires : tie.Need-add-block-requires
+add-block-requires c κs =
+    let s = c .before .before .before in
+    let f = s .pre .2 .ends _ _ _ _ _ (c .before .found2 .given .1) in
+    (s .pre .0, f .0, f .1)
 
--- src/lib.rt:513:13
-array-set-from-table : tie.Need-array-set-from-table
-array-set-from-table c = c .before .before .before .before .pre .2 .ends _ _ _ _ _ (c .before .found2 .given .1) .1
-
--- src/lib.rt:521:22
-add-t24 : tie.Need-add-t24
-add-t24 c = let h = c .before .before .before .before .before .pre .2 .ends _ _ _ _ _ (c .before .before .found2 .given .1) in omega (arith, h .0)
-
--- src/lib.rt:522:24
-add-t21 : tie.Need-add-t21
-add-t21 c = search needs
-
--- src/lib.rt:527:25
+-- src/lib.rt:502:25
 enum-known-found-3 : tie.Need-enum-known-found-3
 enum-known-found-3 c = search needs
 
--- src/lib.rt:534:26
+-- src/lib.rt:502:43
+pass-requires-2 : tie.Need-pass-requires-2
+pass-requires-2 c κs = search needs
+
+-- src/lib.rt:503:26
 enum-known-found-4 : tie.Need-enum-known-found-4
 enum-known-found-4 c = search needs
 
--- src/lib.rt:538:20
-add-t27 : tie.Need-add-t27
-add-t27 c = search needs
+-- src/lib.rt:503:64
+add-pass : tie.Need-add-pass
+add-pass c = search needs
 
--- src/lib.rt:541:23
+-- src/lib.rt:503:45
+pass-requires-3 : tie.Need-pass-requires-3
+pass-requires-3 c κs = search needs
+
+-- src/lib.rt:504:23
 enum-known-found-5 : tie.Need-enum-known-found-5
 enum-known-found-5 c = search needs
 
--- src/lib.rt:489:1
+-- src/lib.rt:485:1
 returns : tie.Need-returns
-returns c = rw (c .before .found .given .1) refl
+returns c = rw (c .before .before .found .given .1) (c .pass .ensures)
 
--- src/lib.rt:489:1
+-- src/lib.rt:485:1
 returns-2 : tie.Need-returns-2
-returns-2 c = rw (c .before .before .before .found2 .given .1) refl
+returns-2 c = rw (c .before .before .found2 .given .1) (c .add-block .ensures)
 
--- src/lib.rt:489:1
+-- src/lib.rt:485:1
 returns-3 : tie.Need-returns-3
-returns-3 c = rw (c .before .found3 .given .1) refl
+returns-3 c = rw (c .before .before .found3 .given .1) (c .pass2 .ensures)
 
--- src/lib.rt:489:1
+-- src/lib.rt:485:1
 returns-4 : tie.Need-returns-4
-returns-4 c = rw (c .before .before .found4 .given .1) refl
+returns-4 c = rw (c .before .before .before .found4 .given .1) (c .pass3 .ensures)
 
--- src/lib.rt:489:1
+-- src/lib.rt:485:1
 returns-5 : tie.Need-returns-5
 returns-5 c = rw (c .before .found5 .given .1) refl
 
@@ -71,14 +73,14 @@ advance-spec =
     tie.close
     (tie.spec
     enum-known-found
+    pass-requires
     enum-known-found-2
-    mul-table
-    array-set-from-table
-    add-t24
-    add-t21
+    add-block-requires
     enum-known-found-3
+    pass-requires-2
     enum-known-found-4
-    add-t27
+    add-pass
+    pass-requires-3
     enum-known-found-5
     returns
     returns-2
