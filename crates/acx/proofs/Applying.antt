@@ -24,7 +24,6 @@ use Rattle.records.specs.declared.Record.{Record}
 use Rattle.records.specs.declared.Record.the-variants.{Code, Fixups, End, Faulty}
 use Rattle.words.proofs.Lent.{lent-is}
 use Rattle.words.proofs.Runs.{length-part}
-use Rattle.words.specs.Runs.{part}
 use Rattle.acx.specs.AtBases.{placing, adjusting, startOf, ending, applied}
 use Rattle.acx.specs.Pieces.{placeAt, limitOf}
 use Rattle.acx.specs.declared.Bases.{Bases}

@@ -1,29 +1,29 @@
 -- A refused call changes no memory, and two benches hold the same program: specs/Benches.antt, of every call that keeps the contract.
 -- Assumes nothing.
-use mathlib.Core.Bool.{Bool, true, false, false≢true}
+use mathlib.Core.Bool.{Bool, true, false≢true}
 use mathlib.Core.List.{List}
 use mathlib.Core.Path.{_≡_, refl, sym, ap, _∙_}
 use Prim.Native.Nat.{ℕ}
 use borrow.Author.Tests.{eq-eqb}
 use lib.ListN.{length}
+use Rattle.answer.proofs.Outcomes.{isRefused, faultIn}
 use Rattle.answer.specs.Checks.{need}
 use Rattle.answer.specs.declared.Fault.{Fault}
 use Rattle.answer.specs.declared.Fault.the-variants.{WrongBuffer}
 use Rattle.answer.specs.declared.Outcome.{Outcome}
 use Rattle.answer.specs.declared.Outcome.the-variants.{Refused}
 use Rattle.answer.specs.declared.Start.{Start}
+use Rattle.events.proofs.Lists.{each-zip}
 use Rattle.events.specs.Events.{Event, play, blank, Ran}
 use Rattle.events.specs.Lists.{Each}
 use Rattle.words.specs.Runs.{part}
-use Rattle.acx.proofs.Calling.{isRefused, faultIn}
 use Rattle.acx.proofs.Demand2.{asked-judged}
 use Rattle.acx.proofs.Handlers.{fits-memory, handled}
-use Rattle.events.proofs.Lists.{each-zip}
 use Rattle.acx.proofs.Loads.{loaded, laid, play-laid, laid-parts}
 use Rattle.acx.specs.Benches.{RefusedCall, SameProgram}
 use Rattle.acx.specs.Call.{formOf, Settings, basesOf, load, call, memoryAfter, mapAfter, ifSized, Loaded}
 use Rattle.acx.specs.Demand2.{Asked}
-use Rattle.acx.specs.Pieces.{Piece, size, placeOf, events}
+use Rattle.acx.specs.Pieces.{Piece, size, placeOf}
 use Rattle.acx.specs.Walk.{Verdict, accepted, refused, atOnce, judged, report, reported}
 
 -- ---- refused

@@ -7,7 +7,9 @@ use Prim.Native.Nat.{ℕ, zero, suc, _≤_, _<_}
 use native.Mathlib.Omega.{arith}
 use borrow.Author.Tests.{le-leb, lt-leb, leb-true, eq-eqb, ne-eqb}
 use lib.Dec.{leb}
-use lib.ListN.{length, replicate}
+use lib.ListN.{length}
+use Rattle.answer.proofs.Checks.{and-true}
+use Rattle.answer.proofs.Outcomes.{isRefused}
 use Rattle.answer.specs.Checks.{need}
 use Rattle.answer.specs.Report.{placedOf, adjustedOf}
 use Rattle.answer.specs.declared.Fault.{Fault}
@@ -52,15 +54,6 @@ module _ (form : Form) (file : List ℕ) (b : Bases) (write : Bool) (m : List �
 
 -- ---- first checked, then carried out
 
-abbrev pub isRefused : Outcome → Bool
-isRefused (Accepted start placed adjusted names low) = false
-isRefused (Refused fault offset side) = true
-
--- the fault of a refusal
-abbrev pub faultIn : Outcome → Fault
-faultIn (Accepted start placed adjusted names low) = WrongBuffer
-faultIn (Refused fault offset side) = fault
-
 module _ {m m₁ p₁ : List ℕ} {r : Outcome} where
   -- (memory was not written while the file was checked)
   pub carried-refused : {o : Ran Verdict} {fault : Fault} {at side : ℕ} {p′ : List ℕ} → Did Outcome (reported o) false m blank r m₁ p₁
@@ -83,11 +76,6 @@ module _ {m m₁ p₁ : List ℕ} {r : Outcome} where
       by (refused h a) f = absurd (false≢true (ap isRefused (sym e ∙ d .answer ∙ ap (λ (v : Verdict). report v (o .events)) f)))
 
 -- ---- the settings and the file's length
-
--- both of two tests hold
-pub and-true : (a b : Bool) → a && b ≡ true → (a ≡ true) × (b ≡ true)
-and-true true b e = (refl, e)
-and-true false b e = absurd (false≢true e)
 
 -- bases in their ranges
 pub range-bounds : (s : Settings) → inRange s ≡ true → (s .main ≤ 65535) × (s .zero ≤ 255)

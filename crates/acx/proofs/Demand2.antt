@@ -8,6 +8,8 @@ use native.Mathlib.Omega.{arith}
 use borrow.Author.Tests.{le-leb, leb-true, eq-eqb, eqb-true}
 use lib.Dec.{eqb}
 use lib.ListN.{length, getD}
+use Rattle.answer.proofs.Checks.{and-true}
+use Rattle.answer.proofs.Outcomes.{isRefused}
 use Rattle.answer.specs.Checks.{need}
 use Rattle.answer.specs.Report.{placedOf, adjustedOf}
 use Rattle.answer.specs.declared.Fault.{Fault}
@@ -15,12 +17,11 @@ use Rattle.answer.specs.declared.Outcome.{Outcome}
 use Rattle.answer.specs.declared.Outcome.the-variants.{Accepted, Refused}
 use Rattle.answer.specs.declared.Start.{Start}
 use Rattle.answer.specs.declared.Start.the-variants.{Absent}
-use Rattle.events.proofs.Events.{placed-append, adjusted-append}
+use Rattle.events.proofs.Events.{placed-append, adjusted-append, length-blank, blank-at}
 use Rattle.events.specs.Events.{Event, place, play, marks, blank, placedIn, adjustedIn, Ran}
-use Rattle.acx.proofs.Calling.{isRefused, and-true}
 use Rattle.acx.proofs.Handlers.{fits-memory, handled}
 use Rattle.acx.proofs.Loads.{laid, play-laid, laid-outside, laid-plain, laid-fields}
-use Rattle.acx.proofs.Marks.{length-blank, blank-at, marks-outside, marks-plain, marks-fields}
+use Rattle.acx.proofs.Marks.{marks-outside, marks-plain, marks-fields}
 use Rattle.acx.proofs.PieceEvents.{placed-adjustments, adjusted-adjustments}
 use Rattle.acx.proofs.Standing.{Stands}
 use Rattle.acx.specs.Call.{formOf, Settings, basesOf, load, call, memoryAfter, mapAfter, Loaded}

@@ -24,7 +24,7 @@ use Rattle.records.specs.declared.Record.the-variants.{End}
 use Rattle.acx.proofs.Checks.{failed-passed, need-passed}
 use Rattle.acx.proofs.Cursors.{Came, came-first, came-found, came-on, came-further, came-ends-by, onward-by-tag}
 use Rattle.acx.proofs.Standing.{events-after}
-use Rattle.acx.proofs.Walking.{piecesAfter, Onward, onward, from-step, end-none}
+use Rattle.acx.proofs.Walking.{piecesAfter, Onward, from-step, end-none}
 use Rattle.acx.specs.AtBases.{startOf, ending, applied}
 use Rattle.acx.specs.Cursor.{begun, EndsBy, advanced}
 use Rattle.acx.specs.Pieces.{Piece, events}

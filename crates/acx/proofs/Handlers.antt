@@ -6,7 +6,8 @@ use Prim.Native.Nat.{ℕ, _+_, _≤_}
 use native.Mathlib.Omega.{arith}
 use lib.ListN.{length}
 use Rattle.answer.specs.declared.Start.{Start}
-use Rattle.events.proofs.Events.{length-marks}
+use Rattle.events.proofs.Events.{length-marks, length-blank}
+use Rattle.events.proofs.Lists.{each-map, each-append, pairwise-append}
 use Rattle.events.specs.Events.{marks, blank}
 use Rattle.events.specs.Lists.{Each}
 use Rattle.events.specs.declared.Check.the-variants.{Passed}
@@ -19,9 +20,8 @@ use Rattle.records.specs.declared.Record.the-variants.{Code, Fixups, End, Fault
 use Rattle.words.proofs.Runs.{length-part}
 use Rattle.words.specs.Runs.{part}
 use Rattle.acx.proofs.Checks.{placing-passed}
-use Rattle.events.proofs.Lists.{each-map, each-append, pairwise-append}
 use Rattle.acx.proofs.Loads.{Fits}
-use Rattle.acx.proofs.Marks.{length-blank, marks-fields, marks-some, code-apart, fields-fresh}
+use Rattle.acx.proofs.Marks.{marks-fields, marks-some, code-apart, fields-fresh}
 use Rattle.acx.proofs.Standing.{limit-le, code-passed, fixups-passed, Stands, stands-first, stands-on}
 use Rattle.acx.proofs.Walking.{piecesAfter, Onward, accepted-keeps}
 use Rattle.acx.specs.AtBases.{adjusting}

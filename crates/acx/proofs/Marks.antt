@@ -4,68 +4,34 @@
 use mathlib.Core.Bool.{true, false}
 use mathlib.Core.List.{List, [], _∷_}
 use mathlib.Core.Path.{_≡_, refl, sym, ap, _∙_, subst}
-use Prim.Native.Nat.{ℕ, zero, suc, _+_, _-_, _≤_, _<_}
+use Prim.Native.Nat.{ℕ, _+_, _-_, _≤_, _<_}
 use native.Mathlib.Omega.{arith}
-use lib.ListN.{length, getD, replicate, length-replicate, getD-replicate}
-use Rattle.events.proofs.Events.{marks-append}
-use Rattle.events.specs.Events.{place, marks, blank}
+use lib.ListN.{length, getD, replicate, getD-replicate}
+use Rattle.events.proofs.Events.{marks-append, length-run, fill-outside, fill-inside}
+use Rattle.events.proofs.Lists.{each-all, each-map, each-zip}
+use Rattle.events.specs.Events.{place, marks}
 use Rattle.events.specs.Lists.{Each, Pairwise}
 use Rattle.events.specs.declared.Check.the-variants.{Passed}
 use Rattle.records.specs.declared.Field.{Field}
-use Rattle.words.proofs.Runs.{within?, length-put, put-outside, put-inside, put-in-put, length-part, part-at, zero-at, contains-not}
+use Rattle.words.proofs.Runs.{within?, length-put, put-in-put, length-part, part-at, zero-at, contains-not}
 use Rattle.words.specs.Runs.{Within, part, put, allZero, contains}
 use Rattle.acx.proofs.Checks.{adjusting-passed}
-use Rattle.events.proofs.Lists.{each-all, each-map, each-zip}
 use Rattle.acx.proofs.Loads.{Fits, lay, lay-outside, lay-parts}
 use Rattle.acx.specs.AtBases.{adjusting}
 use Rattle.acx.specs.Demand2.{Placed, In, PiecesApart, FieldsApart, Inside}
 use Rattle.acx.specs.Pieces.{Piece, size, placeOf, width, adjustments, events}
 use Rattle.acx.specs.declared.Bases.{Bases}
 
--- ---- a clear map
-
--- a run of n marks has the length n
-length-run : (n v : ℕ) → length (replicate n v) ≡ n
-length-run n v = length-replicate n v
-
--- as long as memory
-pub length-blank : length blank ≡ 65536
-unfolding blank
-length-blank = length-run 65536 0
-
--- a run of zeros is 0 everywhere, past its end too
-zeros-at : (n x : ℕ) → _≡_ {A = ℕ} (getD (replicate n 0) x 0) 0
-zeros-at zero x = refl
-zeros-at (suc n) zero = refl
-zeros-at (suc n) (suc x) = zeros-at n x
-
--- 0 at every address
-pub blank-at : (x : ℕ) → getD blank x 0 ≡ 0
-unfolding blank
-blank-at x = zeros-at 65536 x
-
 -- ---- a run of one mark
 
 module _ (l : List ℕ) (a n v : ℕ) where
-  -- elsewhere the map stays
-  pub fill-outside : (x : ℕ) → ¬ Within a n x → getD (put l a (replicate n v)) x 0 ≡ getD l x 0
-  fill-outside x h = put-outside l a (replicate n v) x (rw (length-run n v) h)
-
-  -- in the run it is the mark
-  pub fill-inside : (x : ℕ) → a + n ≤ length l → Within a n x → getD (put l a (replicate n v)) x 0 ≡ v
-  fill-inside x h w =
-      let e : a + (x - a) ≡ x = omega arith in
-      ap (λ (k : ℕ). getD (put l a (replicate n v)) k 0) (sym e)
-      ∙ put-inside l a (replicate n v) (x - a) (rw (length-run n v) h) (rw (length-run n v) (omega arith))
-      ∙ getD-replicate n (x - a) v 0 (omega arith)
-
   -- what holds of the mark and held before holds after
   pub fill-keeps : (P : ℕ → Type 0) (x : ℕ) → a + n ≤ length l → P v → P (getD l x 0) → P (getD (put l a (replicate n v)) x 0)
   fill-keeps P x h p q = by (within? a n x)
     where
       by : Dec (Within a n x) → P (getD (put l a (replicate n v)) x 0)
-      by (yes w) = subst P (sym (fill-inside x h w)) p
-      by (no w) = subst P (sym (fill-outside x w)) q
+      by (yes w) = subst P (sym (fill-inside l a n v x h w)) p
+      by (no w) = subst P (sym (fill-outside l a n v x w)) q
 
 -- ---- the marks of one piece
 

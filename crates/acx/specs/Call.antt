@@ -10,7 +10,6 @@ use Rattle.answer.specs.Checks.{need}
 use Rattle.answer.specs.Report.{placedOf, adjustedOf}
 use Rattle.answer.specs.declared.Fault.the-variants.{WrongBuffer, SettingOutOfRange, FileTooLong}
 use Rattle.answer.specs.declared.Outcome.{Outcome}
-use Rattle.answer.specs.declared.Outcome.the-variants.{Accepted, Refused}
 use Rattle.events.specs.Events.{Event, play, marks, blank, Ran}
 use Rattle.acx.specs.Walk.{Verdict, accepted, refused, atOnce, judged, reported}
 use Rattle.acx.specs.declared.Bases.{Bases}

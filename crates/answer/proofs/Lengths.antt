@@ -3,7 +3,6 @@
 use mathlib.Core.Path.{_≡_, refl, ap, _∙_}
 use Prim.Native.Nat.{_*_}
 use lib.ListN.{length}
-use Rattle.words.specs.Numbers.{encoded}
 use Rattle.words.proofs.Numbers.{length-encoded}
 use Rattle.answer.specs.Report.{numbersOf, answerLength, answerBytes}
 use Rattle.answer.specs.declared.Outcome.{Outcome}

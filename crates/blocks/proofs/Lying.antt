@@ -1,14 +1,14 @@
 -- Where what a block says lies, whatever the file: past the block's offset and in the file, in memory, in the table or in a list of names.
 -- Assumes nothing.
-use mathlib.Core.Bool.{Bool, true, false, not, _&&_, false≢true}
+use mathlib.Core.Bool.{Bool, true, not}
 use mathlib.Core.List.{List}
 use mathlib.Core.Path.{_≡_, refl}
-use Prim.Native.Nat.{ℕ, _+_, _-_, _*_, _/_, _%_, _≤_, _<_}
+use Prim.Native.Nat.{ℕ, _+_, _-_, _*_, _/_, _≤_, _<_}
 use native.Mathlib.Omega.{arith}
 use borrow.Author.Tests.{leb-true, ltb-true}
-use lib.Dec.{ltb, leb}
+use lib.Dec.{ltb}
 use lib.ListN.{length, getD}
-use Rattle.answer.proofs.Checks.{on-need, on-pick}
+use Rattle.answer.proofs.Checks.{on-need, on-pick, and-true}
 use Rattle.answer.specs.Checks.{need}
 use Rattle.answer.specs.declared.Fault.{Fault}
 use Rattle.names.proofs.Searching.{own-inside, lent-inside}
@@ -23,11 +23,6 @@ use Rattle.blocks.specs.Bounds.{Fits}
 use Rattle.blocks.specs.declared.Block.{Block}
 use Rattle.blocks.specs.declared.Block.the-variants.{Faulty}
 use Rattle.blocks.specs.declared.Cursor.{Cursor}
-
--- the second of two tests that hold
-second : (a b : Bool) → a && b ≡ true → b ≡ true
-second true b e = e
-second false b e = absurd (false≢true e)
 
 module _ (file : List ℕ) (high : ℕ) (lent own : List ℕ) (c : Cursor) where
   abbrev Lain : Block → Type 0
@@ -48,7 +43,7 @@ module _ (file : List ℕ) (high : ℕ) (lent own : List ℕ) (c : Cursor) where
       (λ i. checked _ _ _
       (λ j. checked _ _ _
       (λ k. let below : c .low + value 2 file (c .at + 6) ≤ high = leb-true _ _ k in
-      let left = second (not (slotAt (c .table) number .taken)) (ltb (c .count) mostBlocks) i in
+      let left = and-true (not (slotAt (c .table) number .taken)) (ltb (c .count) mostBlocks) i .1 in
       record { lies = (omega arith, leb-true _ _ j, omega arith, omega arith, ltb-true _ _ left) })))
 
   relocatable-lies : high ≤ 65535 → Lain (readRelocatable file high c)
@@ -95,4 +90,7 @@ module _ (file : List ℕ) (high : ℕ) (lent own : List ℕ) (c : Cursor) where
 
   pub read-lies : high ≤ 65535 → Fits (length file) c (length lent / 8) (length own / 8) (read file high lent own c)
   unfolding read
-  read-lies h = checked _ _ _ (λ i. on-pick Lain _ _ _ (λ j. plain-lies (c .at) (omega arith)) (λ j. marked-lies h (getD markers (value 2 file (c .at) - firstMarker) plain)))
+  read-lies h =
+      checked _ _ _
+      (λ i. on-pick Lain _ _ _ (λ j. plain-lies (c .at) (omega arith))
+      (λ j. marked-lies h (getD markers (value 2 file (c .at) - firstMarker) plain)))

@@ -1,17 +1,16 @@
 -- The checks of a block, over plain values: what each comes to where it holds and where it fails. The functions' proofs cite these.
 -- Assumes nothing.
-use mathlib.Core.Bool.{Bool, true, false, not, _&&_, false≢true}
+use mathlib.Core.Bool.{Bool, true, false}
 use mathlib.Core.List.{List}
 use mathlib.Core.Path.{_≡_, refl, sym, ap, _∙_}
 use Prim.Native.Nat.{ℕ, zero, suc, _+_, _-_, _%_, _<_, _≤_}
 use native.Mathlib.Omega.{arith}
 use borrow.Author.Tests.{lt-leb, le-leb, lt-ltb, le-ltb, ne-eqb}
-use lib.Dec.{ltb, leb, eqb}
 use lib.ListN.{length, getD}
 use Rattle.answer.proofs.Checks.{on-need}
 use Rattle.answer.specs.Checks.{need, pick}
 use Rattle.answer.specs.declared.Fault.{Fault}
-use Rattle.answer.specs.declared.Fault.the-variants.{CutShort, NotKnown, BlockTaken, BlockMissing, LengthNotAllowed, DoesNotFit, NameUnknown, TooManyNames, NameOutsideBlock}
+use Rattle.answer.specs.declared.Fault.the-variants.{CutShort, NotKnown, BlockTaken, BlockMissing, LengthNotAllowed, DoesNotFit, TooManyNames, NameOutsideBlock}
 use Rattle.names.specs.Names.{lookUp}
 use Rattle.names.specs.declared.Definition.{Definition}
 use Rattle.names.specs.declared.Definition.the-variants.{Missing, New, Lent}
@@ -20,7 +19,7 @@ use Rattle.updates.specs.declared.Slot.{Slot}
 use Rattle.words.proofs.Numbers.{off-is}
 use Rattle.words.specs.Numbers.{value}
 use Rattle.words.specs.Runs.{part}
-use Rattle.blocks.specs.Blocks.{readPlain, dataSize, isId, reserveOnly, readRoom, readRelocatable, readUpdate, byDefinition, readNames, readAddress, readNewName, plain, markers, readAs, read, amountOf}
+use Rattle.blocks.specs.Blocks.{readPlain, dataSize, readRoom, readRelocatable, readUpdate, byDefinition, readNames, readAddress, readNewName, plain, markers, readAs, read, amountOf}
 use Rattle.blocks.specs.Bounds.{Listed, InMemory}
 use Rattle.blocks.specs.declared.Block.{Block}
 use Rattle.blocks.specs.declared.Block.the-variants.{Plain, Relocatable, Update, NewName, Faulty}

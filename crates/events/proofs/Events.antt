@@ -3,15 +3,15 @@
 use mathlib.Core.Bool.{Bool, true, false}
 use mathlib.Core.List.{List, [], _∷_, _++_}
 use mathlib.Core.Path.{_≡_, refl, sym, ap, _∙_}
-use Prim.Native.Nat.{ℕ, _+_, _-_, _≤_}
+use Prim.Native.Nat.{ℕ, zero, suc, _+_, _-_, _≤_}
 use native.Mathlib.Omega.{arith}
 use borrow.Rule.Slice.PartMut.{midOf, putMid}
-use lib.ListN.{length, replicate, length-replicate}
+use lib.ListN.{length, getD, replicate, length-replicate, getD-replicate}
 use Rattle.words.proofs.Changes.{length-change}
 use Rattle.words.proofs.Lent.{lent-is, back-is}
-use Rattle.words.proofs.Runs.{length-put, length-part}
+use Rattle.words.proofs.Runs.{length-put, put-outside, put-inside, length-part}
 use Rattle.words.specs.Numbers.{on, change}
-use Rattle.words.specs.Runs.{put}
+use Rattle.words.specs.Runs.{Within, put}
 use Rattle.events.specs.Events.{Event, place, reserve, adjust, playOne, play, markOne, marks, blank, placedIn, adjustedIn, Ran, playIf, Reached, Did}
 
 -- ---- one list after another
@@ -46,7 +46,7 @@ adjusted-append (adjust width a amount ∷ es) fs = omega (arith, adjusted-appen
 
 -- ---- lengths
 
-length-playOne : (e : Event) (m : List ℕ) → length (playOne e m) ≡ length m
+pub length-playOne : (e : Event) (m : List ℕ) → length (playOne e m) ≡ length m
 length-playOne (place a bytes) m = length-put m _ _
 length-playOne (reserve a n) m = refl
 length-playOne (adjust width a amount) m = length-change _ _ m _
@@ -56,7 +56,7 @@ unfolding play
 length-play [] m = refl
 length-play (e ∷ es) m = length-play es (playOne e m) ∙ length-playOne e m
 
-length-markOne : (e : Event) (p : List ℕ) → length (markOne e p) ≡ length p
+pub length-markOne : (e : Event) (p : List ℕ) → length (markOne e p) ≡ length p
 length-markOne (place a bytes) p = length-put p _ _
 length-markOne (reserve a n) p = length-put p _ _
 length-markOne (adjust width a amount) p = length-put p _ _
@@ -96,6 +96,41 @@ pub cleared : (n : ℕ) (p : List ℕ) → n ≡ 65536 → p ≡ replicate n 0 �
 unfolding blank
 cleared n p l e = e ∙ ap (λ (k : ℕ). replicate k 0) l
 
+-- a run of n marks has the length n
+pub length-run : (n v : ℕ) → length (replicate n v) ≡ n
+length-run n v = length-replicate n v
+
+-- so the clear map is as long as memory
+pub length-blank : length blank ≡ 65536
+unfolding blank
+length-blank = length-run 65536 0
+
+-- a run of zeros is 0 everywhere, past its end too
+zeros-at : (n x : ℕ) → _≡_ {A = ℕ} (getD (replicate n 0) x 0) 0
+zeros-at zero x = refl
+zeros-at (suc n) zero = refl
+zeros-at (suc n) (suc x) = zeros-at n x
+
+-- and 0 at every address
+pub blank-at : (x : ℕ) → getD blank x 0 ≡ 0
+unfolding blank
+blank-at x = zeros-at 65536 x
+
+-- ---- a run of one mark
+
+module _ (p : List ℕ) (a n v : ℕ) where
+  -- elsewhere the map stays
+  pub fill-outside : (x : ℕ) → ¬ Within a n x → getD (put p a (replicate n v)) x 0 ≡ getD p x 0
+  fill-outside x h = put-outside p a (replicate n v) x (rw (length-run n v) h)
+
+  -- in the run it is the mark
+  pub fill-inside : (x : ℕ) → a + n ≤ length p → Within a n x → getD (put p a (replicate n v)) x 0 ≡ v
+  fill-inside x h w =
+      let e : a + (x - a) ≡ x = omega arith in
+      ap (λ (k : ℕ). getD (put p a (replicate n v)) k 0) (sym e)
+      ∙ put-inside p a (replicate n v) (x - a) (rw (length-run n v) h) (rw (length-run n v) (omega arith))
+      ∙ getD-replicate n (x - a) v 0 (omega arith)
+
 -- ---- parts that were lent
 
 -- a part of the map that was filled with a mark
@@ -104,7 +139,7 @@ pub filled : (a n v : ℕ) (p w : List ℕ) → a + n ≤ length p → w ≡ rep
 filled a n v p w h e =
     let l : length (midOf a (a + n - a) p) ≡ n = ap length (lent-is a n p) ∙ length-part p a n h in
     let e′ : w ≡ replicate n v = e ∙ ap (λ (k : ℕ). replicate k v) l in
-    rw e′ (back-is a n p (replicate n v) h (length-replicate n v))
+    rw e′ (back-is a n p (replicate n v) h (length-run n v))
 
 -- a part of memory that bytes were copied into
 copied : (a : ℕ) (bytes m w : List ℕ) → a + length bytes ≤ length m → w ≡ bytes → putMid a (a + length bytes - a) m w ≡ play (place a bytes ∷ []) m

@@ -1,13 +1,39 @@
--- Walks whose turns bring a measure down: the count of turns does not matter, what a turn does comes before what the walk from its next state
--- does, and what every turn keeps holds at the end.
+-- Turns told apart. Walks whose turns bring a measure down: the count of turns does not matter, what a turn does comes before what the walk from
+-- its next state does, and what every turn keeps holds at the end.
 -- Assumes nothing.
-use mathlib.Core.List.{List, [], _∷_, _++_, append-assoc}
+use mathlib.Core.List.{List, [], _++_, append-assoc}
 use mathlib.Core.Path.{_≡_, refl, sym, ap, _∙_}
 use Prim.Native.Nat.{ℕ, zero, suc, _<_}
 use native.Mathlib.Omega.{arith}
 use Rattle.events.proofs.Events.{marks-append}
 use Rattle.events.specs.Events.{Event, marks, Ran}
 use Rattle.events.specs.Walk.{Turn, ends, leads, after, onward, walk, from}
+
+-- ---- turns told apart
+
+module _ {S A : Type 0} where
+  abbrev isLeads : Turn S A → ℕ
+  isLeads (ends a) = 0
+  isLeads (leads s) = 1
+
+  pub ends-leads : {a : A} {z : S} → _≡_ {A = Turn S A} (ends a) (leads z) → ⊥
+  ends-leads e = let n : _≡_ {A = ℕ} 0 1 = ap isLeads e in omega arith
+
+  abbrev whither : S → Turn S A → S
+  whither d (ends a) = d
+  whither d (leads s) = s
+
+  pub leads-same : {s z : S} → _≡_ {A = Turn S A} (leads s) (leads z) → s ≡ z
+  leads-same {s} e = ap (whither s) e
+
+  abbrev answerOf : A → Turn S A → A
+  answerOf d (ends a) = a
+  answerOf d (leads s) = d
+
+  pub ends-same : {a b : A} → _≡_ {A = Turn S A} (ends a) (ends b) → a ≡ b
+  ends-same {a} e = ap (answerOf a) e
+
+-- ---- turn after turn
 
 module _ {S A : Type 0} (turn : S → List ℕ → Ran (Turn S A)) (last : S → A) (measure : S → ℕ)
     (falls : (s z : S) (map : List ℕ) → turn s map .answer ≡ leads z → measure z < measure s) where
@@ -50,7 +76,8 @@ module _ {S A : Type 0} (turn : S → List ℕ → Ran (Turn S A)) (last : S →
     came-on z e =
         let fs = turn s (marks es p) .events in
         came
-        ∙ ap (λ (r : Ran A). after es r) (from-turn s (marks es p) ∙ ap (λ (t : Turn S A). onward (λ z q. from turn last measure z q) (marks es p) fs t) e)
+        ∙ ap (λ (r : Ran A). after es r)
+        (from-turn s (marks es p) ∙ ap (λ (t : Turn S A). onward (λ z q. from turn last measure z q) (marks es p) fs t) e)
         ∙ ap (λ (q : List ℕ). after es (after fs (from turn last measure z q))) (sym (marks-append es fs p))
         ∙ ap (λ (gs : List Event). record { answer = from turn last measure z (marks (es ++ fs) p) .answer; events = gs })
         (sym (append-assoc es fs (from turn last measure z (marks (es ++ fs) p) .events)))
@@ -58,9 +85,10 @@ module _ {S A : Type 0} (turn : S → List ℕ → Ran (Turn S A)) (last : S →
     -- or ends it
     pub came-end : (a : A) → turn s (marks es p) .answer ≡ ends a → o ≡ record { answer = a; events = es ++ turn s (marks es p) .events }
     came-end a e =
+        let fs = turn s (marks es p) .events in
         came
         ∙ ap (λ (r : Ran A). after es r)
-        (from-turn s (marks es p) ∙ ap (λ (t : Turn S A). onward (λ z q. from turn last measure z q) (marks es p) (turn s (marks es p) .events) t) e)
+        (from-turn s (marks es p) ∙ ap (λ (t : Turn S A). onward (λ z q. from turn last measure z q) (marks es p) fs t) e)
 
 -- ---- what every turn keeps
 

@@ -10,19 +10,19 @@ use borrow.Rule.Slice.PartMut.{midOf, putMid}
 use lib.ListN.{length}
 use Rattle.acx.proofs.Cursors.{Came, advanced-at, came-first, came-found, came-on, came-passes, came-to-end, came-onward}
 use Rattle.acx.proofs.Edits.{length-edited, edited-append}
-use Rattle.acx.proofs.Marks.{length-blank, fields-fresh}
+use Rattle.acx.proofs.Marks.{fields-fresh}
 use Rattle.acx.proofs.Standing.{fixups-passed}
 use Rattle.acx.proofs.Walking.{piecesAfter, Onward, judged-accepted}
-use Rattle.acx.specs.Demand2.{Inside}
 use Rattle.acx.specs.Call.{formOf}
 use Rattle.acx.specs.Cursor.{begun, advanced}
+use Rattle.acx.specs.Demand2.{Inside}
 use Rattle.acx.specs.Pieces.{Piece, size, placeAt, placeOf, edited, events}
 use Rattle.acx.specs.Walk.{accepted, lastOf, lastPlace, lastSize, recordAt, checked, withFields, from, openingSize}
 use Rattle.acx.specs.declared.Bases.{Bases}
 use Rattle.acx.specs.declared.Cursor.{Cursor}
 use Rattle.answer.specs.declared.Fault.{Fault}
 use Rattle.answer.specs.declared.Start.{Start}
-use Rattle.events.proofs.Events.{length-marks}
+use Rattle.events.proofs.Events.{length-marks, length-blank}
 use Rattle.events.specs.Events.{marks, blank}
 use Rattle.events.specs.Lists.{Each}
 use Rattle.events.specs.declared.Check.the-variants.{Passed}
@@ -206,7 +206,8 @@ pub takes-lent : (file : List ℕ) (target : Cursor) (t : List ℕ) (fixup : Fix
     → target .place + target .size ≤ length t
     → (from + k ≤ length file) × Each (Inside (target .size)) (fieldsOf fixup (part file from k))
     → (length (midOf from (from + k - from) file) ≤ 65536)
-    × Each (Inside (length (midOf (target .place) (target .place + target .size - target .place) t))) (fieldsOf fixup (midOf from (from + k - from) file))
+    × Each (Inside (length (midOf (target .place) (target .place + target .size - target .place) t)))
+    (fieldsOf fixup (midOf from (from + k - from) file))
 takes-lent file target t fixup from k l j h =
     let items = lent-is from k file in
     let code = lent-is (target .place) (target .size) t in

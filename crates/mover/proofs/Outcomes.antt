@@ -6,11 +6,11 @@ use mathlib.Core.Path.{_≡_, refl, sym, ap, _∙_, subst}
 use Prim.Native.Nat.{ℕ}
 use borrow.Author.Tests.{eq-eqb}
 use lib.ListN.{length, getD}
-use Rattle.acx.proofs.Calling.{isRefused, faultIn}
 use Rattle.acx.specs.Call.{settings, Settings, load, call, sized as loadSized, ifSized, mapAfter as loadMap, Loaded}
 use Rattle.acx.specs.Pieces.{Piece}
-use Rattle.acx.specs.Walk.{Verdict, accepted, atOnce, reported}
+use Rattle.acx.specs.Walk.{Verdict, atOnce, reported}
 use Rattle.acx.specs.declared.Bases.{Bases}
+use Rattle.answer.proofs.Outcomes.{isRefused, faultIn}
 use Rattle.answer.specs.Checks.{need}
 use Rattle.answer.specs.declared.Fault.{Fault}
 use Rattle.answer.specs.declared.Fault.the-variants.{WrongBuffer}

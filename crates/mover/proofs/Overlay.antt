@@ -8,13 +8,13 @@ use native.Mathlib.Omega.{arith}
 use lib.ListN.{length, getD, set, List·getD-eq-default}
 use lib.Seq.{ext-getD, getD-set-same, getD-set-other}
 use Rattle.acx.proofs.Handlers.{fits-memory}
-use Rattle.events.proofs.Lists.{each-zip3}
 use Rattle.acx.proofs.Loads.{Fits}
-use Rattle.acx.proofs.Marks.{length-blank, blank-at, marks-outside, marks-some}
+use Rattle.acx.proofs.Marks.{marks-outside, marks-some}
 use Rattle.acx.specs.Demand2.{Placed, Handler}
 use Rattle.acx.specs.Pieces.{Piece, size, placeOf, events}
 use Rattle.acx.specs.declared.Bases.{Bases}
-use Rattle.events.proofs.Events.{length-marks}
+use Rattle.events.proofs.Events.{length-marks, length-blank, blank-at}
+use Rattle.events.proofs.Lists.{each-zip3}
 use Rattle.events.specs.Events.{Event, marks, blank}
 use Rattle.events.specs.Lists.{Each}
 use Rattle.words.proofs.Runs.{within?, part-agree-at}

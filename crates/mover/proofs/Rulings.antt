@@ -7,10 +7,9 @@ use Prim.Native.Nat.{ℕ, _≤_}
 use native.Mathlib.Omega.{arith}
 use borrow.Author.Tests.{eq-eqb}
 use lib.ListN.{length}
-use Rattle.acx.proofs.Calling.{isRefused, range-bounds, Follows, load-follows}
+use Rattle.acx.proofs.Calling.{range-bounds, Follows, load-follows}
 use Rattle.acx.proofs.Demand2.{handler-of}
 use Rattle.acx.proofs.Handlers.{fits-memory, handled}
-use Rattle.events.proofs.Lists.{each-map}
 use Rattle.acx.proofs.Loads.{laid, play-laid}
 use Rattle.acx.proofs.Same.{Bare, bare, same-pieces}
 use Rattle.acx.specs.Call.{formOf, settings, memoryAfter as playedBy}
@@ -18,10 +17,12 @@ use Rattle.acx.specs.Demand2.{Handler}
 use Rattle.acx.specs.Pieces.{Piece, events}
 use Rattle.acx.specs.Walk.{Verdict, accepted, refused, judged, report as outcomeReported, reported}
 use Rattle.acx.specs.declared.Bases.{Bases}
+use Rattle.answer.proofs.Outcomes.{isRefused}
 use Rattle.answer.specs.Checks.{need}
 use Rattle.answer.specs.declared.Fault.the-variants.{WrongBuffer}
 use Rattle.answer.specs.declared.Outcome.the-variants.{Accepted}
 use Rattle.answer.specs.declared.Start.{Start}
+use Rattle.events.proofs.Lists.{each-map}
 use Rattle.events.specs.Events.{Event, play, marks, blank, Ran}
 use Rattle.events.specs.Lists.{Each}
 use Rattle.words.proofs.Runs.{bytes-part}

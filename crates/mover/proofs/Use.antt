@@ -6,7 +6,6 @@ use mathlib.Core.Path.{_≡_, refl, ap, _∙_, subst}
 use Prim.Native.Nat.{ℕ}
 use native.Mathlib.Omega.{arith}
 use lib.ListN.{length, getD}
-use Rattle.acx.proofs.Marks.{length-blank}
 use Rattle.acx.specs.AtBases.{placing, adjusting, ending, applied}
 use Rattle.acx.specs.Call.{load}
 use Rattle.acx.specs.Pieces.{Piece, amountOf, adjustments, events}
@@ -15,6 +14,7 @@ use Rattle.acx.specs.declared.Bases.{Bases}
 use Rattle.answer.specs.Checks.{need}
 use Rattle.answer.specs.declared.Fault.the-variants.{WrongBuffer, SettingOutOfRange, DoesNotFit}
 use Rattle.answer.specs.declared.Start.the-variants.{At}
+use Rattle.events.proofs.Events.{length-blank}
 use Rattle.events.specs.Events.{marks, blank}
 use Rattle.events.specs.Lists.{Each}
 use Rattle.records.specs.Fields.{fieldsOf}

@@ -9,8 +9,8 @@ use borrow.Author.Tests.{eq-eqb, ne-eqb}
 use borrow.Rule.Slice.PartMut.{midOf}
 use lib.ListN.{length, drop, getD}
 use lib.Seq.{drop-length, drop-cons}
-use Rattle.words.proofs.Lent.{lent-is}
 use Rattle.answer.specs.Checks.{pick}
+use Rattle.words.proofs.Lent.{lent-is}
 use Rattle.names.specs.Names.{same, nameAt, newestOf, newest, lookUp}
 use Rattle.names.specs.declared.Definition.the-variants.{Missing, New, Lent}
 use Rattle.names.specs.declared.Found.{Found}

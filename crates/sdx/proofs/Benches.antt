@@ -5,6 +5,7 @@ use mathlib.Core.List.{List, _∷_, _++_}
 use mathlib.Core.Path.{_≡_, refl, sym, ap, _∙_}
 use Prim.Native.Nat.{ℕ}
 use lib.ListN.{length, getD}
+use Rattle.answer.proofs.Outcomes.{isRefused, faultIn}
 use Rattle.answer.specs.Checks.{need, pick}
 use Rattle.answer.specs.declared.Fault.{Fault}
 use Rattle.answer.specs.declared.Fault.the-variants.{WrongBuffer}
@@ -13,7 +14,7 @@ use Rattle.answer.specs.declared.Outcome.the-variants.{Accepted, Refused}
 use Rattle.answer.specs.declared.Start.{Start}
 use Rattle.events.specs.Events.{Event, play, marks, blank, placedIn, adjustedIn, Ran}
 use Rattle.words.specs.Runs.{Bytes}
-use Rattle.sdx.proofs.Demand2.{finished-asked, asked-judged, asked-memory, asked-top, Left, call-leaves, isRefused}
+use Rattle.sdx.proofs.Demand2.{finished-asked, asked-judged, asked-memory, asked-top, Left, call-leaves}
 use Rattle.sdx.proofs.Keeping.{judged-keeps}
 use Rattle.sdx.proofs.Lawful.{Lawful}
 use Rattle.sdx.proofs.Same.{loaded-same, placed-same, start-same}
@@ -23,11 +24,6 @@ use Rattle.sdx.specs.Demand2.{Places, Among, Asked}
 use Rattle.sdx.specs.Walk.{Given, Progress, Verdict, finished, refused, atOnce, judged}
 
 -- ---- refused
-
--- the fault of a refusal
-abbrev faultIn : Outcome → Fault
-faultIn (Accepted start placed adjusted named low) = WrongBuffer
-faultIn (Refused fault offset side) = fault
 
 -- what was refused leaves memory and new names, and a clear map
 record Untouched (v : Verdict) (es : List Event) (m ns ads : List ℕ) : Type 0 where

@@ -1,55 +1,39 @@
 -- A load as a whole, over plain values: the two walks, the acceptance, the settings and the lengths.
 -- Assumes nothing.
-use mathlib.Core.Bool.{Bool, true, false, _&&_, false≢true}
+use mathlib.Core.Bool.{Bool, true, false}
 use mathlib.Core.List.{List, [], _++_, append-nil}
 use mathlib.Core.Path.{_≡_, refl, sym, ap, _∙_}
 use Prim.Native.Nat.{ℕ, _+_, _-_, _*_, _≤_, _<_}
 use native.Mathlib.Omega.{arith}
-use borrow.Author.Tests.{le-leb, lt-leb, leb-true, eqb-true, eqb-false}
+use borrow.Author.Tests.{le-leb, lt-leb, leb-true, eqb-true}
 use borrow.Rule.Slice.PartMut.{midOf, putMid}
 use lib.Dec.{leb, eqb}
 use lib.ListN.{length, replicate, take, drop, length-replicate, drop-of-length-le}
 use lib.Seq.{sets-eq}
-use Rattle.answer.proofs.Checks.{on-need}
+use Rattle.answer.proofs.Checks.{on-need, and-true}
 use Rattle.answer.specs.Checks.{need, pick}
 use Rattle.answer.specs.Report.{placedOf, adjustedOf}
 use Rattle.answer.specs.declared.Fault.{Fault}
-use Rattle.answer.specs.declared.Fault.the-variants.{WrongBuffer, SettingOutOfRange, FileTooLong, CutShort}
+use Rattle.answer.specs.declared.Fault.the-variants.{WrongBuffer, SettingOutOfRange, FileTooLong}
 use Rattle.answer.specs.declared.Outcome.{Outcome}
 use Rattle.answer.specs.declared.Outcome.the-variants.{Accepted, Refused}
 use Rattle.answer.specs.declared.Start.{Start}
 use Rattle.answer.specs.declared.Start.the-variants.{Absent}
-use Rattle.events.proofs.Events.{placed-append, adjusted-append}
-use Rattle.events.proofs.Walks.{walk-keeps}
 use Rattle.events.specs.Events.{Event, play, marks, blank, placedIn, adjustedIn, Ran}
-use Rattle.events.specs.Walk.{Turn, ends, leads}
-use Rattle.events.specs.declared.Check.{Check}
+use Rattle.events.specs.Walk.{leads}
 use Rattle.events.specs.declared.Check.the-variants.{Passed, Failed}
-use Rattle.updates.specs.Bodies.{Stop, broken, done}
 use Rattle.words.proofs.Lent.{lent-is, back-is}
-use Rattle.words.proofs.Runs.{part-put, length-part}
+use Rattle.words.proofs.Runs.{length-part}
 use Rattle.words.specs.Runs.{part, put}
 use Rattle.sdx.proofs.Going.{stopped-finished, totalsIn}
 use Rattle.sdx.proofs.Rooms.{front-holds}
-use Rattle.sdx.proofs.Turning.{led-ends, turn-falls, turn-end, turn-block}
-use Rattle.sdx.specs.Call.{ranged, inRange, listed, sized, load, call, startIn, report, filledUp, Rooms, rooms, Carried, right, Loaded}
+use Rattle.sdx.proofs.Turning.{refused-finished, Behind, behind-first, behind-on, led-ends, judged-holds}
+use Rattle.sdx.specs.Call.{ranged, inRange, listed, load, call, startIn, report, filledUp, Rooms, rooms, Carried, right, Loaded}
 use Rattle.sdx.specs.Parts.{walked, progressOf, Went, Checked, Reported}
-use Rattle.sdx.specs.Walk.{Given, Progress, Verdict, finished, refused, judge, blockAt, outcomeAt, turn, bytesLeft, blocksFrom, begun, blocksOf, atOnce, opening, opened, judged}
+use Rattle.sdx.specs.Walk.{Given, Progress, Verdict, finished, refused, turn, blocksOf, atOnce, opening, judged}
 use Rattle.sdx.specs.declared.Totals.{Totals}
 use Rattle.sdx.specs.declared.Walked.{Walked}
 use Rattle.sdx.specs.declared.Walked.the-variants.{Stopped, Finished}
-
--- both of two tests hold
-pub and-true : (a b : Bool) → a && b ≡ true → (a ≡ true) × (b ≡ true)
-and-true true b e = (refl, e)
-and-true false b e = absurd (false≢true e)
-
-abbrev isFinished : Verdict → ℕ
-isFinished (finished z) = 1
-isFinished (refused fault z) = 0
-
-pub refused-finished : {fault : Fault} {y z : Progress} → refused fault y ≡ finished z → ⊥
-refused-finished e = let n : _≡_ {A = ℕ} 0 1 = ap isFinished e in omega arith
 
 -- ---- the rest of a room is cleared
 
@@ -171,7 +155,8 @@ module _ (file : List ℕ) (g : Given) where
         → Carried (load file g) (rooms m p ns ads) r (rooms m p′ ns ads)
     sized-refused e f clear = rw e (record { outcome = f; memory = refl; map = clear; names = refl; addresses = refl })
 
-    pub sized-carried : {r : Outcome} {p₀ : List ℕ} {b′ : Rooms} → load file g ≡ blocksOf file g → Carried (blocksOf file g) (rooms m p₀ ns ads) r b′
+    pub sized-carried : {r : Outcome} {p₀ : List ℕ} {b′ : Rooms} → load file g ≡ blocksOf file g
+        → Carried (blocksOf file g) (rooms m p₀ ns ads) r b′
         → Carried (load file g) (rooms m p ns ads) r b′
     sized-carried e h =
         rw e
@@ -183,51 +168,18 @@ range-bounds low high e = let x = and-true (leb low high) (leb high 65535) e in 
 
 -- ---- the counts
 
--- the walk's events so far are no more than the bytes behind it
-record Behind (file : List ℕ) (z : Progress) (es : List Event) : Type 0 where
-  inside : z .cursor .at ≤ length file
-  counts : placedIn es + adjustedIn es ≤ z .cursor .at
-
-abbrev isFinish : Turn Progress Verdict → ℕ
-isFinish (ends (finished z)) = 1
-isFinish (ends (refused fault z)) = 0
-isFinish (leads z) = 0
-
--- only the file's end finishes a walk, and it does nothing
-finish-none : (file : List ℕ) (g : Given) (y z : Progress) (map : List ℕ) → turn file g y map .answer ≡ ends (finished z) → turn file g y map .events ≡ []
-finish-none file g y z map e = by (eqb (y .cursor .at) (length file)) refl
-  where
-    never : (s : Stop) → judge file y (blockAt file g y) (outcomeAt file g y map .events) s ≡ ends (finished z) → ⊥
-    never (broken fault) f = let n : _≡_ {A = ℕ} 0 1 = ap isFinish f in omega arith
-    never (done next) f = let n : _≡_ {A = ℕ} 0 1 = ap isFinish f in omega arith
-
-    by : (t : Bool) → eqb (y .cursor .at) (length file) ≡ t → turn file g y map .events ≡ []
-    by true h = ap (λ (q : Ran (Turn Progress Verdict)). q .events) (turn-end file g y map (eqb-true _ _ h))
-    by false h =
-        absurd (never (outcomeAt file g y map .answer) (sym (ap (λ (q : Ran (Turn Progress Verdict)). q .answer) (turn-block file g y map (eqb-false _ _ h))) ∙ e))
-
 -- neither count of a finished load exceeds the file's length
 pub record Few (n : ℕ) (o : Ran Verdict) : Type 0 where
   pub counts : (z : Progress) → o .answer ≡ finished z → placedIn (o .events) + adjustedIn (o .events) ≤ n
 
-pub blocks-few : (file : List ℕ) (g : Given) → g .high ≤ 65535 → Few (length file) (blocksOf file g)
-unfolding blocksFrom placedIn adjustedIn
-blocks-few file g top = record { counts = counts }
+judged-few : (file : List ℕ) (g : Given) → g .high ≤ 65535 → Few (length file) (judged file g)
+judged-few file g top =
+    let h = judged-holds file g top (λ y es. Behind (length file) (y .cursor) es) (behind-first (length file) (g .low)) keeps in
+    record { counts = λ z e. omega (arith, h z e .counts, h z e .inside) }
   where
-    keeps : (y z : Progress) (es : List Event) → Behind file y es → turn file g y (marks es blank) .answer ≡ leads z
-        → Behind file z (es ++ turn file g y (marks es blank) .events)
-    keeps y z es h e =
-        let l = led-ends file g top y z (marks es blank) e in
-        let fs = turn file g y (marks es blank) .events in
-        record { inside = l .inside; counts = omega (arith, h .counts, l .behind, placed-append es fs, adjusted-append es fs) }
-
-    counts : (z : Progress) → blocksOf file g .answer ≡ finished z → placedIn (blocksOf file g .events) + adjustedIn (blocksOf file g .events) ≤ length file
-    counts z e =
-        let x = walk-keeps (turn file g) (λ y. refused CutShort y) (bytesLeft file) (turn-falls file g top) (Behind file) blank keeps (begun g)
-        (record { inside = omega arith; counts = omega arith }) in
-        let none = finish-none file g (x .state) z (marks (x .before) blank) (x .answer ∙ ap ends e) in
-        let es : blocksOf file g .events ≡ x .before = x .events ∙ ap (λ (fs : List Event). x .before ++ fs) none ∙ append-nil (x .before) in
-        rw es (omega (arith, x .held .counts, x .held .inside))
+    keeps : (y z : Progress) (es : List Event) → Behind (length file) (y .cursor) es → turn file g y (marks es blank) .answer ≡ leads z
+        → Behind (length file) (z .cursor) (es ++ turn file g y (marks es blank) .events)
+    keeps y z es h e = behind-on (length file) (y .cursor) (z .cursor) es _ (led-ends file g top y z (marks es blank) e) h
 
 few-at-once : (n : ℕ) (g : Given) (fault : Fault) → Few n (atOnce g fault)
 few-at-once n g fault = record { counts = λ z e. absurd (refused-finished e) }
@@ -235,15 +187,10 @@ few-at-once n g fault = record { counts = λ z e. absurd (refused-finished e) }
 few-need : (n : ℕ) (g : Given) (c : Bool) (fault : Fault) (o : Ran Verdict) → (c ≡ true → Few n o) → Few n (need (atOnce g) c fault o)
 few-need n g = on-need (atOnce g) (Few n) (few-at-once n g)
 
-few-opened : (n : ℕ) (g : Given) (c : Check) (o : Ran Verdict) → Few n o → Few n (opened g c o)
-few-opened n g Passed o h = h
-few-opened n g (Failed fault) o h = few-at-once n g fault
-
 pub load-few : (file : List ℕ) (g : Given) → Few (length file) (load file g)
-unfolding load judged
+unfolding load
 load-few file g =
-    few-need _ g _ _ _
-    (λ h. few-need _ g _ _ _ (λ i. few-opened _ g (opening file) _ (blocks-few file g (range-bounds (g .low) (g .high) h .1))))
+    few-need _ g _ _ _ (λ h. few-need _ g _ _ _ (λ i. judged-few file g (range-bounds (g .low) (g .high) h .1)))
 
 -- ---- whatever the buffers
 

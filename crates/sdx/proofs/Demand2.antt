@@ -1,26 +1,28 @@
 -- Demand 2 for SDX files, as specs/Demand2.antt states it.
 -- Assumes nothing.
-use mathlib.Core.Bool.{Bool, true, false, _&&_, false≢true}
+use mathlib.Core.Bool.{Bool, true, false, false≢true}
 use mathlib.Core.List.{List, _∷_, _++_}
 use mathlib.Core.Path.{_≡_, refl, sym, ap, _∙_}
 use Prim.Native.Nat.{ℕ, _≤_}
 use native.Mathlib.Omega.{arith}
-use borrow.Author.Tests.{le-leb, leb-true, eqb-true}
-use lib.Dec.{leb, eqb}
+use borrow.Author.Tests.{le-leb, leb-true}
 use lib.ListN.{length, getD}
+use Rattle.answer.proofs.Outcomes.{isRefused}
 use Rattle.answer.specs.Checks.{need, pick}
 use Rattle.answer.specs.Report.{placedOf, adjustedOf}
 use Rattle.answer.specs.declared.Fault.{Fault}
 use Rattle.answer.specs.declared.Outcome.{Outcome}
 use Rattle.answer.specs.declared.Outcome.the-variants.{Accepted, Refused}
 use Rattle.answer.specs.declared.Start.{Start}
+use Rattle.events.proofs.Events.{length-blank, blank-at}
 use Rattle.events.proofs.Lists.{each-map}
 use Rattle.events.specs.Events.{Event, adjust, play, marks, blank, placedIn, adjustedIn, Ran}
 use Rattle.words.specs.Runs.{Bytes}
-use Rattle.sdx.proofs.Keeping.{Keeps, refused-finished, judged-keeps}
-use Rattle.sdx.proofs.Lawful.{Lawful, length-blank, blank-at, marks-untouched, marks-last, play-others, put-held, play-fields}
-use Rattle.sdx.proofs.Passing.{and-true}
-use Rattle.sdx.specs.Call.{listed, namesRoom, addressesRoom, load, call, startIn, report, memoryAfter, mapAfter, filledUp, namesAfter, addressesAfter, Rooms, right, Loaded}
+use Rattle.sdx.proofs.Calling.{range-bounds, right-sizes}
+use Rattle.sdx.proofs.Keeping.{Keeps, judged-keeps}
+use Rattle.sdx.proofs.Lawful.{Lawful, marks-untouched, marks-last, play-others, put-held, play-fields}
+use Rattle.sdx.proofs.Turning.{refused-finished}
+use Rattle.sdx.specs.Call.{namesRoom, addressesRoom, load, call, startIn, report, memoryAfter, mapAfter, filledUp, namesAfter, addressesAfter, Rooms, right, Loaded}
 use Rattle.sdx.specs.Demand2.{Among, Demand2, Asked, AcceptedCall}
 use Rattle.sdx.specs.Walk.{Given, Progress, Verdict, finished, refused, atOnce, judged}
 
@@ -43,8 +45,8 @@ kept-demand2 file g z es m k n =
           ∙ marks-last before after e blank x length-blank (split before e after h) t w;
       placed-count = refl;
       adjusted-count = refl;
-      placed-fits = omega (arith, k .counts, k .inside);
-      adjusted-fits = omega (arith, k .counts, k .inside);
+      placed-fits = omega (arith, k .passed .counts, k .passed .inside);
+      adjusted-fits = omega (arith, k .passed .counts, k .passed .inside);
     }
 
 -- Demand 2, of every accepted file, with all settings and in every memory
@@ -61,7 +63,7 @@ need-finished : (g : Given) (c : Bool) (fault : Fault) (o : Ran Verdict) (z : Pr
     → (c ≡ true) × (need (atOnce g) c fault o ≡ o)
 unfolding need
 need-finished g true fault o z e = (refl, refl)
-need-finished g false fault o z e = absurd (refused-finished fault _ z e)
+need-finished g false fault o z e = absurd (refused-finished e)
 
 -- an acceptance is of a call as asked
 pub finished-asked : (file : List ℕ) (g : Given) (b : Rooms) (z : Progress) → call file g (right g b) .answer ≡ finished z → Asked file g b
@@ -79,14 +81,10 @@ asked-judged file g b a = rw (a .buffers, a .settings, le-leb _ _ (a .fits)) ref
 
 -- what was asked of memory and of the settings
 pub asked-memory : (file : List ℕ) (g : Given) (b : Rooms) → Asked file g b → length (b .memory) ≡ 65536
-asked-memory file g b a =
-    eqb-true _ _
-    (and-true (eqb (length (b .memory)) 65536)
-    (eqb (length (b .map)) 65536 && (eqb (length (b .names)) namesRoom && (eqb (length (b .addresses)) addressesRoom && listed g)))
-    (a .buffers) .0)
+asked-memory file g b a = right-sizes g b (a .buffers) .memory
 
 pub asked-top : (file : List ℕ) (g : Given) (b : Rooms) → Asked file g b → g .high ≤ 65535
-asked-top file g b a = leb-true _ _ (and-true (leb (g .low) (g .high)) (leb (g .high) 65535) (a .settings) .1)
+asked-top file g b a = range-bounds (g .low) (g .high) (a .settings) .1
 
 -- What a call as asked answers and leaves, of a file that the rules accept.
 pub record Left (file : List ℕ) (g : Given) (z : Progress) (b : Rooms) (r : Outcome) (b′ : Rooms) : Type 0 where
@@ -123,11 +121,6 @@ namedOf (Refused fault offset side) = 0
 abbrev lowOf : Outcome → ℕ
 lowOf (Accepted start placed adjusted named low) = low
 lowOf (Refused fault offset side) = 0
-
--- whether it is a refusal
-abbrev pub isRefused : Outcome → Bool
-isRefused (Accepted start placed adjusted named low) = false
-isRefused (Refused fault offset side) = true
 
 -- what is reported as accepted was finished
 reported-finished : (m : List ℕ) (v : Verdict) (es : List Event) → isRefused (report m v es) ≡ false → (z : Progress) × (v ≡ finished z)

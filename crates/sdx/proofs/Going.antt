@@ -15,19 +15,19 @@ use Rattle.blocks.specs.declared.Block.{Block}
 use Rattle.blocks.specs.declared.Block.the-variants.{Plain, Relocatable, Update, NewName, Faulty}
 use Rattle.blocks.specs.declared.Cursor.{Cursor}
 use Rattle.events.proofs.Events.{placed-append, adjusted-append, reached-none, reached-more}
-use Rattle.events.proofs.Walks.{came-none, came-on, came-end}
+use Rattle.events.proofs.Walks.{came-on, came-end}
 use Rattle.events.specs.Events.{Event, marks, blank, placedIn, adjustedIn, Ran, Reached, Did}
-use Rattle.events.specs.Walk.{Turn, ends, leads, after, from}
+use Rattle.events.specs.Walk.{Turn, ends, leads, after}
 use Rattle.updates.proofs.Bounds.{body-places-none}
 use Rattle.updates.specs.Bodies.{Stop, broken, done, counted, ended}
 use Rattle.updates.specs.declared.Ended.{Ended}
 use Rattle.updates.specs.declared.Ended.the-variants.{Broken, Done}
 use Rattle.words.proofs.Runs.{length-part}
-use Rattle.words.specs.Runs.{part, put}
-use Rattle.sdx.proofs.Rooms.{front-is, front-holds, behind, Counted, counted-on, Tabled, tabled-first, tabled-on}
-use Rattle.sdx.proofs.Turning.{Ends, carried-ends, advanced-at, stepped, turn-end, turn-block, block-fits, turn-falls}
+use Rattle.words.specs.Runs.{put}
+use Rattle.sdx.proofs.Rooms.{front-is, front-holds, behind, Counted, counted-first, counted-on, Tabled, tabled-first, tabled-on}
+use Rattle.sdx.proofs.Turning.{Ends, carried-ends, advanced-at, Behind, behind-first, behind-on, stepped, turn-end, turn-block, block-fits, turn-falls}
 use Rattle.sdx.specs.Call.{Rooms, rooms}
-use Rattle.sdx.specs.Parts.{totals, walked, progressOf, Bounded, Went, placedBy, NameFits, RoomFits, Noted}
+use Rattle.sdx.specs.Parts.{totals, Bounded, Went, placedBy, NameFits, RoomFits, Noted}
 use Rattle.sdx.specs.Walk.{Given, carried, advanced, nameIn, addressIn, Deed, Progress, Verdict, finished, refused, judge, blockAt, outcomeAt, turn, bytesLeft, blocksFrom, firstCursor, begun, blocksOf}
 use Rattle.sdx.specs.declared.Totals.{Totals}
 use Rattle.sdx.specs.declared.Walked.{Walked}
@@ -97,7 +97,8 @@ bounded-stopped : (fault : Fault) (offset : ℕ) → offset ≤ 65536 → Bounde
 bounded-stopped fault offset h =
     record { offset = λ f at e. omega (arith, ap offsetIn e, h); counts = λ t e. absurd (stopped-finished e) }
 
-bounded-finished : (low named placed adjusted : ℕ) → named ≤ 32 → placed ≤ 65536 → adjusted ≤ 65536 → Bounded (Finished (totals low named placed adjusted))
+bounded-finished : (low named placed adjusted : ℕ) → named ≤ 32 → placed ≤ 65536 → adjusted ≤ 65536
+    → Bounded (Finished (totals low named placed adjusted))
 bounded-finished low named placed adjusted h i j =
     record {
       offset = λ f at e. absurd (stopped-finished (sym e));
@@ -120,8 +121,7 @@ pub record Going (file : List ℕ) (g : Given) (write : Bool) (b : Rooms) (c : C
   pub reached : Reached events write (b .memory) blank (b′ .memory) (b′ .map)
   pub placed-is : placed ≡ placedIn events
   pub adjusted-is : adjusted ≡ adjustedIn events
-  pub inside : c .at ≤ length file
-  pub behind-it : placedIn events + adjustedIn events ≤ c .at
+  pub passed : Behind (length file) c events
   pub new-names : b′ .names ≡ put (b .names) 0 names
   pub new-addresses : b′ .addresses ≡ put (b .addresses) 0 addresses
   pub counted : Counted c names addresses
@@ -140,11 +140,10 @@ module _ {file : List ℕ} {g : Given} {write : Bool} {b : Rooms} where
         reached = reached-none write (b .memory) blank;
         placed-is = refl;
         adjusted-is = refl;
-        inside = omega arith;
-        behind-it = omega arith;
+        passed = behind-first (length file) (g .low);
         new-names = refl;
         new-addresses = refl;
-        counted = record { bytes = omega arith; each = refl; few = omega arith };
+        counted = counted-first (g .low);
         tabled = tabled-first (g .low);
       }
     where
@@ -175,7 +174,8 @@ module _ {file : List ℕ} {g : Given} {write : Bool} {b : Rooms} where
         → blocksOf file g ≡ record { answer = v; events = x .events ++ turn file g here (marks (x .events) blank) .events }
     unfolding blocksFrom
     ends-with v e =
-        came-end (turn file g) (λ y. refused CutShort y) (bytesLeft file) (turn-falls file g top) (blocksOf file g) (x .events) here blank (x .came) v e
+        came-end (turn file g) (λ y. refused CutShort y) (bytesLeft file) (turn-falls file g top) (blocksOf file g) (x .events) here blank
+        (x .came) v e
 
     -- at the file's end the walk has finished
     pub going-done : c .at ≡ length file → Went (blocksOf file g) write b (Finished (totals (c .low) (c .named) placed adjusted)) b′
@@ -196,8 +196,9 @@ module _ {file : List ℕ} {g : Given} {write : Bool} {b : Rooms} where
           names = x .new-names;
           addresses = x .new-addresses;
           eights = x .counted .bytes ∙ ap (λ (n : ℕ). 8 * n) (sym (x .counted .each));
-          bounded = bounded-finished (c .low) (c .named) placed adjusted (x .counted .few) (omega (arith, x .placed-is, x .behind-it, x .inside, short))
-              (omega (arith, x .adjusted-is, x .behind-it, x .inside, short));
+          bounded = bounded-finished (c .low) (c .named) placed adjusted (x .counted .few)
+              (omega (arith, x .placed-is, x .passed .counts, x .passed .inside, short))
+              (omega (arith, x .adjusted-is, x .passed .counts, x .passed .inside, short));
         })
 
     -- the block that the program reads is the definition's
@@ -224,8 +225,8 @@ module _ {file : List ℕ} {g : Given} {write : Bool} {b : Rooms} where
 
       -- and so is what it does
       module _ (more : c .at ≡ length file → ⊥) {r : Ended} {m p : List ℕ}
-          (carried-out : Did Ended (ended (carried file (g .addresses) (midOf 0 (c .named - 0) (b′ .addresses)) c found (b′ .map))) write (b′ .memory)
-          (b′ .map) r m p) where
+          (carried-out : Did Ended (ended (carried file (g .addresses) (midOf 0 (c .named - 0) (b′ .addresses)) c found (b′ .map))) write
+          (b′ .memory) (b′ .map) r m p) where
         abbrev o : Ran Stop
         o = outcomeAt file g here (marks (x .events) blank)
 
@@ -266,11 +267,14 @@ module _ {file : List ℕ} {g : Given} {write : Bool} {b : Rooms} where
               names = x .new-names;
               addresses = x .new-addresses;
               eights = x .counted .bytes ∙ ap (λ (n : ℕ). 8 * n) (sym (x .counted .each));
-              bounded = bounded-stopped fault (c .at) (omega (arith, x .inside, short));
+              bounded = bounded-stopped fault (c .at) (omega (arith, x .passed .inside, short));
             })
 
         -- else the loop goes on behind the block
         module _ (next adjusts : ℕ) (e : r ≡ Done next adjusts) where
+          abbrev then : Progress
+          then = stepped file here (blockAt file g here) (o .events) next
+
           stopped : (o .answer ≡ done next) × (adjustedIn (o .events) ≡ adjusts)
           stopped = stop-done (o .answer) (o .events) next adjusts (sym (did-is .answer) ∙ e)
 
@@ -279,16 +283,16 @@ module _ {file : List ℕ} {g : Given} {write : Bool} {b : Rooms} where
           ends-there = carried-ends file (g .addresses) (x .addresses) c (blockAt file g here) _ _ _ (block-fits file g top here) next (stopped .0)
 
           came-then : blocksOf file g
-              ≡ after (x .events ++ o .events) (blocksFrom file g (stepped file g here (o .events) next) (marks (x .events ++ o .events) blank))
+              ≡ after (x .events ++ o .events) (blocksFrom file g then (marks (x .events ++ o .events) blank))
           unfolding blocksFrom
           came-then =
-              let t : turn file g here (marks (x .events) blank) ≡ record { answer = leads (stepped file g here (o .events) next); events = o .events } =
+              let t : turn file g here (marks (x .events) blank) ≡ record { answer = leads then; events = o .events } =
               turn-is
               ∙ ap (λ (s : Stop). record { answer = judge file here (blockAt file g here) (o .events) s; events = o .events }) (stopped .0) in
-              came-on (turn file g) (λ y. refused CutShort y) (bytesLeft file) (turn-falls file g top) (blocksOf file g) (x .events) here blank (x .came)
-              (stepped file g here (o .events) next) (ap (λ (q : Ran (Turn Progress Verdict)). q .answer) t)
+              came-on (turn file g) (λ y. refused CutShort y) (bytesLeft file) (turn-falls file g top) (blocksOf file g) (x .events) here blank
+              (x .came) then (ap (λ (q : Ran (Turn Progress Verdict)). q .answer) t)
               ∙ ap
-              (λ (es : List Event). after (x .events ++ es) (blocksFrom file g (stepped file g here (o .events) next) (marks (x .events ++ es) blank)))
+              (λ (es : List Event). after (x .events ++ es) (blocksFrom file g then (marks (x .events ++ es) blank)))
               (ap (λ (q : Ran (Turn Progress Verdict)). q .events) t)
 
           at-then : advanced c (blockAt file g here) next .at ≡ next
@@ -309,14 +313,15 @@ module _ {file : List ℕ} {g : Given} {write : Bool} {b : Rooms} where
           pub going-counts : (placed + placedBy found ≤ length file) × (adjusted + adjusts ≤ length file)
           going-counts =
               let same : placedBy found ≡ placedIn (o .events) = ap placedBy found-is ∙ sym placed-then in (
-                omega (arith, same, x .placed-is, x .behind-it, ends-there .behind, ends-there .inside),
-                omega (arith, stopped .1, x .adjusted-is, x .behind-it, ends-there .behind, ends-there .inside),
+                omega (arith, same, x .placed-is, x .passed .counts, ends-there .behind, ends-there .inside),
+                omega (arith, stopped .1, x .adjusted-is, x .passed .counts, ends-there .behind, ends-there .inside),
               )
 
           pub going-on : (ns ads : List ℕ) → Noted file found (c .named) (b′ .names) (b′ .addresses) ns ads
               → Going file g write b (advanced c found next) (placed + placedBy found) (adjusted + adjusts) (rooms m p ns ads)
           going-on ns ads noted =
-              subst (λ (q : Block). Going file g write b (advanced c q next) (placed + placedBy q) (adjusted + adjusts) (rooms m p ns ads)) (sym found-is)
+              subst (λ (q : Block). Going file g write b (advanced c q next) (placed + placedBy q) (adjusted + adjusts) (rooms m p ns ads))
+              (sym found-is)
               (record {
                 events = x .events ++ o .events;
                 names = x .names ++ nameIn file (blockAt file g here);
@@ -326,12 +331,11 @@ module _ {file : List ℕ} {g : Given} {write : Bool} {b : Rooms} where
                 reached = reached-then;
                 placed-is = omega (arith, x .placed-is, placed-then, placed-append (x .events) (o .events));
                 adjusted-is = omega (arith, x .adjusted-is, stopped .1, adjusted-append (x .events) (o .events));
-                inside = omega (arith, at-then, ends-there .inside);
-                behind-it = omega (arith, at-then, x .behind-it, ends-there .behind, placed-append (x .events) (o .events), adjusted-append (x .events) (o .events));
-                new-names = behind (b .names) (x .names) (b′ .names) ns (nameIn file (blockAt file g here)) (8 * c .named) (x .new-names) (x .counted .bytes)
-                    (as-found .names);
-                new-addresses = behind (b .addresses) (x .addresses) (b′ .addresses) ads (addressIn (blockAt file g here)) (c .named) (x .new-addresses)
-                    (x .counted .each) (as-found .addresses);
+                passed = behind-on (length file) c _ (x .events) (o .events) (rw at-then ends-there) (x .passed);
+                new-names = behind (b .names) (x .names) (b′ .names) ns (nameIn file (blockAt file g here)) (8 * c .named) (x .new-names)
+                    (x .counted .bytes) (as-found .names);
+                new-addresses = behind (b .addresses) (x .addresses) (b′ .addresses) ads (addressIn (blockAt file g here)) (c .named)
+                    (x .new-addresses) (x .counted .each) (as-found .addresses);
                 counted = counted-on file c (blockAt file g here) next _ _ (x .names) (x .addresses) (block-fits file g top here) (x .counted);
                 tabled = tabled-on c (blockAt file g here) next _ _ _ (block-fits file g top here) (x .tabled);
               })

@@ -1,17 +1,13 @@
 -- What every accepted file keeps to, block after block: its events are lawful and the rules', its names and addresses stand in file order, and
 -- its counts stay behind its offset.
 -- Assumes nothing.
-use mathlib.Core.Bool.{Bool, true, false, false≢true}
-use mathlib.Core.List.{List, [], _∷_, _++_, append-nil}
+use mathlib.Core.Bool.{true, false, false≢true}
+use mathlib.Core.List.{List, [], _∷_, _++_}
 use mathlib.Core.Path.{_≡_, refl, sym, ap, _∙_}
-use Prim.Native.Nat.{ℕ, _+_, _*_, _/_, _≤_, _<_}
+use Prim.Native.Nat.{ℕ, _/_, _≤_, _<_}
 use native.Mathlib.Omega.{arith}
-use borrow.Author.Tests.{eqb-true, eqb-false}
-use lib.Dec.{eqb}
-use lib.ListN.{length, getD, set, length-set, length-append, List·getD-append}
+use lib.ListN.{length, getD, set, length-append, List·getD-append}
 use lib.Seq.{getD-set-same, getD-set-other}
-use Rattle.answer.specs.declared.Fault.{Fault}
-use Rattle.answer.specs.declared.Fault.the-variants.{CutShort}
 use Rattle.blocks.specs.Blocks.{amountOf}
 use Rattle.blocks.specs.Bounds.{Fits}
 use Rattle.blocks.specs.declared.Block.{Block}
@@ -19,26 +15,24 @@ use Rattle.blocks.specs.declared.Block.the-variants.{Plain, Relocatable, Update
 use Rattle.blocks.specs.declared.Cursor.{Cursor}
 use Rattle.blocks.specs.declared.Source.{Source}
 use Rattle.blocks.specs.declared.Source.the-variants.{Number, LentName, OwnName}
-use Rattle.events.proofs.Events.{placed-append, adjusted-append, length-marks}
+use Rattle.events.proofs.Events.{length-marks, length-blank}
 use Rattle.events.proofs.Lists.{each-map}
-use Rattle.events.proofs.Walks.{walk-keeps}
-use Rattle.events.specs.Events.{Event, place, reserve, marks, blank, placedIn, adjustedIn, Ran}
+use Rattle.events.specs.Events.{Event, place, reserve, marks, blank, Ran}
 use Rattle.events.specs.Lists.{Each}
-use Rattle.events.specs.Walk.{Turn, ends, leads}
-use Rattle.events.specs.declared.Check.{Check}
-use Rattle.events.specs.declared.Check.the-variants.{Passed, Failed}
+use Rattle.events.specs.Walk.{leads}
 use Rattle.updates.proofs.Bounds.{body-each}
-use Rattle.updates.proofs.Turning.{Adjusts}
-use Rattle.updates.specs.Bodies.{Stop, broken, done}
+use Rattle.updates.proofs.Turning.{Adjusts, broken-done}
+use Rattle.updates.specs.Bodies.{Stop, done}
 use Rattle.updates.specs.Items.{emptySlot, slotAt}
 use Rattle.updates.specs.declared.Slot.{Slot}
 use Rattle.words.proofs.Runs.{length-part}
 use Rattle.words.specs.Runs.{Bytes, part}
-use Rattle.sdx.proofs.Lawful.{Lawful, lawful-append, length-blank}
+use Rattle.sdx.proofs.Lawful.{Lawful, lawful-append}
 use Rattle.sdx.proofs.Passing.{Granted, read-granted, body-lawful}
-use Rattle.sdx.proofs.Turning.{carried-ends, advanced-at, turn-end, turn-block, turn-led, block-fits, turn-falls}
+use Rattle.sdx.proofs.Rooms.{Counted, counted-first, counted-on, Tabled, tabled-first, tabled-on}
+use Rattle.sdx.proofs.Turning.{carried-ends, advanced-at, Behind, behind-first, behind-on, stepped, turn-led, block-fits, judged-holds}
 use Rattle.sdx.specs.Demand2.{AdjustsBy, ByRule, eventsOf, namesOf, addressesOf}
-use Rattle.sdx.specs.Walk.{Given, carried, advanced, nameIn, addressIn, Deed, Progress, Verdict, finished, refused, judge, blockAt, outcomeAt, turn, bytesLeft, blocksFrom, begun, blocksOf, opening, opened, judged}
+use Rattle.sdx.specs.Walk.{Given, carried, advanced, nameIn, addressIn, Deed, Progress, finished, blockAt, outcomeAt, turn, begun, judged}
 
 -- ---- progress that only grows
 
@@ -96,16 +90,6 @@ module _ (y z : Progress) (grown : Grown y z) where
 
 -- ---- one block more
 
--- the progress after a block that ends at an offset
-abbrev past : List ℕ → Progress → Block → List Event → ℕ → Progress
-past file y b es next =
-    record {
-      cursor = advanced (y .cursor) b next;
-      names = y .names ++ nameIn file b;
-      addresses = y .addresses ++ addressIn b;
-      deeds = record { at = y .cursor .at; block = b; events = es } ∷ y .deeds;
-    }
-
 -- the slot of a relocatable block
 abbrev slotFor : Cursor → ℕ → ℕ → Slot
 slotFor c offset size = record { taken = true; address = c .low; offset = offset; size = size }
@@ -126,8 +110,8 @@ advanced-slots c (NewName from address) next p n h = refl
 advanced-slots c (Faulty fault) next p n h = refl
 
 -- progress grows with every block
-past-grown : (file : List ℕ) (y : Progress) (b : Block) (es : List Event) (next : ℕ) → Granted (y .cursor) b → Grown y (past file y b es next)
-past-grown file y b es next p =
+stepped-grown : (file : List ℕ) (y : Progress) (b : Block) (es : List Event) (next : ℕ) → Granted (y .cursor) b → Grown y (stepped file y b es next)
+stepped-grown file y b es next p =
     record {
       slots = advanced-slots (y .cursor) b next p;
       longer = omega (arith, length-append (y .addresses) (addressIn b));
@@ -135,29 +119,22 @@ past-grown file y b es next p =
     }
 
 -- the source of a body is known before it
-source-known : (y : Progress) (source : Source) (from len : ℕ) (c : Cursor) (lent : ℕ) → Fits len c lent (length (y .names) / 8) (Update source from)
+source-known : (y : Progress) (source : Source) (from len : ℕ) (c : Cursor) (lent : ℕ)
+    → Fits len c lent (length (y .names) / 8) (Update source from)
     → Granted (y .cursor) (Update source from)
-    → length (y .names) ≡ 8 * length (y .addresses)
+    → Counted (y .cursor) (y .names) (y .addresses)
     → Known y (Update source from)
-source-known y (Number number) from len c lent f p e = p .passes
-source-known y (LentName i) from len c lent f p e = tt
-source-known y (OwnName i) from len c lent f p e = omega (arith, f .lies .2, e)
+source-known y (Number number) from len c lent f p h = p .passes
+source-known y (LentName i) from len c lent f p h = tt
+source-known y (OwnName i) from len c lent f p h = omega (arith, f .lies .2, h .bytes, h .each)
 
 -- (the bound of a word is not asked)
 adjusts-by : (amount : ℕ) (e : Event) → Adjusts amount e → AdjustsBy amount e
 adjusts-by amount e h = record { address = h .address; is = h .same }
 
--- a block that ended was not broken
-abbrev isDone : Stop → ℕ
-isDone (broken fault) = 0
-isDone (done next) = 1
-
-broken-done : (fault : Fault) (next : ℕ) → broken fault ≡ done next → ⊥
-broken-done fault next e = let z : _≡_ {A = ℕ} 0 1 = ap isDone e in omega arith
-
 -- a block that fits and has passed, at some progress of which the lengths are right
-module _ (file : List ℕ) (g : Given) (y : Progress) (lent : ℕ) (slots : length (y .cursor .table) ≡ 8)
-    (eights : length (y .names) ≡ 8 * length (y .addresses)) where
+module _ (file : List ℕ) (g : Given) (y : Progress) (lent : ℕ) (tabled : Tabled (y .cursor))
+    (counted : Counted (y .cursor) (y .names) (y .addresses)) where
   -- what it did
   abbrev did : Block → List ℕ → Ran Stop
   did b map = carried file (g .addresses) (y .addresses) (y .cursor) b map
@@ -165,39 +142,40 @@ module _ (file : List ℕ) (g : Given) (y : Progress) (lent : ℕ) (slots : leng
   module _ (map : List ℕ) (next : ℕ) where
     -- the progress after it
     abbrev then : Block → Progress
-    then b = past file y b (did b map .events) next
+    then b = stepped file y b (did b map .events) next
 
     -- its slot, where it is a relocatable one
     own-slot : (number offset size : ℕ) → number < 8
         → slotAt (set (y .cursor .table) number (slotFor (y .cursor) offset size)) number ≡ slotFor (y .cursor) offset size
-    own-slot number offset size h = getD-set-same (y .cursor .table) number (slotFor (y .cursor) offset size) emptySlot (omega (arith, slots, h))
+    own-slot number offset size h =
+        getD-set-same (y .cursor .table) number (slotFor (y .cursor) offset size) emptySlot (omega (arith, tabled .slots, h))
 
     -- what its rule asks is known after it
-    past-known : (b : Block) → Fits (length file) (y .cursor) lent (length (y .names) / 8) b → Granted (y .cursor) b
+    stepped-known : (b : Block) → Fits (length file) (y .cursor) lent (length (y .names) / 8) b → Granted (y .cursor) b
         → Known (then b) b
-    past-known (Plain address from size) f p = tt
-    past-known (Relocatable reserves number offset from size) f p = ap (λ (s : Slot). s .taken) (own-slot number offset size (f .lies .3))
-    past-known (Update source from) f p =
-        known-grown y (then (Update source from)) (past-grown file y (Update source from) _ next p) (Update source from)
-        (source-known y source from _ _ lent f p eights)
-    past-known (NewName from address) f p = tt
-    past-known (Faulty fault) f p = tt
+    stepped-known (Plain address from size) f p = tt
+    stepped-known (Relocatable reserves number offset from size) f p = ap (λ (s : Slot). s .taken) (own-slot number offset size (f .lies .3))
+    stepped-known (Update source from) f p =
+        known-grown y (then (Update source from)) (stepped-grown file y (Update source from) _ next p) (Update source from)
+        (source-known y source from _ _ lent f p counted)
+    stepped-known (NewName from address) f p = tt
+    stepped-known (Faulty fault) f p = tt
 
     -- its events are the rule's
-    past-rule : (b : Block) → Fits (length file) (y .cursor) lent (length (y .names) / 8) b → Granted (y .cursor) b
+    stepped-rule : (b : Block) → Fits (length file) (y .cursor) lent (length (y .names) / 8) b → Granted (y .cursor) b
         → did b map .answer ≡ done next → ByRule file g (then b) b (did b map .events)
-    past-rule (Plain address from size) f p e = refl
-    past-rule (Relocatable true number offset from size) f p e =
+    stepped-rule (Plain address from size) f p e = refl
+    stepped-rule (Relocatable true number offset from size) f p e =
         ap (λ (s : Slot). reserve (s .address) size ∷ []) (sym (own-slot number offset size (f .lies .3)))
-    past-rule (Relocatable false number offset from size) f p e =
+    stepped-rule (Relocatable false number offset from size) f p e =
         ap (λ (s : Slot). place (s .address) (part file from size) ∷ []) (sym (own-slot number offset size (f .lies .3)))
-    past-rule (Update source from) f p e =
+    stepped-rule (Update source from) f p e =
         let amount = amountOf (y .cursor .table) (g .addresses) (y .addresses) source in
         let es = did (Update source from) map .events in
-        rule-grown y (then (Update source from)) (past-grown file y (Update source from) es next p) file g (Update source from) es
-        (source-known y source from _ _ lent f p eights) (each-map (adjusts-by amount) es (body-each file (y .cursor .table) amount from map))
-    past-rule (NewName from address) f p e = refl
-    past-rule (Faulty fault) f p e = absurd (broken-done fault next e)
+        rule-grown y (then (Update source from)) (stepped-grown file y (Update source from) es next p) file g (Update source from) es
+        (source-known y source from _ _ lent f p counted) (each-map (adjusts-by amount) es (body-each file (y .cursor .table) amount from map))
+    stepped-rule (NewName from address) f p e = refl
+    stepped-rule (Faulty fault) f p e = absurd (broken-done e)
 
 -- the events of a block are lawful
 carried-lawful : (file lent own : List ℕ) (c : Cursor) (b : Block) (map : List ℕ) (n k : ℕ) → length map ≡ 65536
@@ -211,37 +189,6 @@ carried-lawful file lent own c (Relocatable false number offset from size) map n
 carried-lawful file lent own c (Update source from) map n k l f p = body-lawful file (c .table) (amountOf (c .table) lent own source) from map l
 carried-lawful file lent own c (NewName from address) map n k l f p = tt
 carried-lawful file lent own c (Faulty fault) map n k l f p = tt
-
--- eight bytes of a name for each address
-name-eights : (file : List ℕ) (c : Cursor) (n k : ℕ) (b : Block) → Fits (length file) c n k b → length (nameIn file b) ≡ 8 * length (addressIn b)
-name-eights file c n k (Plain address from size) f = refl
-name-eights file c n k (Relocatable reserves number offset from size) f = refl
-name-eights file c n k (Update source from) f = refl
-name-eights file c n k (NewName from address) f = length-part file from 8 (f .lies .1)
-name-eights file c n k (Faulty fault) f = refl
-
--- the cursor counts the addresses, and there are no more than 32
-advanced-named : (c : Cursor) (b : Block) (next : ℕ) → advanced c b next .named ≡ c .named + length (addressIn b)
-advanced-named c (Plain address from size) next = omega arith
-advanced-named c (Relocatable reserves number offset from size) next = omega arith
-advanced-named c (Update source from) next = omega arith
-advanced-named c (NewName from address) next = refl
-advanced-named c (Faulty fault) next = omega arith
-
-advanced-few : (c : Cursor) (b : Block) (next : ℕ) → Granted c b → c .named ≤ 32 → advanced c b next .named ≤ 32
-advanced-few c (Plain address from size) next p h = h
-advanced-few c (Relocatable reserves number offset from size) next p h = h
-advanced-few c (Update source from) next p h = h
-advanced-few c (NewName from address) next p h = omega (arith, p .passes)
-advanced-few c (Faulty fault) next p h = h
-
--- the table keeps its length
-advanced-table : (c : Cursor) (b : Block) (next : ℕ) → length (advanced c b next .table) ≡ length (c .table)
-advanced-table c (Plain address from size) next = refl
-advanced-table c (Relocatable reserves number offset from size) next = length-set (c .table) number _
-advanced-table c (Update source from) next = refl
-advanced-table c (NewName from address) next = refl
-advanced-table c (Faulty fault) next = refl
 
 -- ---- what every block keeps
 
@@ -265,16 +212,13 @@ pub record Keeps (file : List ℕ) (g : Given) (z : Progress) (es : List Event) 
   pub ruled : Each (Ruled file g z) (z .deeds)
   pub names : z .names ≡ namesOf file (z .deeds)
   pub addresses : z .addresses ≡ addressesOf (z .deeds)
-  pub eights : length (z .names) ≡ 8 * length (z .addresses)
-  pub named : length (z .addresses) ≡ z .cursor .named
-  pub few : z .cursor .named ≤ 32
-  pub slots : length (z .cursor .table) ≡ 8
-  pub counts : placedIn es + adjustedIn es ≤ z .cursor .at
-  pub inside : z .cursor .at ≤ length file
+  pub counted : Counted (z .cursor) (z .names) (z .addresses)
+  pub tabled : Tabled (z .cursor)
+  pub passed : Behind (length file) (z .cursor) es
 
 -- before the first block
 keeps-first : (file : List ℕ) (g : Given) → Keeps file g (begun g) []
-unfolding eventsOf namesOf addressesOf placedIn adjustedIn
+unfolding eventsOf namesOf addressesOf
 keeps-first file g =
     record {
       lawful = tt;
@@ -282,114 +226,56 @@ keeps-first file g =
       ruled = tt;
       names = refl;
       addresses = refl;
-      eights = refl;
-      named = refl;
-      few = omega arith;
-      slots = refl;
-      counts = omega arith;
-      inside = omega arith;
+      counted = counted-first (g .low);
+      tabled = tabled-first (g .low);
+      passed = behind-first (length file) (g .low);
     }
 
 -- a block that is carried out keeps it
-past-keeps : (file : List ℕ) (g : Given) (y : Progress) (b : Block) (es : List Event) (next : ℕ)
+stepped-keeps : (file : List ℕ) (g : Given) (y : Progress) (b : Block) (es : List Event) (next : ℕ)
     → Fits (length file) (y .cursor) (length (g .names) / 8) (length (y .names) / 8) b
     → Granted (y .cursor) b
     → carried file (g .addresses) (y .addresses) (y .cursor) b (marks es blank) .answer ≡ done next
     → Keeps file g y es
-    → Keeps file g (past file y b (carried file (g .addresses) (y .addresses) (y .cursor) b (marks es blank) .events) next)
+    → Keeps file g (stepped file y b (carried file (g .addresses) (y .addresses) (y .cursor) b (marks es blank) .events) next)
     (es ++ carried file (g .addresses) (y .addresses) (y .cursor) b (marks es blank) .events)
 unfolding eventsOf namesOf addressesOf
-past-keeps file g y b es next f p e h =
+stepped-keeps file g y b es next f p e h =
     let map = marks es blank in
     let n : length map ≡ 65536 = length-marks es blank ∙ length-blank in
     let fs = carried file (g .addresses) (y .addresses) (y .cursor) b map .events in
-    let z = past file y b fs next in
+    let z = stepped file y b fs next in
     let x = carried-ends file (g .addresses) (y .addresses) (y .cursor) b map _ _ f next e in
     let at = advanced-at file (g .addresses) (y .addresses) (y .cursor) b map next e in
-    let ns = length-append (y .names) (nameIn file b) in
-    let ads = length-append (y .addresses) (addressIn b) in
     record {
       lawful = lawful-append blank es fs (h .lawful) (carried-lawful file (g .addresses) (y .addresses) (y .cursor) b map _ _ n f p);
       deeds = ap (λ (gs : List Event). gs ++ fs) (h .deeds);
       ruled = (
         record {
-          known = past-known file g y _ (h .slots) (h .eights) map next b f p;
-          by-rule = past-rule file g y _ (h .slots) (h .eights) map next b f p e;
+          known = stepped-known file g y _ (h .tabled) (h .counted) map next b f p;
+          by-rule = stepped-rule file g y _ (h .tabled) (h .counted) map next b f p e;
         },
-        each-map (ruled-grown file g y z (past-grown file y b fs next p)) (y .deeds) (h .ruled),
+        each-map (ruled-grown file g y z (stepped-grown file y b fs next p)) (y .deeds) (h .ruled),
       );
       names = ap (λ (l : List ℕ). l ++ nameIn file b) (h .names);
       addresses = ap (λ (l : List ℕ). l ++ addressIn b) (h .addresses);
-      eights = omega (arith, ns, ads, h .eights, name-eights file _ _ _ b f);
-      named = omega (arith, ads, h .named, advanced-named (y .cursor) b next);
-      few = advanced-few (y .cursor) b next p (h .few);
-      slots = advanced-table (y .cursor) b next ∙ h .slots;
-      counts = omega (arith, at, x .behind, h .counts, placed-append es fs, adjusted-append es fs);
-      inside = omega (arith, at, x .inside);
+      counted = counted-on file (y .cursor) b next _ _ (y .names) (y .addresses) f (h .counted);
+      tabled = tabled-on (y .cursor) b next _ _ _ f (h .tabled);
+      passed = behind-on (length file) (y .cursor) (z .cursor) es fs (rw at x) (h .passed);
     }
 
--- ---- at the end
-
--- a refusal is no end of a file
-abbrev endIn : Progress → Turn Progress Verdict → Verdict
-endIn y (ends v) = v
-endIn y (leads z) = refused CutShort y
-
-abbrev progressIn : Progress → Verdict → Progress
-progressIn y (finished z) = z
-progressIn y (refused fault z) = y
-
-abbrev isFinished : Verdict → Bool
-isFinished (finished z) = true
-isFinished (refused fault z) = false
-
-pub refused-finished : (fault : Fault) (y z : Progress) → refused fault y ≡ finished z → ⊥
-refused-finished fault y z e = false≢true (ap isFinished e)
-
--- a turn ends a file at the file's end alone, and does nothing there
-turn-finished : (file : List ℕ) (g : Given) (y z : Progress) (map : List ℕ) → turn file g y map .answer ≡ ends (finished z)
-    → (y ≡ z) × (turn file g y map .events ≡ [])
-turn-finished file g y z map e = by (eqb (y .cursor .at) (length file)) refl
-  where
-    stops : (b : Block) (es : List Event) (s : Stop) → judge file y b es s ≡ ends (finished z) → ⊥
-    stops b es (broken fault) f = refused-finished fault y z (ap (endIn y) f)
-    stops b es (done next) f = refused-finished CutShort y z (ap (endIn y) f)
-
-    by : (t : Bool) → eqb (y .cursor .at) (length file) ≡ t → (y ≡ z) × (turn file g y map .events ≡ [])
-    by true h =
-        let k = turn-end file g y map (eqb-true _ _ h) in (
-          ap (λ (v : Turn Progress Verdict). progressIn y (endIn y v)) (sym (ap (λ (r : Ran (Turn Progress Verdict)). r .answer) k) ∙ e),
-          ap (λ (r : Ran (Turn Progress Verdict)). r .events) k,
-        )
-    by false h =
-        let o = outcomeAt file g y map in
-        let k = ap (λ (r : Ran (Turn Progress Verdict)). r .answer) (turn-block file g y map (eqb-false _ _ h)) in
-        absurd (stops (blockAt file g y) (o .events) (o .answer) (sym k ∙ e))
+-- ---- of every accepted file
 
 module _ (file : List ℕ) (g : Given) (top : g .high ≤ 65535) (bytes : Bytes file) where
-  -- every turn that leads on keeps it, and so the walk ends with it
+  -- every turn that leads on keeps it
   keeps-on : (y z : Progress) (es : List Event) → Keeps file g y es → turn file g y (marks es blank) .answer ≡ leads z
       → Keeps file g z (es ++ turn file g y (marks es blank) .events)
   unfolding outcomeAt
   keeps-on y z es h e =
       let l = turn-led file g y (marks es blank) z e in
       let p = read-granted file (g .high) (g .names) (y .names) (y .cursor) bytes in
-      rw (l .events, ← l .leads-to) (past-keeps file g y (blockAt file g y) es (l .next) (block-fits file g top y) p (l .done-at) h)
+      rw (l .events, ← l .leads-to) (stepped-keeps file g y (blockAt file g y) es (l .next) (block-fits file g top y) p (l .done-at) h)
 
-  blocks-keep : (z : Progress) → blocksOf file g .answer ≡ finished z → Keeps file g z (blocksOf file g .events)
-  unfolding blocksFrom
-  blocks-keep z e =
-      let x = walk-keeps (turn file g) (λ y. refused CutShort y) (bytesLeft file) (turn-falls file g top) (Keeps file g) blank keeps-on (begun g)
-      (keeps-first file g) in
-      let t = turn-finished file g (x .state) z (marks (x .before) blank) (x .answer ∙ ap ends e) in
-      let es : blocksOf file g .events ≡ x .before = x .events ∙ ap (λ (fs : List Event). x .before ++ fs) (t .1) ∙ append-nil (x .before) in
-      rw (es, ← t .0) (x .held)
-
-  -- what holds of every file that is accepted
+  -- so it holds of every file that is accepted
   pub judged-keeps : (z : Progress) → judged file g .answer ≡ finished z → Keeps file g z (judged file g .events)
-  unfolding judged
-  judged-keeps z e = by (opening file) e
-    where
-      by : (c : Check) → opened g c (blocksOf file g) .answer ≡ finished z → Keeps file g z (opened g c (blocksOf file g) .events)
-      by Passed f = blocks-keep z f
-      by (Failed fault) f = absurd (refused-finished fault (begun g) z f)
+  judged-keeps = judged-holds file g top (Keeps file g) (keeps-first file g) keeps-on

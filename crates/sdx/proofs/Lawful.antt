@@ -3,11 +3,11 @@
 -- Assumes nothing.
 use mathlib.Core.List.{List, [], _∷_, _++_}
 use mathlib.Core.Path.{_≡_, refl, sym, ap, ap₂, _∙_}
-use Prim.Native.Nat.{ℕ, zero, suc, _+_, _-_, _*_, _≤_, _<_}
+use Prim.Native.Nat.{ℕ, _+_, _-_, _*_, _≤_, _<_}
 use native.Mathlib.Decide.{decLe}
 use native.Mathlib.Omega.{arith}
-use lib.ListN.{length, getD, replicate, length-replicate, getD-replicate}
-use Rattle.events.proofs.Events.{play-append, marks-append, length-play, length-marks}
+use lib.ListN.{length, getD}
+use Rattle.events.proofs.Events.{play-append, marks-append, length-play, length-markOne, length-marks, length-blank, blank-at, fill-outside, fill-inside}
 use Rattle.events.specs.Events.{Event, place, reserve, adjust, playOne, play, markOne, marks, blank}
 use Rattle.events.specs.Lists.{Each}
 use Rattle.words.proofs.Changes.{change-outside}
@@ -46,41 +46,7 @@ unfolding marks
 lawful-after p [] fs h = h
 lawful-after p (e ∷ es) fs h = lawful-after (markOne e p) es fs (h .1)
 
--- ---- a clear map
-
--- a run of n marks has the length n
-length-run : (n v : ℕ) → length (replicate n v) ≡ n
-length-run n v = length-replicate n v
-
--- as long as memory
-pub length-blank : length blank ≡ 65536
-unfolding blank
-length-blank = length-run 65536 0
-
--- a run of zeros is 0 everywhere, past its end too
-zeros-at : (n x : ℕ) → _≡_ {A = ℕ} (getD (replicate n 0) x 0) 0
-zeros-at zero x = refl
-zeros-at (suc n) zero = refl
-zeros-at (suc n) (suc x) = zeros-at n x
-
--- 0 at every address
-pub blank-at : (x : ℕ) → getD blank x 0 ≡ 0
-unfolding blank
-blank-at x = zeros-at 65536 x
-
 -- ---- the mark that one event leaves
-
--- outside a run of marks the map stays
-run-outside : (p : List ℕ) (a n v x : ℕ) → ¬ Within a n x → getD (put p a (replicate n v)) x 0 ≡ getD p x 0
-run-outside p a n v x h = put-outside p a (replicate n v) x (rw (length-run n v) h)
-
--- in the run it is the mark
-run-inside : (p : List ℕ) (a n v x : ℕ) → a + n ≤ length p → Within a n x → getD (put p a (replicate n v)) x 0 ≡ v
-run-inside p a n v x h w =
-    let e : a + (x - a) ≡ x = omega arith in
-    ap (λ (k : ℕ). getD (put p a (replicate n v)) k 0) (sym e)
-    ∙ put-inside p a (replicate n v) (x - a) (rw (length-run n v) h) (rw (length-run n v) (omega arith))
-    ∙ getD-replicate n (x - a) v 0 (omega arith)
 
 -- an event is at an address or not
 pub touches? : (x : ℕ) (e : Event) → Dec (Touches x e)
@@ -90,20 +56,15 @@ touches? x (adjust width a amount) = within? a width x
 
 -- an address that the event is not at keeps its mark
 pub mark-untouched : (e : Event) (p : List ℕ) (x : ℕ) → ¬ Touches x e → getD (markOne e p) x 0 ≡ getD p x 0
-mark-untouched (place a bytes) p x h = run-outside p a (length bytes) 1 x h
-mark-untouched (reserve a n) p x h = run-outside p a n 2 x h
-mark-untouched (adjust width a amount) p x h = run-outside p a width 3 x h
+mark-untouched (place a bytes) p x h = fill-outside p a (length bytes) 1 x h
+mark-untouched (reserve a n) p x h = fill-outside p a n 2 x h
+mark-untouched (adjust width a amount) p x h = fill-outside p a width 3 x h
 
 -- one that it is at gets the event's
 pub mark-touched : (e : Event) (p : List ℕ) (x : ℕ) → length p ≡ 65536 → Allowed p e → Touches x e → getD (markOne e p) x 0 ≡ markOf e
-mark-touched (place a bytes) p x l h w = run-inside p a (length bytes) 1 x (omega (arith, l, h)) w
-mark-touched (reserve a n) p x l h w = run-inside p a n 2 x (omega (arith, l, h)) w
-mark-touched (adjust width a amount) p x l h w = run-inside p a width 3 x (omega (arith, l, h .0, h .1)) w
-
--- the map keeps its length
-pub length-mark : (e : Event) (p : List ℕ) → length (markOne e p) ≡ length p
-unfolding marks
-length-mark e p = length-marks (e ∷ []) p
+mark-touched (place a bytes) p x l h w = fill-inside p a (length bytes) 1 x (omega (arith, l, h)) w
+mark-touched (reserve a n) p x l h w = fill-inside p a n 2 x (omega (arith, l, h)) w
+mark-touched (adjust width a amount) p x l h w = fill-inside p a width 3 x (omega (arith, l, h .0, h .1)) w
 
 -- ---- the marks of a list: "The last event at an address decides"
 
@@ -162,7 +123,7 @@ pub unplaced-unwritten : (es : List Event) (p : List ℕ) (x : ℕ) → length p
 unplaced-unwritten [] p x l h n w = tt
 unplaced-unwritten (e ∷ es) p x l h n w = (
   write-unplaced e p x (h .0) (w .0) n,
-  unplaced-unwritten es (markOne e p) x (length-mark e p ∙ l) (h .1) (λ f. n (mark-unplaced e p x l (h .0) (w .0) f)) (w .1),
+  unplaced-unwritten es (markOne e p) x (length-markOne e p ∙ l) (h .1) (λ f. n (mark-unplaced e p x l (h .0) (w .0) f)) (w .1),
 )
 
 -- "and every other byte as before"
@@ -226,7 +187,7 @@ marked-on e es p x l h (since-before f w) = by e (touches? x e) h f
 marked : (es : List Event) (p : List ℕ) (x : ℕ) → length p ≡ 65536 → Lawful p es → getD (marks es p) x 0 ≡ 1 → Marked p es x
 unfolding marks
 marked [] p x l h f = since-before f tt
-marked (e ∷ es) p x l h f = marked-on e es p x l (h .0) (marked es (markOne e p) x (length-mark e p ∙ l) (h .1) f)
+marked (e ∷ es) p x l h f = marked-on e es p x l (h .0) (marked es (markOne e p) x (length-markOne e p ∙ l) (h .1) f)
 
 -- a byte marked 1 after lawful events from a clear map was put by a block, and not written since
 pub marked-put : (es : List Event) (x : ℕ) → Lawful blank es → getD (marks es blank) x 0 ≡ 1 → (byte : ℕ) × Put es x byte
@@ -281,7 +242,7 @@ module _ (before after : List Event) (a amount : ℕ) (h : Lawful blank (before 
       let e = adjust 2 a amount in
       let p = marks before blank in
       let n : length p ≡ 65536 = length-marks before blank ∙ length-blank in
-      unplaced-unwritten after (markOne e p) x (length-mark e p ∙ n) (lawful-after blank before (e ∷ after) h .1)
+      unplaced-unwritten after (markOne e p) x (length-markOne e p ∙ n) (lawful-after blank before (e ∷ after) h .1)
       (λ f. omega (arith, f, mark-touched e p x n allowed t)) w
 
   module _ (m : List ℕ) (l : length m ≡ 65536) (low high : ℕ) (low-put : Put before a low) (high-put : Put before (a + 1) high) where

@@ -1,31 +1,28 @@
 -- The parts of a load, over plain values: its checks before the first block, one block carried out, the cursor after it, and the start.
 -- Assumes nothing.
-use mathlib.Core.Bool.{Bool, true, false, _&&_}
+use mathlib.Core.Bool.{Bool, true, false}
 use mathlib.Core.List.{List, [], _∷_}
 use mathlib.Core.Path.{_≡_, refl, sym, ap, _∙_}
 use Prim.Native.Nat.{ℕ, _+_, _-_, _*_, _≤_, _<_}
-use native.Mathlib.Omega.{arith}
 use types.Run.{OneOf, miss}
 use denote.Enum.Declared.{tagOf}
-use borrow.Author.Tests.{le-leb, lt-leb, eq-eqb, ne-eqb}
+use borrow.Author.Tests.{le-leb, lt-leb}
 use borrow.Rule.Slice.PartMut.{midOf, putMid}
 use lib.ListN.{length, set}
 use Rattle.answer.specs.Checks.{need, pick}
 use Rattle.answer.specs.declared.Fault.{Fault}
 use Rattle.answer.specs.declared.Fault.the-variants.{CutShort, WrongOpening}
-use Rattle.answer.specs.declared.Start.{Start}
 use Rattle.answer.specs.declared.Start.the-variants.{Absent, At}
 use Rattle.blocks.proofs.Block.{the-type}
 use Rattle.blocks.specs.Blocks.{dataSize, amountOf}
-use Rattle.blocks.specs.Bounds.{Listed, InMemory, Fits}
+use Rattle.blocks.specs.Bounds.{Listed, Fits}
 use Rattle.blocks.specs.declared.Block.{Block}
 use Rattle.blocks.specs.declared.Block.the-variants.{Plain, Relocatable, Update, NewName, Faulty}
 use Rattle.blocks.specs.declared.Cursor.{Cursor}
 use Rattle.blocks.specs.declared.Source.{Source}
 use Rattle.events.proofs.Events.{did-none}
-use Rattle.events.specs.Events.{Event, place, reserve, play, marks, adjustedIn, Reached, Did}
+use Rattle.events.specs.Events.{place, reserve, play, marks, adjustedIn, Reached, Did}
 use Rattle.events.specs.declared.Check.the-variants.{Passed, Failed}
-use Rattle.names.specs.Names.{nameSize}
 use Rattle.updates.specs.Bodies.{wordLoaded, ended, body}
 use Rattle.updates.specs.declared.Ended.{Ended}
 use Rattle.updates.specs.declared.Ended.the-variants.{Broken, Done}
@@ -34,8 +31,8 @@ use Rattle.words.proofs.Runs.{length-part}
 use Rattle.words.specs.Numbers.{value}
 use Rattle.words.specs.Runs.{part, put}
 use Rattle.sdx.specs.Call.{ranged, startIn}
-use Rattle.sdx.specs.Parts.{NameFits, RoomFits, Noted}
-use Rattle.sdx.specs.Walk.{placing, laying, carried, advanced, nameIn, addressIn, opening}
+use Rattle.sdx.specs.Parts.{Noted}
+use Rattle.sdx.specs.Walk.{placing, laying, carried, opening}
 
 -- ---- before the first block
 
@@ -79,7 +76,8 @@ pub laying-reserved : (reserves : Bool) (file : List ℕ) (low from size : ℕ) 
     → Did Ended (ended (laying reserves file low from size)) write m p (Done from 0) m p′
 laying-reserved reserves file low from size write m p p′ e h = rw e (reserved-did file low from size write m p p′ h)
 
-pub laying-placed : (reserves : Bool) (file : List ℕ) (low from size : ℕ) (write : Bool) (m p : List ℕ) (r : Ended) (m′ p′ : List ℕ) → reserves ≡ false
+pub laying-placed : (reserves : Bool) (file : List ℕ) (low from size : ℕ) (write : Bool) (m p : List ℕ) (r : Ended) (m′ p′ : List ℕ)
+    → reserves ≡ false
     → Did Ended (ended (placing file low from size)) write m p r m′ p′ → Did Ended (ended (laying reserves file low from size)) write m p r m′ p′
 laying-placed reserves file low from size write m p r m′ p′ e h = rw e h
 
@@ -89,7 +87,8 @@ module _ (file lent own : List ℕ) (c : Cursor) (b : Block) (write : Bool) (m p
   carried-plain address from size r m′ p′ e h = rw e h
 
   pub carried-room : (reserves : Bool) (number offset from size : ℕ) (r : Ended) (m′ p′ : List ℕ) → b ≡ Relocatable reserves number offset from size
-      → Did Ended (ended (laying reserves file (c .low) from size)) write m p r m′ p′ → Did Ended (ended (carried file lent own c b p)) write m p r m′ p′
+      → Did Ended (ended (laying reserves file (c .low) from size)) write m p r m′ p′
+      → Did Ended (ended (carried file lent own c b p)) write m p r m′ p′
   carried-room reserves number offset from size r m′ p′ e h = rw e h
 
   pub carried-body : (source : Source) (from amount : ℕ) (r : Ended) (m′ p′ : List ℕ) → b ≡ Update source from
@@ -97,7 +96,8 @@ module _ (file lent own : List ℕ) (c : Cursor) (b : Block) (write : Bool) (m p
       → Did Ended (ended (carried file lent own c b p)) write m p r m′ p′
   carried-body source from amount r m′ p′ e a h = rw (e, ← a) h
 
-  pub carried-name : (from address : ℕ) → b ≡ NewName from address → Did Ended (ended (carried file lent own c b p)) write m p (Done (from + 8) 0) m p
+  pub carried-name : (from address : ℕ) → b ≡ NewName from address
+      → Did Ended (ended (carried file lent own c b p)) write m p (Done (from + 8) 0) m p
   unfolding adjustedIn
   carried-name from address e = rw e (did-none (Done (from + 8) 0) write m p)
 

@@ -1,14 +1,14 @@
 -- What a block has passed that was read, and that the events of a body are lawful: the checks of document 01 that demand 2 rests on.
 -- Assumes nothing.
-use mathlib.Core.Bool.{Bool, true, false, not, _&&_, _||_, false≢true}
+use mathlib.Core.Bool.{Bool, true, false, not, _||_, false≢true}
 use mathlib.Core.List.{List}
 use mathlib.Core.Path.{_≡_, refl, ap, _∙_}
 use Prim.Native.Nat.{ℕ, _+_, _-_, _≤_, _<_}
 use native.Mathlib.Omega.{arith}
-use borrow.Author.Tests.{leb-true, ltb-true, eqb-true, not-true}
+use borrow.Author.Tests.{leb-true, eqb-true, not-true}
 use lib.Dec.{eqb, ltb}
 use lib.ListN.{length, getD}
-use Rattle.answer.proofs.Checks.{on-need, on-pick}
+use Rattle.answer.proofs.Checks.{on-need, on-pick, and-true}
 use Rattle.answer.specs.Checks.{need}
 use Rattle.answer.specs.declared.Fault.{Fault}
 use Rattle.answer.specs.declared.Fault.the-variants.{CutShort}
@@ -36,21 +36,16 @@ use Rattle.words.specs.Numbers.{value}
 use Rattle.words.specs.Runs.{Bytes, part, contains}
 use Rattle.sdx.proofs.Lawful.{Lawful, lawful-append}
 
--- both of two tests hold
-pub and-true : (a b : Bool) → a && b ≡ true → (a ≡ true) × (b ≡ true)
-and-true true b e = (refl, e)
-and-true false b e = absurd (false≢true e)
-
 -- ---- a block
 
--- a plain block ends in memory; a relocatable one has a number that is new, a body one that is there; there is room for a new name
+-- a plain block ends in memory; a relocatable one has a number that is new, a body one that is there
 abbrev pub Passes : Cursor → Block → Type 0
 Passes c (Plain address from size) = address + size ≤ 65536
 Passes c (Relocatable reserves number offset from size) = slotAt (c .table) number .taken ≡ false
 Passes c (Update (Number number) from) = slotAt (c .table) number .taken ≡ true
 Passes c (Update (LentName i) from) = Unit {0}
 Passes c (Update (OwnName i) from) = Unit {0}
-Passes c (NewName from address) = c .named < 32
+Passes c (NewName from address) = Unit {0}
 Passes c (Faulty fault) = Unit {0}
 
 pub record Granted (c : Cursor) (b : Block) : Type 0 where
@@ -101,12 +96,12 @@ module _ (file : List ℕ) (high : ℕ) (lent own : List ℕ) (c : Cursor) where
       by (New i) = record { passes = tt }
       by (Lent i) = record { passes = tt }
 
-  -- there is room for a new name
+  -- (nor has a new name)
   new-name-granted : Granted c (readNewName file c)
   unfolding readNewName readAddress
   new-name-granted =
       checked _ _ _
-      (λ h. checked _ _ _ (λ i. checked _ _ _ (λ j. checked _ _ _ (λ k. checked _ _ _ (λ l. record { passes = ltb-true _ _ l })))))
+      (λ h. checked _ _ _ (λ i. checked _ _ _ (λ j. checked _ _ _ (λ k. checked _ _ _ (λ l. record { passes = tt })))))
 
   -- so every block has passed that is read
   marked-granted : Bytes file → (m : Marker) → Granted c (readAs file high lent own c m)

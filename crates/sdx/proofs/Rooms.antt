@@ -49,8 +49,12 @@ pub record Counted (c : Cursor) (names addresses : List ℕ) : Type 0 where
   pub each : length addresses ≡ c .named
   pub few : c .named ≤ 32
 
+pub counted-first : (low : ℕ) → Counted (firstCursor low) [] []
+counted-first low = record { bytes = omega arith; each = refl; few = omega arith }
+
 -- a block without a name leaves them
-counted-same : (c d : Cursor) (names addresses : List ℕ) → d .named ≡ c .named → Counted c names addresses → Counted d (names ++ []) (addresses ++ [])
+counted-same : (c d : Cursor) (names addresses : List ℕ) → d .named ≡ c .named → Counted c names addresses
+    → Counted d (names ++ []) (addresses ++ [])
 counted-same c d names addresses e h =
     record {
       bytes = length-append names [] ∙ omega (arith, h .bytes, e);

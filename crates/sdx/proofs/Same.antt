@@ -6,17 +6,17 @@ use mathlib.Core.Path.{_≡_, refl, sym, ap, ap₂, _∙_}
 use Prim.Native.Nat.{ℕ, _+_, _-_, _*_, _≤_}
 use native.Mathlib.Omega.{arith}
 use lib.ListN.{length, getD}
+use Rattle.answer.proofs.Checks.{and-true}
 use Rattle.answer.specs.Checks.{pick}
 use Rattle.answer.specs.declared.Start.the-variants.{Absent, At}
-use Rattle.events.proofs.Events.{play-append, length-play, length-marks}
+use Rattle.events.proofs.Events.{play-append, length-playOne, length-play, length-markOne, length-marks, length-blank, blank-at}
 use Rattle.events.specs.Events.{Event, place, reserve, adjust, playOne, play, markOne, marks, blank}
 use Rattle.updates.specs.Bodies.{isLoaded, wordLoaded}
 use Rattle.words.proofs.Numbers.{value-word}
 use Rattle.words.proofs.Runs.{put-inside}
 use Rattle.words.specs.Numbers.{digits, value, on, change}
 use Rattle.words.specs.Runs.{Within, put}
-use Rattle.sdx.proofs.Lawful.{Allowed, Lawful, lawful-before, lawful-after, length-blank, blank-at, touches?, mark-untouched, mark-touched, length-mark, write-none, change-byte}
-use Rattle.sdx.proofs.Passing.{and-true}
+use Rattle.sdx.proofs.Lawful.{Allowed, Lawful, lawful-before, lawful-after, touches?, mark-untouched, mark-touched, write-none, change-byte}
 use Rattle.sdx.specs.Call.{startIn, startPlace}
 use Rattle.sdx.specs.Demand2.{Places, Touches}
 
@@ -91,11 +91,6 @@ agree-one e p m n j l k h g = record { same = λ x f. by x e (touches? x e) h f 
     by x (reserve a size) (yes t) h f = absurd (false≢true (sym (ap isLoaded (mark-touched (reserve a size) p x j h t)) ∙ f))
     by x (adjust width a amount) (yes t) h f = field-same width a amount p m n x l k h g t
 
--- memory keeps its length
-length-one : (e : Event) (m : List ℕ) → length (playOne e m) ≡ length m
-unfolding play
-length-one e m = length-play (e ∷ []) m
-
 -- ---- all events
 
 -- a byte that is the same stays so
@@ -105,7 +100,7 @@ same-play : (es : List Event) (p m n : List ℕ) (x : ℕ) → length p ≡ 6553
 unfolding play
 same-play [] p m n x j l k h g f = f
 same-play (e ∷ es) p m n x j l k h g f =
-    same-play es (markOne e p) (playOne e m) (playOne e n) x (length-mark e p ∙ j) (length-one e m ∙ l) (length-one e n ∙ k) (h .1)
+    same-play es (markOne e p) (playOne e m) (playOne e n) x (length-markOne e p ∙ j) (length-playOne e m ∙ l) (length-playOne e n ∙ k) (h .1)
     (agree-one e p m n j l k (h .0) g) (same-one e p m n x l k (h .0) g f)
 
 -- memories that agree do so after them
@@ -114,7 +109,7 @@ agree-play : (es : List Event) (p m n : List ℕ) → length p ≡ 65536 → len
 unfolding play marks
 agree-play [] p m n j l k h g = g
 agree-play (e ∷ es) p m n j l k h g =
-    agree-play es (markOne e p) (playOne e m) (playOne e n) (length-mark e p ∙ j) (length-one e m ∙ l) (length-one e n ∙ k) (h .1)
+    agree-play es (markOne e p) (playOne e m) (playOne e n) (length-markOne e p ∙ j) (length-playOne e m ∙ l) (length-playOne e n ∙ k) (h .1)
     (agree-one e p m n j l k (h .0) g)
 
 -- nothing is loaded in a clear map
@@ -144,7 +139,7 @@ module _ (m n : List ℕ) (l : length m ≡ 65536) (k : length n ≡ 65536) wher
       let g = agree-one e p m′ n′ j l′ k′ (rest .0) (loaded-same before (lawful-before blank before (e ∷ after) h)) in
       let here = place-same a bytes m′ n′ x (omega (arith, rest .0, l′)) (omega (arith, rest .0, k′)) w in
       ap (λ (q : List ℕ). getD q x 0) (play-append before (e ∷ after) m)
-      ∙ same-play after (markOne e p) (playOne e m′) (playOne e n′) x (length-mark e p ∙ j) (length-one e m′ ∙ l′) (length-one e n′ ∙ k′)
+      ∙ same-play after (markOne e p) (playOne e m′) (playOne e n′) x (length-markOne e p ∙ j) (length-playOne e m′ ∙ l′) (length-playOne e n′ ∙ k′)
       (rest .1) g here
       ∙ ap (λ (q : List ℕ). getD q x 0) (sym (play-append before (e ∷ after) n))
   placed-same before after (reserve a size) x h w = absurd w

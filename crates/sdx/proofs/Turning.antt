@@ -1,43 +1,43 @@
--- One block of a load: where it ends, and what a turn that leads on comes to.
+-- One block of a load: where it ends, what a turn comes to that leads on or finishes, and that what every such turn keeps holds of every file that
+-- finishes.
 -- Assumes nothing.
 use mathlib.Core.Bool.{Bool, true, false}
-use mathlib.Core.List.{List, [], _∷_, _++_}
+use mathlib.Core.List.{List, [], _∷_, _++_, append-nil}
 use mathlib.Core.Path.{_≡_, refl, sym, ap, _∙_}
-use Prim.Native.Nat.{ℕ, suc, _+_, _/_, _≤_, _<_}
+use Prim.Native.Nat.{ℕ, _+_, _/_, _≤_, _<_}
 use native.Mathlib.Omega.{arith}
 use borrow.Author.Tests.{eqb-true, eqb-false, eq-eqb, ne-eqb}
 use lib.Dec.{eqb}
 use lib.ListN.{length}
 use Rattle.answer.specs.Checks.{pick}
 use Rattle.answer.specs.declared.Fault.{Fault}
+use Rattle.answer.specs.declared.Fault.the-variants.{CutShort}
 use Rattle.blocks.proofs.Lying.{read-lies}
 use Rattle.blocks.specs.Blocks.{amountOf}
 use Rattle.blocks.specs.Bounds.{Fits}
 use Rattle.blocks.specs.declared.Block.{Block}
 use Rattle.blocks.specs.declared.Block.the-variants.{Plain, Relocatable, Update, NewName, Faulty}
 use Rattle.blocks.specs.declared.Cursor.{Cursor}
-use Rattle.events.specs.Events.{Event, placedIn, adjustedIn, Ran}
+use Rattle.events.proofs.Events.{placed-append, adjusted-append}
+use Rattle.events.proofs.Walks.{ends-leads, leads-same, ends-same, walk-keeps}
+use Rattle.events.specs.Events.{Event, marks, blank, placedIn, adjustedIn, Ran}
 use Rattle.events.specs.Walk.{Turn, ends, leads}
+use Rattle.events.specs.declared.Check.{Check}
+use Rattle.events.specs.declared.Check.the-variants.{Passed, Failed}
 use Rattle.updates.proofs.Bounds.{body-bounds, body-places-none}
-use Rattle.updates.specs.Bodies.{Stop, broken, done, body}
+use Rattle.updates.proofs.Turning.{broken-done, done-same}
+use Rattle.updates.specs.Bodies.{Stop, broken, done}
 use Rattle.words.proofs.Runs.{length-part}
-use Rattle.sdx.specs.Walk.{Given, carried, advanced, nameIn, addressIn, Deed, Progress, Verdict, finished, refused, judge, blockAt, outcomeAt, turn, bytesLeft}
+use Rattle.sdx.specs.Parts.{progressOf}
+use Rattle.sdx.specs.Walk.{Given, carried, advanced, nameIn, addressIn, Progress, Verdict, finished, refused, judge, blockAt, outcomeAt, turn, bytesLeft, blocksFrom, firstCursor, begun, blocksOf, opening, opened, judged}
 
--- ---- answers told apart
+-- a refusal is no end of a file
+abbrev isFinished : Verdict → ℕ
+isFinished (finished z) = 1
+isFinished (refused fault z) = 0
 
-abbrev nextOf : Stop → ℕ
-nextOf (broken fault) = 0
-nextOf (done next) = suc next
-
-broken-done : (fault : Fault) (next : ℕ) → broken fault ≡ done next → ⊥
-broken-done fault next e = let z : 0 ≡ suc next = ap nextOf e in omega arith
-
-abbrev isLeads : Turn Progress Verdict → ℕ
-isLeads (ends v) = 0
-isLeads (leads z) = 1
-
-ends-leads : (v : Verdict) (z : Progress) → ends v ≡ leads z → ⊥
-ends-leads v z e = let n : _≡_ {A = ℕ} 0 1 = ap isLeads e in omega arith
+pub refused-finished : {fault : Fault} {y z : Progress} → refused fault y ≡ finished z → ⊥
+refused-finished e = let n : _≡_ {A = ℕ} 0 1 = ap isFinished e in omega arith
 
 -- ---- where a block ends
 
@@ -52,16 +52,16 @@ pub carried-ends : (file lent own : List ℕ) (c : Cursor) (b : Block) (map : Li
 unfolding placedIn adjustedIn
 carried-ends file lent own c (Plain address from size) map n k f next e =
     let l = f .lies in
-    let t : suc (from + size) ≡ suc next = ap nextOf e in
+    let t : from + size ≡ next = done-same e in
     let s = length-part file from size (l .1) in
     record { further = omega (arith, l .0); inside = omega (arith, l .1); behind = omega (arith, l .0) }
 carried-ends file lent own c (Relocatable true number offset from size) map n k f next e =
     let l = f .lies in
-    let t : suc from ≡ suc next = ap nextOf e in
+    let t : from ≡ next = done-same e in
     record { further = omega (arith, l .0); inside = omega (arith, l .1); behind = omega (arith, l .0) }
 carried-ends file lent own c (Relocatable false number offset from size) map n k f next e =
     let l = f .lies in
-    let t : suc (from + size) ≡ suc next = ap nextOf e in
+    let t : from + size ≡ next = done-same e in
     let s = length-part file from size (l .1) in
     record { further = omega (arith, l .0); inside = omega (arith, l .1); behind = omega (arith, l .0) }
 carried-ends file lent own c (Update source from) map n k f next e =
@@ -72,9 +72,9 @@ carried-ends file lent own c (Update source from) map n k f next e =
     record { further = omega (arith, b .0, l .0); inside = b .1; behind = omega (arith, b .2, p, l .0) }
 carried-ends file lent own c (NewName from address) map n k f next e =
     let l = f .lies in
-    let t : suc (from + 8) ≡ suc next = ap nextOf e in
+    let t : from + 8 ≡ next = done-same e in
     record { further = omega (arith, l .0); inside = omega (arith, l .1); behind = omega (arith, l .0) }
-carried-ends file lent own c (Faulty fault) map n k f next e = absurd (broken-done fault next e)
+carried-ends file lent own c (Faulty fault) map n k f next e = absurd (broken-done e)
 
 -- and there the cursor stands
 pub advanced-at : (file lent own : List ℕ) (c : Cursor) (b : Block) (map : List ℕ) (next : ℕ) → carried file lent own c b map .answer ≡ done next
@@ -83,30 +83,40 @@ advanced-at file lent own c (Plain address from size) map next e = refl
 advanced-at file lent own c (Relocatable reserves number offset from size) map next e = refl
 advanced-at file lent own c (Update source from) map next e = refl
 advanced-at file lent own c (NewName from address) map next e = refl
-advanced-at file lent own c (Faulty fault) map next e = absurd (broken-done fault next e)
+advanced-at file lent own c (Faulty fault) map next e = absurd (broken-done e)
+
+-- the events so far are no more than the bytes behind the cursor
+pub record Behind (len : ℕ) (c : Cursor) (es : List Event) : Type 0 where
+  pub inside : c .at ≤ len
+  pub counts : placedIn es + adjustedIn es ≤ c .at
+
+pub behind-first : (len low : ℕ) → Behind len (firstCursor low) []
+unfolding placedIn adjustedIn
+behind-first len low = record { inside = omega arith; counts = omega arith }
+
+-- a block more keeps that
+pub behind-on : (len : ℕ) (c d : Cursor) (es fs : List Event) → Ends len (c .at) (d .at) fs → Behind len c es → Behind len d (es ++ fs)
+behind-on len c d es fs x h =
+    record { inside = x .inside; counts = omega (arith, h .counts, x .behind, placed-append es fs, adjusted-append es fs) }
 
 -- ---- where a turn leads
 
 -- the progress after a block that ends at an offset
-abbrev pub stepped : List ℕ → Given → Progress → List Event → ℕ → Progress
-stepped file g y es next =
+abbrev pub stepped : List ℕ → Progress → Block → List Event → ℕ → Progress
+stepped file y b es next =
     record {
-      cursor = advanced (y .cursor) (blockAt file g y) next;
-      names = y .names ++ nameIn file (blockAt file g y);
-      addresses = y .addresses ++ addressIn (blockAt file g y);
-      deeds = record { at = y .cursor .at; block = blockAt file g y; events = es } ∷ y .deeds;
+      cursor = advanced (y .cursor) b next;
+      names = y .names ++ nameIn file b;
+      addresses = y .addresses ++ addressIn b;
+      deeds = record { at = y .cursor .at; block = b; events = es } ∷ y .deeds;
     }
-
-abbrev progressIn : Progress → Turn Progress Verdict → Progress
-progressIn y (ends v) = y
-progressIn y (leads z) = z
 
 -- a turn that leads on is a block that is carried out
 pub record Led (file : List ℕ) (g : Given) (y z : Progress) (map : List ℕ) : Type 0 where
   pub next : ℕ
   pub more : y .cursor .at ≡ length file → ⊥
   pub done-at : outcomeAt file g y map .answer ≡ done next
-  pub leads-to : stepped file g y (outcomeAt file g y map .events) next ≡ z
+  pub leads-to : stepped file y (blockAt file g y) (outcomeAt file g y map .events) next ≡ z
   pub events : turn file g y map .events ≡ outcomeAt file g y map .events
 
 module _ (file : List ℕ) (g : Given) (y : Progress) (map : List ℕ) where
@@ -130,23 +140,42 @@ module _ (file : List ℕ) (g : Given) (y : Progress) (map : List ℕ) where
       stops : (s : Stop) → outcomeAt file g y map .answer ≡ s → (y .cursor .at ≡ length file → ⊥)
           → judge file y (blockAt file g y) (outcomeAt file g y map .events) s ≡ leads z
           → Led file g y z map
-      stops (broken fault) o h f = absurd (ends-leads _ z f)
+      stops (broken fault) o h f = absurd (ends-leads f)
       stops (done next) o h f =
           record {
             next = next;
             more = h;
             done-at = o;
-            leads-to = ap (progressIn y) f;
+            leads-to = leads-same f;
             events = ap (λ (r : Ran (Turn Progress Verdict)). r .events) (turn-block h);
           }
 
       by : (b : Bool) → eqb (y .cursor .at) (length file) ≡ b → Led file g y z map
       by true h =
-          absurd (ends-leads _ z (sym (ap (λ (r : Ran (Turn Progress Verdict)). r .answer) (turn-end (eqb-true _ _ h))) ∙ e))
+          absurd (ends-leads (sym (ap (λ (r : Ran (Turn Progress Verdict)). r .answer) (turn-end (eqb-true _ _ h))) ∙ e))
       by false h =
           let more = eqb-false _ _ h in
           stops (outcomeAt file g y map .answer) refl more
           (sym (ap (λ (r : Ran (Turn Progress Verdict)). r .answer) (turn-block more)) ∙ e)
+
+  -- a turn finishes a file at its end alone, and does nothing there
+  pub turn-finished : (z : Progress) → turn file g y map .answer ≡ ends (finished z) → (y ≡ z) × (turn file g y map .events ≡ [])
+  turn-finished z e = by (eqb (y .cursor .at) (length file)) refl
+    where
+      stops : (es : List Event) (s : Stop) → judge file y (blockAt file g y) es s ≡ ends (finished z) → ⊥
+      stops es (broken fault) f = refused-finished (ends-same f)
+      stops es (done next) f = ends-leads (sym f)
+
+      by : (t : Bool) → eqb (y .cursor .at) (length file) ≡ t → (y ≡ z) × (turn file g y map .events ≡ [])
+      by true h =
+          let k = turn-end (eqb-true _ _ h) in (
+            ap progressOf (ends-same (sym (ap (λ (r : Ran (Turn Progress Verdict)). r .answer) k) ∙ e)),
+            ap (λ (r : Ran (Turn Progress Verdict)). r .events) k,
+          )
+      by false h =
+          absurd
+          (stops _ (outcomeAt file g y map .answer)
+          (sym (ap (λ (r : Ran (Turn Progress Verdict)). r .answer) (turn-block (eqb-false _ _ h))) ∙ e))
 
 -- what a turn that leads on passes by, in a file whose high is an address
 module _ (file : List ℕ) (g : Given) (top : g .high ≤ 65535) where
@@ -165,3 +194,25 @@ module _ (file : List ℕ) (g : Given) (top : g .high ≤ 65535) where
 
   pub turn-falls : (y z : Progress) (map : List ℕ) → turn file g y map .answer ≡ leads z → bytesLeft file z < bytesLeft file y
   turn-falls y z map e = let l = led-ends y z map e in omega (arith, l .further, l .inside)
+
+  -- ---- what every turn keeps
+
+  -- it holds of every file that finishes
+  module _ (P : Progress → List Event → Type 0) (first : P (begun g) [])
+      (keeps : (y z : Progress) (es : List Event) → P y es → turn file g y (marks es blank) .answer ≡ leads z
+      → P z (es ++ turn file g y (marks es blank) .events)) where
+    blocks-hold : (z : Progress) → blocksOf file g .answer ≡ finished z → P z (blocksOf file g .events)
+    unfolding blocksFrom
+    blocks-hold z e =
+        let x = walk-keeps (turn file g) (λ y. refused CutShort y) (bytesLeft file) turn-falls P blank keeps (begun g) first in
+        let t = turn-finished file g (x .state) (marks (x .before) blank) z (x .answer ∙ ap ends e) in
+        let es : blocksOf file g .events ≡ x .before = x .events ∙ ap (λ (fs : List Event). x .before ++ fs) (t .1) ∙ append-nil (x .before) in
+        rw (es, ← t .0) (x .held)
+
+    pub judged-holds : (z : Progress) → judged file g .answer ≡ finished z → P z (judged file g .events)
+    unfolding judged
+    judged-holds z e = by (opening file) e
+      where
+        by : (c : Check) → opened g c (blocksOf file g) .answer ≡ finished z → P z (opened g c (blocksOf file g) .events)
+        by Passed f = blocks-hold z f
+        by (Failed fault) f = absurd (refused-finished f)

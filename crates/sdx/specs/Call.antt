@@ -1,6 +1,6 @@
 -- A call of the loader, whatever comes in: "1, 2, 3 come in that order, then the file from its front".
 -- Assumes nothing.
-use mathlib.Core.Bool.{Bool, true, false, _&&_}
+use mathlib.Core.Bool.{Bool, _&&_}
 use mathlib.Core.List.{List, _++_}
 use mathlib.Core.Path.{_≡_}
 use Prim.Native.Nat.{ℕ, _-_, _*_, _≤_}
@@ -18,7 +18,7 @@ use Rattle.events.specs.Events.{Event, play, marks, blank, placedIn, adjustedIn
 use Rattle.names.specs.Names.{nameSize}
 use Rattle.updates.specs.Bodies.{wordLoaded}
 use Rattle.words.specs.Numbers.{value}
-use Rattle.sdx.specs.Walk.{Given, Progress, Verdict, finished, refused, atOnce, judged}
+use Rattle.sdx.specs.Walk.{Given, Verdict, finished, refused, atOnce, judged}
 
 abbrev pub given : List ℕ → List ℕ → ℕ → ℕ → Given
 given names addresses low high = record { names = names; addresses = addresses; low = low; high = high }

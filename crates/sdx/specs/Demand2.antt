@@ -1,7 +1,7 @@
 -- Demand 2 for SDX files, sentence by sentence: what a load leaves where it accepts. Proved in proofs/Demand2.antt of the definition
 -- (`demand2`), of every file, all settings and every memory, and of every call that keeps the loader's contract (`call-demand2`).
 -- Assumes nothing.
-use mathlib.Core.Bool.{Bool, true, false}
+use mathlib.Core.Bool.{true, false}
 use mathlib.Core.List.{List, [], _∷_, _++_}
 use mathlib.Core.Path.{_≡_}
 use Prim.Native.Nat.{ℕ, _+_, _*_, _≤_, _<_}
@@ -11,7 +11,6 @@ use Rattle.blocks.specs.declared.Block.{Block}
 use Rattle.blocks.specs.declared.Block.the-variants.{Plain, Relocatable, Update, NewName, Faulty}
 use Rattle.events.specs.Events.{Event, place, reserve, adjust, placedMark, reservedMark, adjustedMark, placedIn, adjustedIn}
 use Rattle.events.specs.Lists.{Each}
-use Rattle.names.specs.Names.{nameSize}
 use Rattle.updates.specs.Items.{slotAt}
 use Rattle.words.specs.Numbers.{value, digits, on}
 use Rattle.words.specs.Runs.{Within, part}

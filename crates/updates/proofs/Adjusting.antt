@@ -28,7 +28,8 @@ module _ (amount a : ℕ) (write : Bool) (m p : List ℕ) where
 
   module _ (loaded : wordLoaded p a ≡ true) where
     -- a byte that was adjusted before
-    pub adjusting-twice : contains adjustedMark (midOf a (a + 2 - a) p) ≡ true → Did Check (adjusting amount a p) write m p (Failed AdjustedTwice) m p
+    pub adjusting-twice : contains adjustedMark (midOf a (a + 2 - a) p) ≡ true
+        → Did Check (adjusting amount a p) write m p (Failed AdjustedTwice) m p
     unfolding adjusting need
     adjusting-twice t =
         let u : contains adjustedMark (part p a 2) ≡ true = rw (lent-is a 2 p) at t in

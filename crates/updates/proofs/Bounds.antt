@@ -13,7 +13,7 @@ use Rattle.events.specs.Events.{Event, marks, placedIn, adjustedIn}
 use Rattle.events.specs.Lists.{Each}
 use Rattle.events.specs.Walk.{ends, leads}
 use Rattle.updates.proofs.Turning.{Adjusts, turn-falls, turn-further, turn-each, turn-done}
-use Rattle.updates.specs.Bodies.{Place, Stop, broken, done, turn, bytesLeft, items, begun, body}
+use Rattle.updates.specs.Bodies.{Place, broken, done, turn, bytesLeft, items, begun, body}
 use Rattle.updates.specs.declared.Slot.{Slot}
 
 -- ---- what each turn keeps
@@ -46,7 +46,8 @@ module _ (file : List ℕ) (table : List Slot) (amount at : ℕ) (map : List ℕ
   unfolding items
   body-each =
       let x = walk-keeps (turn file table amount) (λ z. broken CutShort) (bytesLeft file) (turn-falls file table amount)
-      (λ s es. Each (Adjusts amount) es) map (λ s z es h e. each-append (Adjusts amount) es _ h (turn-each file table amount s (marks es map))) (begun at) tt in
+      (λ s es. Each (Adjusts amount) es) map (λ s z es h e. each-append (Adjusts amount) es _ h (turn-each file table amount s (marks es map)))
+      (begun at) tt in
       rw (x .events) (each-append (Adjusts amount) (x .before) _ (x .held) (turn-each file table amount (x .state) (marks (x .before) map)))
 
   pub body-places-none : placedIn (body file table amount at map .events) ≡ 0

@@ -110,7 +110,8 @@ module _ {file : List ℕ} {table : List Slot} {amount first : ℕ} {write : Boo
       ended-is : (a : Stop) → judge r item ≡ ends a → body file table amount first p₀ ≡ record { answer = a; events = x .events ++ here .events }
       unfolding here items
       ended-is a e =
-          came-end (turn file table amount) (λ z. broken CutShort) (bytesLeft file) (turn-falls file table amount) _ (x .events) (placeOf c) p₀ (x .came)
+          came-end (turn file table amount) (λ z. broken CutShort) (bytesLeft file) (turn-falls file table amount) _ (x .events) (placeOf c) p₀
+          (x .came)
           a (ap (λ (o : Ran (Turn Place Stop)). o .answer) here-is ∙ e)
 
       pub going-fails : {fault : Fault} → r ≡ Failed fault
@@ -158,7 +159,8 @@ module _ {file : List ℕ} {table : List Slot} {amount first : ℕ} {write : Boo
           let k = advanced-counts c item in
           record {
             events = x .events ++ here .events;
-            came = came-on (turn file table amount) (λ z. broken CutShort) (bytesLeft file) (turn-falls file table amount) _ (x .events) (placeOf c) p₀
+            came = came-on (turn file table amount) (λ z. broken CutShort) (bytesLeft file) (turn-falls file table amount) _ (x .events)
+                (placeOf c) p₀
                 (x .came) z (here-leads e o);
             reached = now;
             counted = k ∙ sym n;

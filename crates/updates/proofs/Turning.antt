@@ -1,16 +1,16 @@
 -- One turn of a body: where it leads, what it adjusts, and that it moves on.
 -- Assumes nothing.
-use mathlib.Core.Bool.{Bool, true, false, false≢true}
-use mathlib.Core.List.{List, [], _∷_, _++_}
+use mathlib.Core.List.{List}
 use mathlib.Core.Path.{_≡_, refl, sym, ap, _∙_}
-use Prim.Native.Nat.{ℕ, _+_, _<_, _≤_}
+use Prim.Native.Nat.{ℕ, suc, _+_, _<_, _≤_}
 use native.Mathlib.Omega.{arith}
 use lib.ListN.{length}
 use Rattle.answer.proofs.Checks.{on-need}
 use Rattle.answer.specs.declared.Fault.{Fault}
+use Rattle.events.proofs.Walks.{ends-leads, leads-same, ends-same}
 use Rattle.events.specs.Events.{Event, adjust, adjustedIn, Ran, failed}
 use Rattle.events.specs.Lists.{Each}
-use Rattle.events.specs.Walk.{Turn, ends, leads}
+use Rattle.events.specs.Walk.{ends, leads}
 use Rattle.events.specs.declared.Check.{Check}
 use Rattle.events.specs.declared.Check.the-variants.{Passed, Failed}
 use Rattle.updates.proofs.Reading.{Where, lies-as}
@@ -83,20 +83,6 @@ applied-each len at amount (Adjust counter next) map w = adjusting-word amount c
 
 -- ---- where a turn leads
 
-abbrev isEnd : Turn Place Stop → Bool
-isEnd (ends a) = true
-isEnd (leads s) = false
-
-ends-leads : (a : Stop) (z : Place) → ends a ≡ leads z → ⊥
-ends-leads a z e = false≢true (ap isEnd (sym e))
-
-abbrev whither : Place → Turn Place Stop → Place
-whither d (ends a) = d
-whither d (leads s) = s
-
-leads-same : (s z : Place) → _≡_ {A = Turn Place Stop} (leads s) (leads z) → z ≡ s
-leads-same s z e = ap (whither s) (sym e)
-
 -- a turn that leads on passed, and moved on inside the file
 pub record Leads (len : ℕ) (s z : Place) (check : Check) (item : Item) : Type 0 where
   pub passed : check ≡ Passed
@@ -105,14 +91,14 @@ pub record Leads (len : ℕ) (s z : Place) (check : Check) (item : Item) : Type 
   pub counts : s .at + adjusts item ≤ z .at
 
 judge-leads : (len : ℕ) (s z : Place) (check : Check) (item : Item) → Where len (s .at) item → judge check item ≡ leads z → Leads len s z check item
-judge-leads len s z (Failed fault) item w e = absurd (ends-leads _ z e)
-judge-leads len s z Passed (Wrong fault) w e = absurd (ends-leads _ z e)
-judge-leads len s z Passed (End next) w e = absurd (ends-leads _ z e)
+judge-leads len s z (Failed fault) item w e = absurd (ends-leads e)
+judge-leads len s z Passed (Wrong fault) w e = absurd (ends-leads e)
+judge-leads len s z Passed (End next) w e = absurd (ends-leads e)
 judge-leads len s z Passed (Move counter next) w e =
-    let f : z .at ≡ next = ap (λ (t : Place). t .at) (leads-same _ z e) in
+    let f : next ≡ z .at = ap (λ (t : Place). t .at) (leads-same e) in
     record { passed = refl; further = omega arith; inside = omega arith; counts = omega arith }
 judge-leads len s z Passed (Adjust counter next) w e =
-    let f : z .at ≡ next = ap (λ (t : Place). t .at) (leads-same _ z e) in
+    let f : next ≡ z .at = ap (λ (t : Place). t .at) (leads-same e) in
     record { passed = refl; further = omega arith; inside = omega arith; counts = omega arith }
 
 module _ (file : List ℕ) (table : List Slot) (amount : ℕ) where
@@ -148,33 +134,25 @@ module _ (file : List ℕ) (table : List Slot) (amount : ℕ) where
 
 -- ---- where a turn ends a body
 
-abbrev stopOf : Turn Place Stop → Stop
-stopOf (ends a) = a
-stopOf (leads s) = done 0
-
 abbrev nextOf : Stop → ℕ
 nextOf (broken fault) = 0
-nextOf (done next) = next
+nextOf (done next) = suc next
 
-abbrev isDone : Stop → Bool
-isDone (broken fault) = false
-isDone (done next) = true
+pub broken-done : {fault : Fault} {next : ℕ} → broken fault ≡ done next → ⊥
+broken-done {fault} {next} e = let z : 0 ≡ suc next = ap nextOf e in omega arith
 
-ends-same : (a b : Stop) → _≡_ {A = Turn Place Stop} (ends a) (ends b) → a ≡ b
-ends-same a b e = ap stopOf e
-
-broken-done : (fault : Fault) (next : ℕ) → _≡_ {A = Turn Place Stop} (ends (broken fault)) (ends (done next)) → ⊥
-broken-done fault next e = false≢true (ap isDone (ends-same _ _ e))
+pub done-same : {n k : ℕ} → done n ≡ done k → n ≡ k
+done-same {n} {k} e = let z : suc n ≡ suc k = ap nextOf e in omega arith
 
 judge-done : (len at next : ℕ) (check : Check) (item : Item) → Where len at item → judge check item ≡ ends (done next)
     → (at < next) × (next ≤ len) × (check ≡ Passed) × (adjusts item ≡ 0)
-judge-done len at next (Failed fault) item w e = absurd (broken-done fault next e)
-judge-done len at next Passed (Wrong fault) w e = absurd (broken-done fault next e)
+judge-done len at next (Failed fault) item w e = absurd (broken-done (ends-same e))
+judge-done len at next Passed (Wrong fault) w e = absurd (broken-done (ends-same e))
 judge-done len at next Passed (End end) w e =
-    let f : end ≡ next = ap nextOf (ends-same _ _ e) in
+    let f : end ≡ next = done-same (ends-same e) in
     (omega arith, omega arith, refl, refl)
-judge-done len at next Passed (Move counter end) w e = absurd (ends-leads _ _ (sym e))
-judge-done len at next Passed (Adjust counter end) w e = absurd (ends-leads _ _ (sym e))
+judge-done len at next Passed (Move counter end) w e = absurd (ends-leads (sym e))
+judge-done len at next Passed (Adjust counter end) w e = absurd (ends-leads (sym e))
 
 -- a turn that ends a body moved on inside the file, and adjusted nothing
 pub turn-done : (file : List ℕ) (table : List Slot) (amount : ℕ) (s : Place) (map : List ℕ) (next : ℕ)

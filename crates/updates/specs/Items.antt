@@ -1,9 +1,9 @@
 -- One item of an update body, with no map in mind: "00 to FB adds that amount, then adjusts the word at the counter. FC ends. FD with a word
 -- sets the counter there and adjusts. FE with a number sets it to that block's address and adjusts nothing. FF adds 250 and adjusts nothing."
 -- Assumes nothing.
+use mathlib.Core.Bool.{false}
 use mathlib.Core.List.{List}
 use Prim.Native.Nat.{ℕ, _+_}
-use mathlib.Core.Bool.{false}
 use lib.Dec.{ltb, leb, eqb}
 use lib.ListN.{length, getD}
 use Rattle.answer.specs.Checks.{need, pick}

@@ -1,80 +1,71 @@
 -- `blocks::read_room` meets its contract: its tests are those of the definition.
 -- Assumes nothing.
-use Rattle.blocks.proofs.Reading.{room-used, room-eighth, room-cut, room-high, room-read}
 use borrow.Author.Needs.{needs}
+use Rattle.blocks.proofs.Reading.{room-used, room-eighth, room-cut, room-high, room-read}
 use Rattle.blocks.proofs.read_room.Statement.{statement}
 use Rattle.blocks.proofs.read_room.Tie as tie
 
--- src/lib.rt:136:16
 mul-slot : tie.Need-mul-slot
 mul-slot c = search needs
 
--- src/lib.rt:136:16
 array-copy-out-slot : tie.Need-array-copy-out-slot
 array-copy-out-slot c = search needs
 
--- src/lib.rt:138:9
 returns : tie.Need-returns
 returns c = room-used _ _ _ _ _ (c .if1 .taken)
 
--- src/lib.rt:141:9
 returns-2 : tie.Need-returns-2
 returns-2 c = room-eighth _ _ _ _ _ (c .before .before .if1 .left) (c .if2 .taken)
 
--- src/lib.rt:143:16
 add-from : tie.Need-add-from
 add-from c = search needs
 
--- src/lib.rt:144:37
 add-word-at : tie.Need-add-word-at
 add-word-at c = search needs
 
--- src/lib.rt:144:9
 word-at-requires : tie.Need-word-at-requires
 word-at-requires c κs = search needs
 
--- src/lib.rt:145:28
 data-size-requires : tie.Need-data-size-requires
 data-size-requires c κs = search needs
 
--- src/lib.rt:145:21
 add-if3 : tie.Need-add-if3
 add-if3 c = search needs
 
--- src/lib.rt:146:9
 returns-3 : tie.Need-returns-3
 returns-3 c =
-    room-cut _ _ _ _ _ (c .before .before .before .before .before .before .before .if1 .left) (c .before .before .before .before .before .if2 .left) _ _ (c .before .before .word-at .ensures) (c .before .data-size .ensures .0) (c .if3 .taken)
+    let c5 = c .before .before .before .before .before in
+    room-cut _ _ _ _ _ (c5 .before .before .if1 .left) (c5 .if2 .left) _ _ (c .before .before .word-at .ensures)
+    (c .before .data-size .ensures .0) (c .if3 .taken)
 
--- src/lib.rt:148:26
 cast-if4 : tie.Need-cast-if4
 cast-if4 c = search needs
 
--- src/lib.rt:148:48
 cast-if4-2 : tie.Need-cast-if4-2
 cast-if4-2 c = search needs
 
--- src/lib.rt:148:26
 add-if4 : tie.Need-add-if4
 add-if4 c = search needs
 
--- src/lib.rt:149:9
 returns-4 : tie.Need-returns-4
 returns-4 c =
-    room-high _ _ _ _ _ (c .before .before .before .before .before .before .before .before .before .if1 .left) (c .before .before .before .before .before .before .before .if2 .left) _ _ (c .before .before .before .before .word-at .ensures) (c .before .before .before .data-size .ensures .0) (c .before .before .if3 .left) (c .if4 .taken)
+    let c4 = c .before .before .before .before in
+    let c9 = c4 .before .before .before .before .before in
+    room-high _ _ _ _ _ (c9 .if1 .left) (c4 .before .before .before .if2 .left) _ _ (c4 .word-at .ensures)
+    (c .before .before .before .data-size .ensures .0) (c .before .before .if3 .left) (c .if4 .taken)
 
--- src/lib.rt:154:38
 add-word-at-2 : tie.Need-add-word-at-2
 add-word-at-2 c = search needs
 
--- src/lib.rt:154:17
 word-at-requires-2 : tie.Need-word-at-requires-2
 word-at-requires-2 c κs = search needs
 
--- src/lib.rt:131:1
 returns-5 : tie.Need-returns-5
 returns-5 c =
-    room-read _ _ _ _ _ (c .before .before .before .before .before .before .before .before .before .before .before .if1 .left) (c .before .before .before .before .before .before .before .before .before .if2 .left) _ _ (c .before .before .before .before .before .before .word-at .ensures) (c .before .before .before .before .before .data-size .ensures .0) (c .before .before .before .before .if3 .left)
+    let c4 = c .before .before .before .before in
+    let c9 = c4 .before .before .before .before .before in
+    room-read _ _ _ _ _ (c9 .before .before .if1 .left) (c9 .if2 .left) _ _ (c4 .before .before .word-at .ensures)
+    (c4 .before .data-size .ensures .0) (c4 .if3 .left)
     (c .before .before .if4 .left) _ (c .word-at2 .ensures)
 
 pub read-room-spec : {M : Type 1} → statement M

@@ -9,9 +9,9 @@ use lib.ListN.{length}
 use Rattle.words.proofs.Lent.{lent-is}
 use Rattle.words.proofs.Runs.{length-part}
 use Rattle.names.proofs.Turns.{newest-more, newest-found}
+use Rattle.names.specs.Names.{newestOf, newest}
 use Rattle.names.proofs.find.Statement.{statement}
 use Rattle.names.proofs.find.Tie as tie
-use Rattle.names.specs.Names.{newestOf, newest}
 
 abbrev Inv-loop : tie.InvT-loop
 Inv-loop names name i₀ i = (8 * i ≤ length names) × (newest names name ≡ newestOf i names name)

@@ -6,9 +6,9 @@ use native.Mathlib.Omega.{arith}
 use borrow.Author.Needs.{needs}
 use lib.ListN.{length, drop}
 use Rattle.names.proofs.Turns.{same-more, same-not, same-all}
+use Rattle.names.specs.Names.{same}
 use Rattle.names.proofs.same.Statement.{statement}
 use Rattle.names.proofs.same.Tie as tie
-use Rattle.names.specs.Names.{same}
 
 abbrev Inv-loop : tie.InvT-loop
 Inv-loop left right i₀ i = (i ≤ length left) × (same left right ≡ same (drop i left) (drop i right))

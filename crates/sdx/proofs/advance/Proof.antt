@@ -5,66 +5,51 @@ use borrow.Author.Needs.{needs}
 use Rattle.sdx.proofs.advance.Statement.{statement}
 use Rattle.sdx.proofs.advance.Tie as tie
 
--- src/lib.rt:491:13
 enum-known-found : tie.Need-enum-known-found
 enum-known-found c = search needs
 
--- src/lib.rt:494:14
 pass-requires : tie.Need-pass-requires
 pass-requires c κs = search needs
 
--- src/lib.rt:496:13
 enum-known-found-2 : tie.Need-enum-known-found-2
 enum-known-found-2 c = search needs
 
--- src/lib.rt:501:14
 add-block-requires : tie.Need-add-block-requires
 add-block-requires c κs =
     let s = c .before .before .before in
     let f = s .pre .2 .ends _ _ _ _ _ (c .before .found2 .given .1) in
     (s .pre .0, f .0, f .1)
 
--- src/lib.rt:502:25
 enum-known-found-3 : tie.Need-enum-known-found-3
 enum-known-found-3 c = search needs
 
--- src/lib.rt:502:43
 pass-requires-2 : tie.Need-pass-requires-2
 pass-requires-2 c κs = search needs
 
--- src/lib.rt:503:26
 enum-known-found-4 : tie.Need-enum-known-found-4
 enum-known-found-4 c = search needs
 
--- src/lib.rt:503:64
 add-pass : tie.Need-add-pass
 add-pass c = search needs
 
--- src/lib.rt:503:45
 pass-requires-3 : tie.Need-pass-requires-3
 pass-requires-3 c κs = search needs
 
--- src/lib.rt:504:23
 enum-known-found-5 : tie.Need-enum-known-found-5
 enum-known-found-5 c = search needs
 
--- src/lib.rt:485:1
 returns : tie.Need-returns
 returns c = rw (c .before .before .found .given .1) (c .pass .ensures)
 
--- src/lib.rt:485:1
 returns-2 : tie.Need-returns-2
 returns-2 c = rw (c .before .before .found2 .given .1) (c .add-block .ensures)
 
--- src/lib.rt:485:1
 returns-3 : tie.Need-returns-3
 returns-3 c = rw (c .before .before .found3 .given .1) (c .pass2 .ensures)
 
--- src/lib.rt:485:1
 returns-4 : tie.Need-returns-4
 returns-4 c = rw (c .before .before .before .found4 .given .1) (c .pass3 .ensures)
 
--- src/lib.rt:485:1
 returns-5 : tie.Need-returns-5
 returns-5 c = rw (c .before .found5 .given .1) refl
 

@@ -12,32 +12,27 @@ use Rattle.sdx.proofs.clear.Statement.{statement}
 use Rattle.sdx.proofs.clear.Tie as tie
 
 abbrev Inv-loop : tie.InvT-loop
-Inv-loop addresses₀ i₀ addresses i = (i ≤ length addresses₀) × (addresses ≡ replicate i 0 ++ drop i addresses₀) × (length addresses ≡ length addresses₀)
+Inv-loop addresses₀ i₀ addresses i =
+    (i ≤ length addresses₀) × (addresses ≡ replicate i 0 ++ drop i addresses₀) × (length addresses ≡ length addresses₀)
 
 abbrev μ-loop : tie.MeasureT-loop
 μ-loop addresses₀ i₀ addresses i = length addresses₀ - i
 
--- src/lib.rt:576:5
 loop-holds : tie.Need-loop-holds Inv-loop μ-loop
 loop-holds c = (search needs, refl, refl)
 
--- src/lib.rt:577:9
 mul-addresses : tie.Need-mul-addresses Inv-loop μ-loop
 mul-addresses c = search needs
 
--- src/lib.rt:577:9
 slice-write-addresses : tie.Need-slice-write-addresses Inv-loop μ-loop
 slice-write-addresses c = omega arith
 
--- src/lib.rt:578:9
 add-i : tie.Need-add-i Inv-loop μ-loop
 add-i c = omega arith
 
--- src/lib.rt:576:5
 loop-less : tie.Need-loop-less Inv-loop μ-loop
 loop-less c = omega arith
 
--- src/lib.rt:576:5
 loop-again : tie.Need-loop-again Inv-loop μ-loop
 loop-again c =
     let d = c .before .before .args .addresses .now in (
@@ -46,11 +41,9 @@ loop-again c =
       simp length-set (omega arith),
     )
 
--- src/lib.rt:572:1
 same-length : tie.Need-same-length Inv-loop μ-loop
 same-length c = search needs
 
--- src/lib.rt:572:1
 returns : tie.Need-returns Inv-loop μ-loop
 returns c =
     let d = c .before .before .args .addresses .now in

@@ -1,16 +1,14 @@
 -- `sdx::in_range` meets its contract: its tests are those of the definition.
 -- Assumes nothing.
-use borrow.Author.Tests.{le-leb}
 use mathlib.Core.Path.{refl}
+use borrow.Author.Tests.{le-leb}
 use Rattle.sdx.proofs.Parts.{range-not}
 use Rattle.sdx.proofs.in_range.Statement.{statement}
 use Rattle.sdx.proofs.in_range.Tie as tie
 
--- src/lib.rt:202:9
 returns : tie.Need-returns
 returns c = range-not _ _ (c .if1 .taken)
 
--- src/lib.rt:198:1
 returns-2 : tie.Need-returns-2
 returns-2 c = rw (le-leb _ _ (c .if1 .left)) refl
 

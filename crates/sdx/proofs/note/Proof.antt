@@ -1,72 +1,66 @@
 -- `sdx::note` meets its contract: the lent parts of the file and of the room are the name's bytes.
 -- Assumes nothing.
 use native.Mathlib.Omega.{arith}
-use Rattle.sdx.proofs.Parts.{noted-none, noted-name}
 use borrow.Author.Needs.{needs}
+use Rattle.sdx.proofs.Parts.{noted-none, noted-name}
 use Rattle.sdx.proofs.note.Statement.{statement}
 use Rattle.sdx.proofs.note.Tie as tie
 
--- src/lib.rt:456:29
 enum-known-found : tie.Need-enum-known-found
 enum-known-found c = search needs
 
--- src/lib.rt:457:19
 add-end : tie.Need-add-end
 add-end c = let h = c .before .before .before .before .before .before .pre .0 .ends _ _ (c .before .found .given .1) .0 in search needs
 
--- src/lib.rt:458:21
 mul-start : tie.Need-mul-start
 mul-start c = let h = c .before .before .before .before .before .before .pre .0 .ends _ _ (c .before .found .given .1) .1 in omega (arith, h)
 
--- src/lib.rt:459:20
 add-stop : tie.Need-add-stop
 add-stop c = let h = c .before .before .before .before .before .before .pre .0 .ends _ _ (c .before .found .given .1) .1 in omega (arith, h)
 
--- src/lib.rt:460:21
 sub-copy : tie.Need-sub-copy
 sub-copy c = search needs
 
--- src/lib.rt:460:21
 part-copy-start : tie.Need-part-copy-start
 part-copy-start c = search needs
 
--- src/lib.rt:460:21
 part-copy-end : tie.Need-part-copy-end
-part-copy-end c = let h = c .before .before .before .before .before .before .pre .0 .ends _ _ (c .before .found .given .1) .1 in omega (arith, h, c .before .before .before .before .before .before .pre .1)
+part-copy-end c =
+    let h = c .before .before .before .before .before .before .pre .0 .ends _ _ (c .before .found .given .1) .1 in
+    omega (arith, h, c .before .before .before .before .before .before .pre .1)
 
--- src/lib.rt:460:50
 sub-copy-2 : tie.Need-sub-copy-2
 sub-copy-2 c = search needs
 
--- src/lib.rt:460:50
 part-copy-start-2 : tie.Need-part-copy-start-2
 part-copy-start-2 c = search needs
 
--- src/lib.rt:460:50
 part-copy-end-2 : tie.Need-part-copy-end-2
 part-copy-end-2 c = c .before .before .before .before .before .before .before .pre .0 .ends _ _ (c .before .before .found .given .1) .0
 
--- src/lib.rt:460:9
 copy-requires : tie.Need-copy-requires
 copy-requires c κs = search needs
 
--- src/lib.rt:461:9
 mul-new-addresses : tie.Need-mul-new-addresses
-mul-new-addresses c = let h = c .before .before .before .before .before .before .before .before .before .before .before .pre .0 .ends _ _ (c .before .before .before .before .before .before .found .given .1) .1 in omega (arith, h)
+mul-new-addresses c =
+    let c6 = c .before .before .before .before .before .before in
+    let c11 = c6 .before .before .before .before .before in
+    let h = c11 .pre .0 .ends _ _ (c6 .found .given .1) .1 in
+    omega (arith, h)
 
--- src/lib.rt:461:9
 slice-write-new-addresses : tie.Need-slice-write-new-addresses
-slice-write-new-addresses c = let h = c .before .before .before .before .before .before .before .before .before .before .before .pre .0 .ends _ _ (c .before .before .before .before .before .before .found .given .1) .1 in omega (arith, h, c .before .before .before .before .before .before .before .before .before .before .before .pre .2)
+slice-write-new-addresses c =
+    let c6 = c .before .before .before .before .before .before in
+    let c11 = c6 .before .before .before .before .before in
+    let h = c11 .pre .0 .ends _ _ (c6 .found .given .1) .1 in
+    omega (arith, h, c11 .pre .2)
 
--- src/lib.rt:452:1
 same-length : tie.Need-same-length
 same-length c = search needs
 
--- src/lib.rt:452:1
 same-length-2 : tie.Need-same-length-2
 same-length-2 c = search needs
 
--- src/lib.rt:452:1
 returns : tie.Need-returns
 returns c =
     let s = c .before .before .before .before .before .before .before .before .before .before .before in
@@ -74,7 +68,6 @@ returns c =
     let f = s .pre .0 .ends _ _ e in
     noted-name _ _ _ _ _ _ _ _ e (omega (arith, f .1, s .pre .1)) (f .0) (c .before .before .copy .ensures)
 
--- src/lib.rt:452:1
 returns-2 : tie.Need-returns-2
 returns-2 c = noted-none _ _ _ _ _ (c .match .keys2)
 

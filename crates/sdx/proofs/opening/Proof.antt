@@ -1,23 +1,19 @@
 -- `sdx::opening` meets its contract: its tests are those of the definition.
 -- Assumes nothing.
-use Rattle.sdx.proofs.Parts.{opening-cut, opening-wrong, opening-right}
 use borrow.Author.Needs.{needs}
+use Rattle.sdx.proofs.Parts.{opening-cut, opening-wrong, opening-right}
 use Rattle.sdx.proofs.opening.Statement.{statement}
 use Rattle.sdx.proofs.opening.Tie as tie
 
--- src/lib.rt:212:9
 returns : tie.Need-returns
 returns c = opening-cut _ (c .if1 .taken)
 
--- src/lib.rt:214:9
 word-at-requires : tie.Need-word-at-requires
 word-at-requires c κs = search needs
 
--- src/lib.rt:216:9
 returns-2 : tie.Need-returns-2
 returns-2 c = opening-wrong _ _ (c .before .word-at .ensures) (c .before .before .if1 .left) (c .if2 .taken)
 
--- src/lib.rt:208:1
 returns-3 : tie.Need-returns-3
 returns-3 c = opening-right _ _ (c .before .word-at .ensures) (c .before .before .if1 .left) (c .if2 .left)
 

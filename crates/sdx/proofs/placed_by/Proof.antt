@@ -5,47 +5,36 @@ use borrow.Author.Needs.{needs}
 use Rattle.sdx.proofs.placed_by.Statement.{statement}
 use Rattle.sdx.proofs.placed_by.Tie as tie
 
--- src/lib.rt:471:13
 enum-known-found : tie.Need-enum-known-found
 enum-known-found c = search needs
 
--- src/lib.rt:476:13
 enum-known-found-2 : tie.Need-enum-known-found-2
 enum-known-found-2 c = search needs
 
--- src/lib.rt:481:14
 data-size-requires : tie.Need-data-size-requires
 data-size-requires c κs = search needs
 
--- src/lib.rt:482:25
 enum-known-found-3 : tie.Need-enum-known-found-3
 enum-known-found-3 c = search needs
 
--- src/lib.rt:483:26
 enum-known-found-4 : tie.Need-enum-known-found-4
 enum-known-found-4 c = search needs
 
--- src/lib.rt:484:23
 enum-known-found-5 : tie.Need-enum-known-found-5
 enum-known-found-5 c = search needs
 
--- src/lib.rt:466:1
 returns : tie.Need-returns
 returns c = search needs
 
--- src/lib.rt:466:1
 returns-2 : tie.Need-returns-2
 returns-2 c = rw (c .before .before .found2 .given .1) (c .data-size .ensures .0)
 
--- src/lib.rt:466:1
 returns-3 : tie.Need-returns-3
 returns-3 c = search needs
 
--- src/lib.rt:466:1
 returns-4 : tie.Need-returns-4
 returns-4 c = search needs
 
--- src/lib.rt:466:1
 returns-5 : tie.Need-returns-5
 returns-5 c = rw (c .before .found5 .given .1) refl
 

@@ -1,24 +1,20 @@
 -- `sdx::start` meets its contract: the marks decide, and then the word there.
 -- Assumes nothing.
+use borrow.Author.Needs.{needs}
 use borrow.Author.Tests.{not-true, not-false}
 use Rattle.sdx.proofs.Parts.{start-absent, start-there}
-use borrow.Author.Needs.{needs}
 use Rattle.sdx.proofs.start.Statement.{statement}
 use Rattle.sdx.proofs.start.Tie as tie
 
--- src/lib.rt:587:9
 word-loaded-requires : tie.Need-word-loaded-requires
 word-loaded-requires c κs = search needs
 
--- src/lib.rt:589:9
 returns : tie.Need-returns
 returns c = start-absent _ _ _ (c .before .word-loaded .ensures) (not-true _ (c .if1 .taken))
 
--- src/lib.rt:591:15
 word-at-requires : tie.Need-word-at-requires
 word-at-requires c κs = search needs
 
--- src/lib.rt:583:1
 returns-2 : tie.Need-returns-2
 returns-2 c = start-there _ _ _ (c .before .before .word-loaded .ensures) _ (not-false _ (c .before .if1 .left)) (c .word-at .ensures)
 

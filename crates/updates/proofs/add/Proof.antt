@@ -1,7 +1,7 @@
 -- `updates::add` meets its contract: a counter that is set and a sum that leaves room for a word, or the fault.
 -- Assumes nothing.
-use Rattle.updates.proofs.Reading.{adding-unset, adding-high, adding-there}
 use borrow.Author.Needs.{needs}
+use Rattle.updates.proofs.Reading.{adding-unset, adding-high, adding-there}
 use Rattle.updates.proofs.add.Statement.{statement}
 use Rattle.updates.proofs.add.Tie as tie
 

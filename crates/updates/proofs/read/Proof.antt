@@ -1,8 +1,8 @@
 -- `updates::read` meets its contract: the byte decides as in the definition, and each arm is the item of its byte.
 -- Assumes nothing.
 use native.Mathlib.Omega.{arith}
-use Rattle.updates.proofs.Reading.{reading-cut, reading-add, reading-end, reading-set, reading-aim, reading-skip}
 use borrow.Author.Needs.{needs}
+use Rattle.updates.proofs.Reading.{reading-cut, reading-add, reading-end, reading-set, reading-aim, reading-skip}
 use Rattle.updates.proofs.read.Statement.{statement}
 use Rattle.updates.proofs.read.Tie as tie
 

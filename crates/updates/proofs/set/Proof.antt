@@ -1,7 +1,7 @@
 -- `updates::set` meets its contract: the tests are those of the definition, in its order, and the word is the one after the byte.
 -- Assumes nothing.
-use Rattle.updates.proofs.Reading.{setting-cut, setting-high, setting-there}
 use borrow.Author.Needs.{needs}
+use Rattle.updates.proofs.Reading.{setting-cut, setting-high, setting-there}
 use Rattle.updates.proofs.set.Statement.{statement}
 use Rattle.updates.proofs.set.Tie as tie
 

@@ -1,7 +1,7 @@
 -- `updates::skip` meets its contract: a counter that is set and a sum that is an address, or the fault.
 -- Assumes nothing.
-use Rattle.updates.proofs.Reading.{skipping-unset, skipping-high, skipping-there}
 use borrow.Author.Needs.{needs}
+use Rattle.updates.proofs.Reading.{skipping-unset, skipping-high, skipping-there}
 use Rattle.updates.proofs.skip.Statement.{statement}
 use Rattle.updates.proofs.skip.Tie as tie
 
