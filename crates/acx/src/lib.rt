@@ -40,9 +40,9 @@ const FILE: usize = 65536;
 const ADJUSTED: u8 = 3;
 
 // The bases of the short call.
-const USUAL_MAIN_BASE: u32 = 8192;
+pub const USUAL_MAIN_BASE: u32 = 8192;
 
-const USUAL_ZERO_BASE: u32 = 128;
+pub const USUAL_ZERO_BASE: u32 = 128;
 
 // Disk form has an opening, device form none.
 pub enum Form {

@@ -23,10 +23,9 @@ use Rattle.events.specs.Events.{Event, play, marks, blank, placedIn, adjustedIn
 use Rattle.events.specs.Walk.{leads}
 use Rattle.events.specs.declared.Check.the-variants.{Passed, Failed}
 use Rattle.words.proofs.Lent.{lent-is, back-is}
-use Rattle.words.proofs.Runs.{length-part}
+use Rattle.words.proofs.Runs.{front-holds, length-part}
 use Rattle.words.specs.Runs.{part, put}
 use Rattle.sdx.proofs.Going.{stopped-finished, totalsIn}
-use Rattle.sdx.proofs.Rooms.{front-holds}
 use Rattle.sdx.proofs.Turning.{refused-finished, Behind, behind-first, behind-on, led-ends, judged-holds}
 use Rattle.sdx.specs.Call.{ranged, inRange, listed, load, call, startIn, report, filledUp, Rooms, rooms, Carried, right, Loaded}
 use Rattle.sdx.specs.Parts.{walked, progressOf, Went, Checked, Reported}

@@ -22,9 +22,9 @@ use Rattle.updates.proofs.Bounds.{body-places-none}
 use Rattle.updates.specs.Bodies.{Stop, broken, done, counted, ended}
 use Rattle.updates.specs.declared.Ended.{Ended}
 use Rattle.updates.specs.declared.Ended.the-variants.{Broken, Done}
-use Rattle.words.proofs.Runs.{length-part}
+use Rattle.words.proofs.Runs.{front-holds, length-part}
 use Rattle.words.specs.Runs.{put}
-use Rattle.sdx.proofs.Rooms.{front-is, front-holds, behind, Counted, counted-first, counted-on, Tabled, tabled-first, tabled-on}
+use Rattle.sdx.proofs.Rooms.{front-is, behind, Counted, counted-first, counted-on, Tabled, tabled-first, tabled-on}
 use Rattle.sdx.proofs.Turning.{Ends, carried-ends, advanced-at, Behind, behind-first, behind-on, stepped, turn-end, turn-block, block-fits, turn-falls}
 use Rattle.sdx.specs.Call.{Rooms, rooms}
 use Rattle.sdx.specs.Parts.{totals, Bounded, Went, placedBy, NameFits, RoomFits, Noted}

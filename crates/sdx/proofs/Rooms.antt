@@ -17,24 +17,13 @@ use Rattle.blocks.specs.declared.Cursor.{Cursor}
 use Rattle.updates.specs.Items.{emptySlot, slotAt}
 use Rattle.updates.specs.declared.Slot.{Slot}
 use Rattle.words.proofs.Lent.{lent-is}
-use Rattle.words.proofs.Runs.{part-put, length-part}
+use Rattle.words.proofs.Runs.{put-append, length-part}
 use Rattle.words.specs.Runs.{part, put}
 use Rattle.sdx.specs.Walk.{advanced, nameIn, addressIn, firstCursor}
-
--- a run written behind another is one run
-pub put-append : (l : List ℕ) (a : ℕ) (xs ys : List ℕ) → put (put l a xs) (a + length xs) ys ≡ put l a (xs ++ ys)
-unfolding put
-put-append l a [] ys = ap (λ (i : ℕ). put l i ys) (omega arith)
-put-append l a (x ∷ xs) ys = ap (λ (i : ℕ). put (put (set l a x) (suc a) xs) i ys) (omega arith) ∙ put-append (set l a x) (suc a) xs ys
 
 -- the front of a room that is lent
 pub front-is : (n : ℕ) (l : List ℕ) → midOf 0 (n - 0) l ≡ part l 0 n
 front-is n l = let e : n - 0 ≡ 0 + n - 0 = omega arith in ap (λ (k : ℕ). midOf 0 k l) e ∙ lent-is 0 n l
-
--- the front of a room holds what was written there
-pub front-holds : (room written l : List ℕ) (n : ℕ) → l ≡ put room 0 written → length written ≡ n → n ≤ length room → part l 0 n ≡ written
-front-holds room written l n e f h =
-    rw e (ap (λ (k : ℕ). part (put room 0 written) 0 k) (sym f) ∙ part-put room 0 written (omega (arith, f)))
 
 -- a block's name behind those before it
 pub behind : (room written l l′ name : List ℕ) (n : ℕ) → l ≡ put room 0 written → length written ≡ n → l′ ≡ put l n name

@@ -44,9 +44,9 @@ const FIRST_MARKER: u16 = 0xFFFA;
 const START: usize = 0x02E0;
 
 // The settings of the short call.
-const USUAL_LOW: u32 = 7936;
+pub const USUAL_LOW: u32 = 7936;
 
-const USUAL_HIGH: u32 = 39936;
+pub const USUAL_HIGH: u32 = 39936;
 
 // What a walk to the file's end comes to: low, the number of new names, the bytes placed and the fields adjusted.
 pub struct Totals {

@@ -9,7 +9,7 @@ use native.Mathlib.Numerals.{add-one}
 use native.Mathlib.Omega.{arith}
 use lib.ListN.{length, getD, drop-of-length-le, length-append, List·getD-eq-default}
 use lib.Seq.{drop-cons, take-nil}
-use Rattle.words.specs.Numbers.{number, digits, value, on, off, encoded}
+use Rattle.words.specs.Numbers.{number, digits, value, on, off, encoded, decoded}
 use Rattle.words.specs.Runs.{Bytes, part}
 
 -- ---- a number and its bytes
@@ -116,3 +116,8 @@ pub length-encoded : (k : ℕ) (vs : List ℕ) → length (encoded k vs) ≡ k *
 unfolding encoded
 length-encoded k [] = sym (mul-zero k)
 length-encoded k (v ∷ vs) = rw (length-append, length-digits, length-encoded k vs, mul-suc) (add-comm k (k * length vs))
+
+pub length-decoded : (k n : ℕ) (l : List ℕ) → length (decoded k n l) ≡ n
+unfolding decoded
+length-decoded k zero l = refl
+length-decoded k (suc n) l = rw (length-append, length-decoded k n l) (add-one n)

@@ -1,7 +1,7 @@
 -- Runs of bytes: lengths, what was written is read back, and what lies apart stays.
 -- Assumes nothing.
 use mathlib.Core.Bool.{Bool, true, false, _&&_, _||_, false≢true}
-use mathlib.Core.List.{List, [], _∷_}
+use mathlib.Core.List.{List, [], _∷_, _++_}
 use mathlib.Core.Path.{_≡_, refl, sym, ap, _∙_}
 use Prim.Native.Nat.{ℕ, zero, suc, _+_, _-_, _≤_, _<_}
 use native.Mathlib.Decide.{decLe, decLt}
@@ -146,6 +146,17 @@ set-in-put l a (b ∷ bs) zero v h =
     ∙ ap (λ (r : List ℕ). put r (suc a) bs) (set-set l a b v)
 set-in-put l a (b ∷ bs) (suc i) v h =
     ap (λ (k : ℕ). set (put (set l a b) (suc a) bs) k v) (omega arith) ∙ set-in-put (set l a b) (suc a) bs i v (le-of-suc-le-suc h)
+
+-- a run written behind another is one run
+pub put-append : (l : List ℕ) (a : ℕ) (xs ys : List ℕ) → put (put l a xs) (a + length xs) ys ≡ put l a (xs ++ ys)
+unfolding put
+put-append l a [] ys = ap (λ (i : ℕ). put l i ys) (omega arith)
+put-append l a (x ∷ xs) ys = ap (λ (i : ℕ). put (put (set l a x) (suc a) xs) i ys) (omega arith) ∙ put-append (set l a x) (suc a) xs ys
+
+-- the front of a room holds what was written there
+pub front-holds : (room written l : List ℕ) (n : ℕ) → l ≡ put room 0 written → length written ≡ n → n ≤ length room → part l 0 n ≡ written
+front-holds room written l n e f h =
+    rw e (ap (λ (k : ℕ). part (put room 0 written) 0 k) (sym f) ∙ part-put room 0 written (omega (arith, f)))
 
 -- a run written inside one that was written
 pub put-in-put : (l : List ℕ) (a : ℕ) (bs : List ℕ) (i : ℕ) (cs : List ℕ) → i + length cs ≤ length bs

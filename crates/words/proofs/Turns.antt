@@ -1,8 +1,8 @@
--- One turn, and the end, of the loops that copy, that look for a byte and that write numbers in a row.
+-- One turn, and the end, of the loops that copy, that look for a byte and that write or read numbers in a row.
 -- Assumes nothing.
 use mathlib.Core.Bool.{true, false}
 use mathlib.Core.List.{List, [], _∷_, _++_, append-nil, append-assoc}
-use mathlib.Core.Path.{_≡_, refl, ap, _∙_}
+use mathlib.Core.Path.{_≡_, refl, sym, ap, _∙_}
 use Prim.Native.Nat.{ℕ, zero, suc, _+_, _*_, _≤_, _<_}
 use native.Mathlib.Nat.{le-of-suc-le-suc, not-suc-le-zero, mul-suc}
 use native.Mathlib.Numerals.{add-one}
@@ -10,8 +10,9 @@ use native.Mathlib.Omega.{arith}
 use borrow.Author.Tests.{eq-eqb, ne-eqb}
 use lib.ListN.{length, take, drop, getD, set, length-append, length-drop}
 use lib.Seq.{take-length, drop-length, take-at, drop-append-add, drop-drop, length-take-le, take-suc, drop-cons, sets-eq}
-use Rattle.words.proofs.Numbers.{length-digits, length-encoded}
-use Rattle.words.specs.Numbers.{digits, store, encoded}
+use Rattle.words.proofs.Numbers.{length-digits, length-encoded, length-decoded}
+use Rattle.words.proofs.Runs.{put-append}
+use Rattle.words.specs.Numbers.{digits, value, store, encoded, decoded}
 use Rattle.words.specs.Runs.{put, allZero, contains}
 
 -- ---- copying
@@ -79,3 +80,12 @@ encode-more k vs d i h f =
 
 pub encode-all : (k : ℕ) (vs d : List ℕ) → length d ≡ k * length vs → encoded k (take (length vs) vs) ++ drop (k * length vs) d ≡ encoded k vs
 encode-all k vs d e = rw (take-length vs, ← e, drop-length d) (append-nil (encoded k vs))
+
+-- ---- reading numbers of k bytes in a row
+
+pub decode-more : (k : ℕ) (s d : List ℕ) (i : ℕ) → set (put d 0 (decoded k i s)) i (value k s (k * i)) ≡ put d 0 (decoded k (i + 1) s)
+unfolding put decoded
+decode-more k s d i =
+    let v = value k s (k * i) in
+    let n : i ≡ 0 + length (decoded k i s) = omega (arith, length-decoded k i s) in
+    rw add-one (ap (λ (j : ℕ). put (put d 0 (decoded k i s)) j (v ∷ [])) n ∙ put-append d 0 (decoded k i s) (v ∷ []))

@@ -39,3 +39,8 @@ change k g l i = store k l i (g (value k l i))
 unfoldable pub encoded : ℕ → List ℕ → List ℕ
 encoded k [] = []
 encoded k (v ∷ vs) = digits k v ++ encoded k vs
+
+-- the first n numbers in l, k bytes each
+unfoldable pub decoded : ℕ → ℕ → List ℕ → List ℕ
+decoded k zero l = []
+decoded k (suc n) l = decoded k n l ++ (value k l (k * n) ∷ [])

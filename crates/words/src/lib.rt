@@ -2,10 +2,10 @@
 // A leaf: it knows no file format. Each `requires` is a bound that the caller has looked at; the crates above know these functions only by
 // what they promise, in the terms of specs/.
 ghost use mathlib.Core.Path.{_≡_};
-ghost use Prim.Native.Nat.{_+_, _<_, _≤_};
+ghost use Prim.Native.Nat.{_+_, _*_, _/_, _<_, _≤_};
 ghost use lib.ListN.{length, replicate};
-ghost use Rattle.words.specs.Runs.{allZero, contains as containsOf};
-ghost use Rattle.words.specs.Numbers.{value, store, on, off, change};
+ghost use Rattle.words.specs.Runs.{put, allZero, contains as containsOf};
+ghost use Rattle.words.specs.Numbers.{value, store, on, off, change, encoded, decoded};
 
 // A byte as a wider number: a call asks for no bound on the byte, and gives one.
 pub fn wide(byte: u8) -> usize
@@ -70,6 +70,31 @@ pub fn put_number(bytes: &mut [u8], at: usize, number: u32)
     bytes[at + 1] = (number / 256 % 256) as u8;
     bytes[at + 2] = (number / 256 / 256 % 256) as u8;
     bytes[at + 3] = (number / 256 / 256 / 256 % 256) as u8;
+}
+
+// The words in a list of byte pairs, to the front of `words`.
+pub fn decode_words(words: &mut [u16], bytes: &[u8])
+    requires { ⌜ length (now bytes) / 2 ≤ length (now words) ⌝ }
+    ensures { λ _. ⌜ now (words .exit) ≡ put (now (words .entry)) 0 (decoded 2 (length (now (bytes .entry)) / 2) (now (bytes .entry))) ⌝ }
+{
+    let count = bytes.len() / 2;
+    let mut i = 0;
+    while i < count {
+        words[i] = word_at(bytes, 2 * i);
+        i += 1;
+    }
+}
+
+// All words as byte pairs.
+pub fn encode_words(bytes: &mut [u8], words: &[u16])
+    requires { ⌜ length (now bytes) ≡ 2 * length (now words) ⌝ }
+    ensures { λ _. ⌜ now (bytes .exit) ≡ encoded 2 (now (words .entry)) ⌝ }
+{
+    let mut i = 0;
+    while i < words.len() {
+        put_word(bytes, 2 * i, words[i]);
+        i += 1;
+    }
 }
 
 // The same byte everywhere.

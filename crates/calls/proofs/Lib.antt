@@ -1,0 +1,3 @@
+-- Laws about the definitions of specs/, over plain values: with an answer to write and without one; address lists as byte pairs.
+pub mod Telling
+pub mod Pairs

@@ -1,0 +1,107 @@
+-- `calls::load_words` meets its contract: the words of the pairs are what the loader gets, and what it writes goes back as pairs.
+-- Assumes nothing.
+use mathlib.Core.Path.{refl, sym}
+use native.Mathlib.Omega.{arith}
+use borrow.Author.Needs.{needs}
+use lib.Seq.{length-take-le}
+use Rattle.sdx.specs.Call.{given, rooms}
+use Rattle.calls.proofs.Pairs.{known-front, loads-accepted, loads-refused}
+use Rattle.calls.proofs.load_words.Statement.{statement}
+use Rattle.calls.proofs.load_words.Tie as tie
+
+slice-aggregate-decode-words : tie.Need-slice-aggregate-decode-words
+slice-aggregate-decode-words c = search needs
+
+decode-words-requires : tie.Need-decode-words-requires
+decode-words-requires c κs = search needs
+
+array-share-prefix-known : tie.Need-array-share-prefix-known
+array-share-prefix-known c = search needs
+
+slice-aggregate-load : tie.Need-slice-aggregate-load
+slice-aggregate-load c = sym (length-take-le _ _ (omega arith))
+
+slice-aggregate-load-2 : tie.Need-slice-aggregate-load-2
+slice-aggregate-load-2 c = search needs
+
+load-requires : tie.Need-load-requires
+load-requires c κs = search needs
+
+enum-known-outcome : tie.Need-enum-known-outcome
+enum-known-outcome c = search needs
+
+slice-aggregate-encode-words : tie.Need-slice-aggregate-encode-words
+slice-aggregate-encode-words c = search needs
+
+encode-words-requires : tie.Need-encode-words-requires
+encode-words-requires c κs = search needs
+
+enum-told : tie.Need-enum-told
+enum-told c = search needs
+
+same-length : tie.Need-same-length
+same-length c = search needs
+
+same-length-2 : tie.Need-same-length-2
+same-length-2 c = search needs
+
+same-length-3 : tie.Need-same-length-3
+same-length-3 c = search needs
+
+same-length-4 : tie.Need-same-length-4
+same-length-4 c = search needs
+
+returns : tie.Need-returns
+returns c =
+    let c15 = c .before .before .before .before .before .before .before .before .before .before .before .before .before .before .before in
+    let c31 = c15 .before .before .before .before .before .before .before .before .before .before .before .before .before .before .before .before in
+    let a = c31 .args in
+    let k = c15 .before .before .before .before .before .before .before .decode-words in
+    loads-accepted (a .file .now) (given (a .known-names .now) (a .known-addresses .now) (a .low) (a .high))
+    (rooms (a .memory .now) (a .map .now) (a .new-names .now) (a .new-addresses .now)) _ _ _ _ (c31 .pre .0) (c31 .pre .2)
+    (known-front (a .known-addresses .now) (k .last .0) _ (k .ensures) (omega (arith, c31 .pre .1))) (c15 .load .ensures)
+    _ _ _ _ _ (c .before .before .before .before .before .before .outcome .given .1) (c .before .before .encode-words .ensures)
+
+same-length-5 : tie.Need-same-length-5
+same-length-5 c = search needs
+
+same-length-6 : tie.Need-same-length-6
+same-length-6 c = search needs
+
+same-length-7 : tie.Need-same-length-7
+same-length-7 c = search needs
+
+returns-2 : tie.Need-returns-2
+returns-2 c =
+    let c9 = c .before .before .before .before .before .before .before .before .before in
+    let c25 = c9 .before .before .before .before .before .before .before .before .before .before .before .before .before .before .before .before in
+    let a = c25 .args in
+    let k = c9 .before .before .before .before .before .before .before .decode-words in
+    loads-refused (a .file .now) (given (a .known-names .now) (a .known-addresses .now) (a .low) (a .high))
+    (rooms (a .memory .now) (a .map .now) (a .new-names .now) (a .new-addresses .now)) _ _ _ _ (c25 .pre .0) (c25 .pre .2)
+    (known-front (a .known-addresses .now) (k .last .0) _ (k .ensures) (omega (arith, c25 .pre .1))) (c9 .load .ensures)
+    _ _ _ (c .enum-told .given .1) refl
+
+pub load-words-spec : {M : Type 1} → statement M
+load-words-spec =
+    tie.close
+    (tie.spec
+    slice-aggregate-decode-words
+    decode-words-requires
+    array-share-prefix-known
+    slice-aggregate-load
+    slice-aggregate-load-2
+    load-requires
+    enum-known-outcome
+    slice-aggregate-encode-words
+    encode-words-requires
+    enum-told
+    same-length
+    same-length-2
+    same-length-3
+    same-length-4
+    returns
+    same-length-5
+    same-length-6
+    same-length-7
+    returns-2)

@@ -1,0 +1,5 @@
+-- What the contracts of `calls` cite: what all calls from C have in common, then a contract for each kind.
+pub mod Answer
+pub mod Acx
+pub mod Move
+pub mod Sdx

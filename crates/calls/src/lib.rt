@@ -1,0 +1,243 @@
+// The calls that C makes, on byte buffers: each is a call of a loader or of the mover that also writes the answer.
+// They take whatever comes. The answer's length is looked at first: where it is wrong, nothing is done and nothing written.
+use answer::Fault;
+use answer::Outcome;
+use mover::Site;
+ghost use mathlib.Core.Bool.{Bool};
+ghost use mathlib.Core.Path.{_≡_};
+ghost use Prim.Native.Nat.{_≤_};
+ghost use lib.ListN.{length};
+ghost use Rattle.acx.specs.Call.{settings, usual as usualBases};
+ghost use Rattle.answer.specs.Report.{answerLength};
+ghost use Rattle.sdx.specs.Call.{given, usual, rooms};
+ghost use Rattle.calls.specs.Answer.{Told, paired};
+ghost use Rattle.calls.specs.Acx.{Called as AcxCalled};
+ghost use Rattle.calls.specs.Move.{basesAt, call, Called as MoveCalled};
+ghost use Rattle.calls.specs.Sdx.{right, Loads, Called as SdxCalled};
+
+// The length of the answer.
+const ANSWER: usize = 36;
+
+// The most known addresses, and the new ones: how many, and their bytes.
+const KNOWN: usize = 256;
+
+const NEW: usize = 32;
+
+const NEW_BYTES: usize = 64;
+
+// Loads an ACX file at its bases.
+pub fn acx_load(
+    form: u32,
+    file: &[u8],
+    main_base: u32,
+    zero_base: u32,
+    memory: &mut [u8],
+    map: &mut [u8],
+    answer: &mut [u8],
+) -> u32
+    ensures { λ r. ⌜ AcxCalled (settings form «main_base» «zero_base») (now (file .entry)) (now (memory .entry)) (now (map .entry)) (now (answer .entry)) r (now (memory .exit)) (now (map .exit)) (now (answer .exit)) ⌝ }
+{
+    if answer.len() != ANSWER {
+        return answer::fault_number(Fault::WrongBuffer);
+    }
+    let outcome = acx::load(form, file, main_base, zero_base, memory, map);
+    tell(outcome, answer)
+}
+
+// Loads an ACX file at the usual bases.
+pub fn acx_load_usual(
+    form: u32,
+    file: &[u8],
+    memory: &mut [u8],
+    map: &mut [u8],
+    answer: &mut [u8],
+) -> u32
+    ensures { λ r. ⌜ AcxCalled (usualBases form) (now (file .entry)) (now (memory .entry)) (now (map .entry)) (now (answer .entry)) r (now (memory .exit)) (now (map .exit)) (now (answer .exit)) ⌝ }
+{
+    acx_load(
+        form,
+        file,
+        acx::USUAL_MAIN_BASE,
+        acx::USUAL_ZERO_BASE,
+        memory,
+        map,
+        answer,
+    )
+}
+
+// Moves an ACX handler from its old bases to the new ones.
+pub fn acx_move(
+    form: u32,
+    file: &[u8],
+    old_main: u32,
+    old_zero: u32,
+    new_main: u32,
+    new_zero: u32,
+    memory: &mut [u8],
+    map: &mut [u8],
+    scratch: &mut [u8],
+    answer: &mut [u8],
+) -> u32
+    ensures { λ r. ⌜ MoveCalled (now (file .entry)) (call form (basesAt «old_main» «old_zero») (basesAt «new_main» «new_zero») (now (map .entry)) (now (scratch .entry)) (now (answer .entry))) (now (memory .entry)) (now (answer .entry)) r (now (memory .exit)) (now (map .exit)) (now (scratch .exit)) (now (answer .exit)) ⌝ }
+{
+    if answer.len() != ANSWER {
+        return answer::fault_number(Fault::WrongBuffer);
+    }
+    let old = Site {
+        main: old_main,
+        zero: old_zero,
+    };
+    let new = Site {
+        main: new_main,
+        zero: new_zero,
+    };
+    let outcome = mover::move_handler(form, file, old, new, memory, map, scratch);
+    tell(outcome, answer)
+}
+
+// Loads an SDX file between low and high.
+pub fn sdx_load(
+    file: &[u8],
+    low: u32,
+    high: u32,
+    known_names: &[u8],
+    known_addresses: &[u8],
+    memory: &mut [u8],
+    map: &mut [u8],
+    new_names: &mut [u8],
+    new_addresses: &mut [u8],
+    answer: &mut [u8],
+) -> u32
+    ensures { λ r. ⌜ SdxCalled (now (file .entry)) (given (now («known_names» .entry)) (now («known_addresses» .entry)) low high) (rooms (now (memory .entry)) (now (map .entry)) (now («new_names» .entry)) (now («new_addresses» .entry))) (now (answer .entry)) r (rooms (now (memory .exit)) (now (map .exit)) (now («new_names» .exit)) (now («new_addresses» .exit))) (now (answer .exit)) ⌝ }
+{
+    if answer.len() != ANSWER {
+        return answer::fault_number(Fault::WrongBuffer);
+    }
+    let outcome = load_pairs(
+        file,
+        low,
+        high,
+        known_names,
+        known_addresses,
+        memory,
+        map,
+        new_names,
+        new_addresses,
+    );
+    tell(outcome, answer)
+}
+
+// Loads an SDX file between the usual low and high.
+pub fn sdx_load_usual(
+    file: &[u8],
+    known_names: &[u8],
+    known_addresses: &[u8],
+    memory: &mut [u8],
+    map: &mut [u8],
+    new_names: &mut [u8],
+    new_addresses: &mut [u8],
+    answer: &mut [u8],
+) -> u32
+    ensures { λ r. ⌜ SdxCalled (now (file .entry)) (usual (now («known_names» .entry)) (now («known_addresses» .entry))) (rooms (now (memory .entry)) (now (map .entry)) (now («new_names» .entry)) (now («new_addresses» .entry))) (now (answer .entry)) r (rooms (now (memory .exit)) (now (map .exit)) (now («new_names» .exit)) (now («new_addresses» .exit))) (now (answer .exit)) ⌝ }
+{
+    sdx_load(
+        file,
+        sdx::USUAL_LOW,
+        sdx::USUAL_HIGH,
+        known_names,
+        known_addresses,
+        memory,
+        map,
+        new_names,
+        new_addresses,
+        answer,
+    )
+}
+
+// The answer of an outcome, and its number.
+fn tell(outcome: Outcome, answer: &mut [u8]) -> u32
+    requires { ⌜ length (now answer) ≡ answerLength ⌝ }
+    ensures { λ r. ⌜ Told outcome (now (answer .entry)) r (now (answer .exit)) ⌝ }
+{
+    answer::write(outcome, answer);
+    answer::number(outcome)
+}
+
+// A load whose address lists are byte pairs.
+fn load_pairs(
+    file: &[u8],
+    low: u32,
+    high: u32,
+    known_names: &[u8],
+    known_addresses: &[u8],
+    memory: &mut [u8],
+    map: &mut [u8],
+    new_names: &mut [u8],
+    new_addresses: &mut [u8],
+) -> Outcome
+    ensures { λ r. ⌜ Loads (now (file .entry)) (given (now («known_names» .entry)) (now («known_addresses» .entry)) low high) (right (given (now («known_names» .entry)) (now («known_addresses» .entry)) low high) (rooms (now (memory .entry)) (now (map .entry)) (now («new_names» .entry)) (now («new_addresses» .entry)))) (rooms (now (memory .entry)) (now (map .entry)) (now («new_names» .entry)) (now («new_addresses» .entry))) r (rooms (now (memory .exit)) (now (map .exit)) (now («new_names» .exit)) (now («new_addresses» .exit))) ⌝ }
+{
+    let count = known_addresses.len();
+    if count % 2 != 0 {
+        return answer::refused(Fault::WrongBuffer);
+    }
+    if 2 * KNOWN < count {
+        return answer::refused(Fault::WrongBuffer);
+    }
+    if new_addresses.len() != NEW_BYTES {
+        return answer::refused(Fault::WrongBuffer);
+    }
+    load_words(
+        file,
+        low,
+        high,
+        known_names,
+        known_addresses,
+        memory,
+        map,
+        new_names,
+        new_addresses,
+    )
+}
+
+// A load over the words of the pairs. The new addresses go back as pairs where there are any to tell.
+fn load_words(
+    file: &[u8],
+    low: u32,
+    high: u32,
+    known_names: &[u8],
+    known_addresses: &[u8],
+    memory: &mut [u8],
+    map: &mut [u8],
+    new_names: &mut [u8],
+    new_addresses: &mut [u8],
+) -> Outcome
+    requires { ⌜ (paired (now «known_addresses») ≡ Bool.true) × (length (now «known_addresses») ≤ 512) × (length (now «new_addresses») ≡ 64) ⌝ }
+    ensures { λ r. ⌜ Loads (now (file .entry)) (given (now («known_names» .entry)) (now («known_addresses» .entry)) low high) (right (given (now («known_names» .entry)) (now («known_addresses» .entry)) low high) (rooms (now (memory .entry)) (now (map .entry)) (now («new_names» .entry)) (now («new_addresses» .entry)))) (rooms (now (memory .entry)) (now (map .entry)) (now («new_names» .entry)) (now («new_addresses» .entry))) r (rooms (now (memory .exit)) (now (map .exit)) (now («new_names» .exit)) (now («new_addresses» .exit))) ⌝ }
+{
+    let mut known = [0u16; KNOWN];
+    words::decode_words(&mut known, known_addresses);
+    let count = known_addresses.len() / 2;
+    let mut new = [0u16; NEW];
+    let outcome = sdx::load(
+        file,
+        low,
+        high,
+        known_names,
+        &known[..count],
+        memory,
+        map,
+        new_names,
+        &mut new,
+    );
+    if let Outcome::Accepted {
+        start,
+        placed,
+        adjusted,
+        new_names: named,
+        low: after,
+    } = outcome {
+        words::encode_words(new_addresses, &new);
+    }
+    outcome
+}

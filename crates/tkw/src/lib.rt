@@ -1,0 +1,122 @@
+// The functions that C calls, as include/tekoweapa.h declares them, and nothing else: each hands its buffers on.
+ghost use Rattle.acx.specs.Call.{settings, usual as usualBases};
+ghost use Rattle.sdx.specs.Call.{given, usual, rooms};
+ghost use Rattle.calls.specs.Acx.{Called as AcxCalled};
+ghost use Rattle.calls.specs.Move.{basesAt, call, Called as MoveCalled};
+ghost use Rattle.calls.specs.Sdx.{Called as SdxCalled};
+
+// Loads an SDX file between low and high.
+#[no_mangle]
+pub extern "C" fn tkw_sdx_load(
+    file: &[u8],
+    low: u32,
+    high: u32,
+    known_names: &[u8],
+    known_addresses: &[u8],
+    memory: &mut [u8],
+    map: &mut [u8],
+    new_names: &mut [u8],
+    new_addresses: &mut [u8],
+    answer: &mut [u8],
+) -> u32
+    ensures { λ r. ⌜ SdxCalled (now (file .entry)) (given (now («known_names» .entry)) (now («known_addresses» .entry)) low high) (rooms (now (memory .entry)) (now (map .entry)) (now («new_names» .entry)) (now («new_addresses» .entry))) (now (answer .entry)) r (rooms (now (memory .exit)) (now (map .exit)) (now («new_names» .exit)) (now («new_addresses» .exit))) (now (answer .exit)) ⌝ }
+{
+    calls::sdx_load(
+        file,
+        low,
+        high,
+        known_names,
+        known_addresses,
+        memory,
+        map,
+        new_names,
+        new_addresses,
+        answer,
+    )
+}
+
+// Loads an SDX file between the usual low and high.
+#[no_mangle]
+pub extern "C" fn tkw_sdx_load_usual(
+    file: &[u8],
+    known_names: &[u8],
+    known_addresses: &[u8],
+    memory: &mut [u8],
+    map: &mut [u8],
+    new_names: &mut [u8],
+    new_addresses: &mut [u8],
+    answer: &mut [u8],
+) -> u32
+    ensures { λ r. ⌜ SdxCalled (now (file .entry)) (usual (now («known_names» .entry)) (now («known_addresses» .entry))) (rooms (now (memory .entry)) (now (map .entry)) (now («new_names» .entry)) (now («new_addresses» .entry))) (now (answer .entry)) r (rooms (now (memory .exit)) (now (map .exit)) (now («new_names» .exit)) (now («new_addresses» .exit))) (now (answer .exit)) ⌝ }
+{
+    calls::sdx_load_usual(
+        file,
+        known_names,
+        known_addresses,
+        memory,
+        map,
+        new_names,
+        new_addresses,
+        answer,
+    )
+}
+
+// Loads an ACX file at its bases.
+#[no_mangle]
+pub extern "C" fn tkw_acx_load(
+    form: u32,
+    file: &[u8],
+    main_base: u32,
+    zero_base: u32,
+    memory: &mut [u8],
+    map: &mut [u8],
+    answer: &mut [u8],
+) -> u32
+    ensures { λ r. ⌜ AcxCalled (settings form «main_base» «zero_base») (now (file .entry)) (now (memory .entry)) (now (map .entry)) (now (answer .entry)) r (now (memory .exit)) (now (map .exit)) (now (answer .exit)) ⌝ }
+{
+    calls::acx_load(form, file, main_base, zero_base, memory, map, answer)
+}
+
+// Loads an ACX file at the usual bases.
+#[no_mangle]
+pub extern "C" fn tkw_acx_load_usual(
+    form: u32,
+    file: &[u8],
+    memory: &mut [u8],
+    map: &mut [u8],
+    answer: &mut [u8],
+) -> u32
+    ensures { λ r. ⌜ AcxCalled (usualBases form) (now (file .entry)) (now (memory .entry)) (now (map .entry)) (now (answer .entry)) r (now (memory .exit)) (now (map .exit)) (now (answer .exit)) ⌝ }
+{
+    calls::acx_load_usual(form, file, memory, map, answer)
+}
+
+// Moves an ACX handler from its old bases to the new ones.
+#[no_mangle]
+pub extern "C" fn tkw_acx_move(
+    form: u32,
+    file: &[u8],
+    old_main: u32,
+    old_zero: u32,
+    new_main: u32,
+    new_zero: u32,
+    memory: &mut [u8],
+    map: &mut [u8],
+    scratch: &mut [u8],
+    answer: &mut [u8],
+) -> u32
+    ensures { λ r. ⌜ MoveCalled (now (file .entry)) (call form (basesAt «old_main» «old_zero») (basesAt «new_main» «new_zero») (now (map .entry)) (now (scratch .entry)) (now (answer .entry))) (now (memory .entry)) (now (answer .entry)) r (now (memory .exit)) (now (map .exit)) (now (scratch .exit)) (now (answer .exit)) ⌝ }
+{
+    calls::acx_move(
+        form,
+        file,
+        old_main,
+        old_zero,
+        new_main,
+        new_zero,
+        memory,
+        map,
+        scratch,
+        answer,
+    )
+}

@@ -1,0 +1,123 @@
+/* Tekoweapa: loads SpartaDOS X (SDX) programs and ACX handlers into a lent memory, and moves handlers while they live. Runs nothing.
+ *
+ * Every function takes whatever comes and ends with a number: 0 for an acceptance, else the first fault (enum tkw_number). A buffer is a
+ * pointer and its length in bytes; a length may be wrong (the call is then refused with 1), but the pointer must be good for that many
+ * bytes. No two buffers of one call may overlap: nothing checks that, and every promise rests on it. An empty buffer may be NULL.
+ *
+ * What a call leaves, besides the answer:
+ *   accepted     memory, map and the rooms for new names as the file says; every other byte of memory as before
+ *   refused, 1   every buffer as before
+ *   refused, 2+  memory and the rooms for new names as before; map and scratch all zero
+ *
+ * The code behind these functions is proved to keep these promises, and says them in full: crates/calls.
+ */
+#ifndef TEKOWEAPA_H
+#define TEKOWEAPA_H
+
+#include <stddef.h>
+#include <stdint.h>
+
+#ifdef __cplusplus
+extern "C" {
+#endif
+
+/* The lengths, in bytes, that the lent buffers must have, and the longest file. */
+enum {
+    TKW_MEMORY = 65536,     /* memory, map and scratch, each */
+    TKW_FILE_MOST = 65536,  /* a file */
+    TKW_NAME = 8,           /* a name: all eight bytes count */
+    TKW_KNOWN_MOST = 256,   /* known names; their addresses have two bytes each, low byte first */
+    TKW_NEW_NAMES = 256,    /* the room for new names: 32 of them */
+    TKW_NEW_ADDRESSES = 64, /* the room for their addresses, two bytes each, low byte first */
+    TKW_ANSWER = 36         /* the answer: nine four-byte numbers, low byte first */
+};
+
+/* What a byte of the map says of its address; the last event there decides. */
+enum { TKW_UNTOUCHED = 0, TKW_PLACED = 1, TKW_RESERVED = 2, TKW_ADJUSTED = 3 };
+
+/* The nine numbers of the answer, by their place: number i stands in the bytes 4i to 4i + 3. A number that is absent is zero; a refusal has
+ * only number, offset and side. */
+enum tkw_answer {
+    TKW_AT_NUMBER = 0,        /* 0, or the fault: what the call returns */
+    TKW_AT_OFFSET = 1,        /* of a refusal: the offset in the file of the block or record at fault */
+    TKW_AT_SIDE = 2,          /* of a refused move: 0 for the old bases, 1 for the new */
+    TKW_AT_START_PRESENT = 3, /* 1 if the file names a start, else 0 */
+    TKW_AT_START = 4,         /* the start address */
+    TKW_AT_PLACED = 5,        /* bytes placed, overwritten ones included */
+    TKW_AT_ADJUSTED = 6,      /* fields adjusted */
+    TKW_AT_NEW_NAMES = 7,     /* SDX: new names */
+    TKW_AT_LOW = 8            /* SDX: low afterwards */
+};
+
+/* What a call returns. */
+enum tkw_number {
+    TKW_ACCEPTED = 0,
+    TKW_WRONG_BUFFER = 1,         /* a buffer of another length; known names not eight bytes per address, or over 256 */
+    TKW_SETTING_OUT_OF_RANGE = 2, /* a setting outside its range */
+    TKW_FILE_TOO_LONG = 3,        /* file longer than 65,536 bytes */
+    TKW_WRONG_OPENING = 4,        /* wrong opening */
+    TKW_CUT_SHORT = 5,            /* cut short */
+    TKW_NOT_KNOWN = 6,            /* unknown type, flag, block number or memory kind */
+    TKW_BLOCK_TAKEN = 7,          /* block number used before, or an eighth relocatable block */
+    TKW_BLOCK_MISSING = 8,        /* block not there yet */
+    TKW_LENGTH_NOT_ALLOWED = 9,   /* end below start, or a record length not allowed */
+    TKW_DOES_NOT_FIT = 10,        /* doesn't fit */
+    TKW_COUNTER_UNUSABLE = 11,    /* place not set, or counter too high */
+    TKW_FIELD_NOT_LOADED = 12,    /* field not loaded */
+    TKW_ADJUSTED_TWICE = 13,      /* byte adjusted twice */
+    TKW_NAME_UNKNOWN = 14,        /* name unknown */
+    TKW_TOO_MANY_NAMES = 15,      /* a 33rd new name */
+    TKW_NAME_OUTSIDE_BLOCK = 16,  /* new name outside its block */
+    TKW_PIECES_OVERLAP = 17,      /* two ACX pieces share an address */
+    TKW_FIXUP_UNSUITED = 18,      /* fixup kind doesn't suit the code before it */
+    TKW_BYTES_AFTER_END = 19,     /* bytes after the end record */
+    TKW_START_TOO_HIGH = 20       /* start above 65,535 */
+};
+
+/* The forms of an ACX file. */
+enum { TKW_DISK = 0, TKW_DEVICE = 1 };
+
+/* The settings of the short calls. */
+enum { TKW_USUAL_LOW = 7936, TKW_USUAL_HIGH = 39936, TKW_USUAL_MAIN_BASE = 8192, TKW_USUAL_ZERO_BASE = 128 };
+
+/* Loads an SDX file. Relocatable blocks go to low and upwards, up to high (low <= high <= 65535). The known names are known_names_length / 8
+ * names of eight bytes, with as many addresses beside them; the file's own names come before them, and of equal names the newest holds. New
+ * names and their addresses stand in their rooms in file order, and the rest of the rooms is zero. */
+uint32_t tkw_sdx_load(const uint8_t *file, size_t file_length, uint32_t low, uint32_t high,
+                      const uint8_t *known_names, size_t known_names_length,
+                      const uint8_t *known_addresses, size_t known_addresses_length,
+                      uint8_t *memory, size_t memory_length, uint8_t *map, size_t map_length,
+                      uint8_t *new_names, size_t new_names_length, uint8_t *new_addresses, size_t new_addresses_length,
+                      uint8_t *answer, size_t answer_length);
+
+/* The same with the usual low and high. */
+uint32_t tkw_sdx_load_usual(const uint8_t *file, size_t file_length,
+                            const uint8_t *known_names, size_t known_names_length,
+                            const uint8_t *known_addresses, size_t known_addresses_length,
+                            uint8_t *memory, size_t memory_length, uint8_t *map, size_t map_length,
+                            uint8_t *new_names, size_t new_names_length, uint8_t *new_addresses, size_t new_addresses_length,
+                            uint8_t *answer, size_t answer_length);
+
+/* Loads an ACX file in disk form (0) or device form (1) at a main base of 0 to 65535 and a zero-page base of 0 to 255. */
+uint32_t tkw_acx_load(uint32_t form, const uint8_t *file, size_t file_length, uint32_t main_base, uint32_t zero_base,
+                      uint8_t *memory, size_t memory_length, uint8_t *map, size_t map_length,
+                      uint8_t *answer, size_t answer_length);
+
+/* The same at the usual bases. */
+uint32_t tkw_acx_load_usual(uint32_t form, const uint8_t *file, size_t file_length,
+                            uint8_t *memory, size_t memory_length, uint8_t *map, size_t map_length,
+                            uint8_t *answer, size_t answer_length);
+
+/* Moves an ACX handler that lives in memory at the old bases to the new ones: its bytes as they are now, its address fields adjusted from
+ * their current contents. Refused as a load at the old bases would be (side 0), then as one at the new (side 1). Answer and map are those of a
+ * load at the new bases. The scratch is all zero afterwards; its contents before do not matter. */
+uint32_t tkw_acx_move(uint32_t form, const uint8_t *file, size_t file_length, uint32_t old_main, uint32_t old_zero,
+                      uint32_t new_main, uint32_t new_zero,
+                      uint8_t *memory, size_t memory_length, uint8_t *map, size_t map_length,
+                      uint8_t *scratch, size_t scratch_length, uint8_t *answer, size_t answer_length);
+
+#ifdef __cplusplus
+}
+#endif
+
+#endif
