@@ -1,0 +1,2 @@
+-- The proof of the bench table.
+pub mod Table

@@ -1,0 +1,2 @@
+-- The bench table. No contract cites it.
+pub mod Table

@@ -1,0 +1,246 @@
+-- The bench table of document 01, P1 to P10, about the definitions that the loaders and the mover are proved to keep.
+-- A row is a call and all that it gives: its outcome, and every byte of every room that it is lent. Each room holds zeros before the call; only
+-- before a move memory is as a load at the old bases left it.
+-- `Bench` is the statement, proved in proofs/Table.antt.
+-- Assumes nothing.
+use mathlib.Core.Bool.{true}
+use mathlib.Core.List.{List, [], _∷_, _++_, map}
+use mathlib.Core.Path.{_≡_}
+use Prim.Native.Nat.{ℕ, _-_}
+use lib.ListN.{length, take, replicate}
+use Rattle.acx.specs.Call as acx
+use Rattle.acx.specs.Walk.{reported}
+use Rattle.acx.specs.declared.Bases.{Bases}
+use Rattle.answer.specs.declared.Fault.the-variants.{CutShort, FieldNotLoaded, AdjustedTwice}
+use Rattle.answer.specs.declared.Outcome.{Outcome}
+use Rattle.answer.specs.declared.Outcome.the-variants.{Accepted, Refused}
+use Rattle.answer.specs.declared.Start.the-variants.{Absent, At}
+use Rattle.events.specs.Events.{blank}
+use Rattle.mover.specs.Call as mover
+use Rattle.sdx.specs.Call as sdx
+use Rattle.words.specs.Runs.{put}
+
+-- ---- what a row says
+
+-- a call
+pub data Case : Type 0 where
+  -- an SDX file loaded between low and high, with no known names
+  loadSdx : (file : List ℕ) → (low high : ℕ) → Case
+  -- an ACX file loaded in a form at bases
+  loadAcx : (form : ℕ) → (file : List ℕ) → Bases → Case
+  -- the same, and then moved from those bases to others
+  moveAcx : (form : ℕ) → (file : List ℕ) → (old new : Bases) → Case
+
+-- bytes of a room, from an address on
+pub record Run : Type 0 where
+  pub from : ℕ
+  pub bytes : List ℕ
+
+-- a call; its outcome, accepted with start, placed, adjusted, new names and low, or refused with fault, offset and side; and what memory and the
+-- map hold after it beside zeros
+pub record Row : Type 0 where
+  pub case : Case
+  pub outcome : Outcome
+  pub memory : List Run
+  pub map : List Run
+
+-- ---- the rows, each under the document's words
+
+-- device form
+abbrev pub device : ℕ
+device = 1
+
+-- a main base, with the zero-page base of every row
+abbrev pub at : ℕ → Bases
+at main = record { main = main; zero = 128 }
+
+abbrev pub holds : ℕ → List ℕ → Run
+holds from bytes = record { from = from; bytes = bytes }
+
+-- "device file `00 05 00 00 4C 03 00 06 01 01 0B 02 00 00`", and the same with another fixup record than `06 01 01`
+abbrev pub jumpWith : List ℕ → List ℕ
+jumpWith fixups = 0x00 ∷ 0x05 ∷ 0x00 ∷ 0x00 ∷ 0x4C ∷ 0x03 ∷ 0x00 ∷ (fixups ++ (0x0B ∷ 0x02 ∷ 0x00 ∷ 0x00 ∷ []))
+
+abbrev pub jump : List ℕ
+jump = jumpWith (0x06 ∷ 0x01 ∷ 0x01 ∷ [])
+
+-- "bases 8192 and 128: 4C 03 20 at 8192, start 8192, 3 placed, 1 adjusted."
+abbrev pub P1 : Row
+P1 =
+    record {
+      case = loadAcx device jump (at 8192);
+      outcome = Accepted (At 8192) 3 1 0 0;
+      memory = holds 8192 (0x4C ∷ 0x03 ∷ 0x20 ∷ []) ∷ [];
+      map = holds 8192 (1 ∷ 3 ∷ 3 ∷ []) ∷ [];
+    }
+
+-- "moved to 12416: 4C 83 30 there." (the bytes vacated at 8192 "keep their contents")
+abbrev pub P2 : Row
+P2 =
+    record {
+      case = moveAcx device jump (at 8192) (at 12416);
+      outcome = Accepted (At 12416) 3 1 0 0;
+      memory = holds 8192 (0x4C ∷ 0x03 ∷ 0x20 ∷ []) ∷ holds 12416 (0x4C ∷ 0x83 ∷ 0x30 ∷ []) ∷ [];
+      map = holds 12416 (1 ∷ 3 ∷ 3 ∷ []) ∷ [];
+    }
+
+-- "device file `00 04 00 00 A2 00 08 02 01 F0 0B 00 00 00`"
+abbrev pub highByte : List ℕ
+highByte = 0x00 ∷ 0x04 ∷ 0x00 ∷ 0x00 ∷ 0xA2 ∷ 0x00 ∷ 0x08 ∷ 0x02 ∷ 0x01 ∷ 0xF0 ∷ 0x0B ∷ 0x00 ∷ 0x00 ∷ 0x00 ∷ []
+
+-- "bases 8192 and 128: A2 20 at 8192."
+abbrev pub P3 : Row
+P3 =
+    record {
+      case = loadAcx device highByte (at 8192);
+      outcome = Accepted Absent 2 1 0 0;
+      memory = holds 8192 (0xA2 ∷ 0x20 ∷ []) ∷ [];
+      map = holds 8192 (1 ∷ 3 ∷ []) ∷ [];
+    }
+
+-- "P3's file at 8208 and 128: A2 21."
+abbrev pub P4 : Row
+P4 =
+    record {
+      case = loadAcx device highByte (at 8208);
+      outcome = Accepted Absent 2 1 0 0;
+      memory = holds 8208 (0xA2 ∷ 0x21 ∷ []) ∷ [];
+      map = holds 8208 (1 ∷ 3 ∷ []) ∷ [];
+    }
+
+-- "P4 moved to 8192: A2 20." (those at 8208 "keep their contents")
+abbrev pub P5 : Row
+P5 =
+    record {
+      case = moveAcx device highByte (at 8208) (at 8192);
+      outcome = Accepted Absent 2 1 0 0;
+      memory = holds 8208 (0xA2 ∷ 0x21 ∷ []) ∷ holds 8192 (0xA2 ∷ 0x20 ∷ []) ∷ [];
+      map = holds 8192 (1 ∷ 3 ∷ []) ∷ [];
+    }
+
+-- "`FE FF 01 00 00 10 03 00 4C 00 10 FD FF 01 00 00 FE 01 01 FC`"
+abbrev pub updated : List ℕ
+updated =
+    0xFE ∷ 0xFF ∷ 0x01 ∷ 0x00 ∷ 0x00 ∷ 0x10 ∷ 0x03 ∷ 0x00 ∷ 0x4C ∷ 0x00 ∷ 0x10
+    ∷ 0xFD ∷ 0xFF ∷ 0x01 ∷ 0x00 ∷ 0x00 ∷ 0xFE ∷ 0x01 ∷ 0x01 ∷ 0xFC ∷ []
+
+-- "low 7936, high 39936, no known names: 4C 00 1F at 7936, low 7939."
+abbrev pub P6 : Row
+P6 =
+    record {
+      case = loadSdx updated 7936 39936;
+      outcome = Accepted Absent 3 1 0 7939;
+      memory = holds 7936 (0x4C ∷ 0x00 ∷ 0x1F ∷ []) ∷ [];
+      map = holds 7936 (1 ∷ 3 ∷ 3 ∷ []) ∷ [];
+    }
+
+-- "P6 without its last byte: 5 at offset 11." (5 is "cut short")
+abbrev pub P7 : Row
+P7 =
+    record {
+      case = loadSdx (take (length updated - 1) updated) 7936 39936;
+      outcome = Refused CutShort 11 0;
+      memory = [];
+      map = [];
+    }
+
+-- "empty SDX file: 5 at offset 0."
+abbrev pub P8 : Row
+P8 = record { case = loadSdx [] 7936 39936; outcome = Refused CutShort 0 0; memory = []; map = [] }
+
+-- "P1's file and bases with the fixup record `06 01 02`: 12 at offset 7." (12 is "field not loaded")
+abbrev pub P9 : Row
+P9 =
+    record {
+      case = loadAcx device (jumpWith (0x06 ∷ 0x01 ∷ 0x02 ∷ [])) (at 8192);
+      outcome = Refused FieldNotLoaded 7 0;
+      memory = [];
+      map = [];
+    }
+
+-- "with `06 02 01 01`: 13 at offset 7." (13 is "byte adjusted twice")
+abbrev pub P10 : Row
+P10 =
+    record {
+      case = loadAcx device (jumpWith (0x06 ∷ 0x02 ∷ 0x01 ∷ 0x01 ∷ [])) (at 8192);
+      outcome = Refused AdjustedTwice 7 0;
+      memory = [];
+      map = [];
+    }
+
+abbrev pub table : List Row
+table = P1 ∷ P2 ∷ P3 ∷ P4 ∷ P5 ∷ P6 ∷ P7 ∷ P8 ∷ P9 ∷ P10 ∷ []
+
+-- ---- what the definitions give
+
+-- the outcome of a call, and every room that it is lent, whole: memory, the map, and the others (the new names and their addresses of an SDX
+-- load; the scratch of a move)
+pub record Result : Type 0 where
+  pub outcome : Outcome
+  pub memory : List ℕ
+  pub map : List ℕ
+  pub others : List (List ℕ)
+
+-- the rooms of an SDX load, all zero
+abbrev pub clear : sdx.Rooms
+clear = sdx.rooms blank blank (replicate sdx.namesRoom 0) (replicate sdx.addressesRoom 0)
+
+abbrev pub sdxLoaded : List ℕ → ℕ → ℕ → Result
+sdxLoaded file low high =
+    let g = sdx.given [] [] low high in
+    let o = sdx.call file g (sdx.right g clear) in
+    record {
+      outcome = sdx.report (clear .memory) (o .answer) (o .events);
+      memory = sdx.memoryAfter (o .answer) (o .events) (clear .memory);
+      map = sdx.mapAfter (o .answer) (o .events);
+      others = sdx.namesAfter (o .answer) (clear .names) ∷ sdx.addressesAfter (o .answer) (clear .addresses) ∷ [];
+    }
+
+abbrev pub acxLoaded : ℕ → List ℕ → Bases → Result
+acxLoaded form file b =
+    let o = acx.call (acx.settings form (b .main) (b .zero)) file blank blank in
+    record {
+      outcome = reported o .answer;
+      memory = acx.memoryAfter (o .answer) (o .events) blank;
+      map = acx.mapAfter (o .answer) (o .events);
+      others = [];
+    }
+
+abbrev pub acxMoved : ℕ → List ℕ → Bases → Bases → Result
+acxMoved form file old new =
+    let c : mover.Call = record { form = form; old = old; new = new; map = blank; scratch = blank; answer = true } in
+    let m = acxLoaded form file old .memory in
+    record {
+      outcome = mover.outcomeOf file c m;
+      memory = mover.memoryAfter file c m;
+      map = mover.mapAfter file c m;
+      others = mover.scratchAfter c m ∷ [];
+    }
+
+abbrev pub resultOf : Case → Result
+resultOf (loadSdx file low high) = sdxLoaded file low high
+resultOf (loadAcx form file b) = acxLoaded form file b
+resultOf (moveAcx form file old new) = acxMoved form file old new
+
+-- ---- what the table says
+
+-- a room of 65,536 bytes that holds some runs, and zero elsewhere
+abbrev pub holding : List Run → List ℕ
+holding [] = blank
+holding (r ∷ rs) = put (holding rs) (r .from) (r .bytes)
+
+-- the other rooms, all zero: no row brings a new name, and a scratch is "all zero after it"
+abbrev pub cleared : Case → List (List ℕ)
+cleared (loadSdx file low high) = clear .names ∷ clear .addresses ∷ []
+cleared (loadAcx form file b) = []
+cleared (moveAcx form file old new) = blank ∷ []
+
+abbrev pub got : Row → Result
+got row = resultOf (row .case)
+
+abbrev pub wanted : Row → Result
+wanted row = record { outcome = row .outcome; memory = holding (row .memory); map = holding (row .map); others = cleared (row .case) }
+
+-- the statement: every call of the table gives what its row says
+abbrev pub Bench : Type 0
+Bench = map got table ≡ map wanted table
