@@ -16,5 +16,3 @@ pub mod Handlers
 pub mod Demand2
 pub mod Benches
 pub mod Same
--- Rows of the bench table:
-pub mod Bench

@@ -11,6 +11,5 @@ pub mod Overlay
 pub mod Chains
 pub mod Demand3
 pub mod Outcomes
--- Demand 3 put to use, and rows of the bench table:
+-- Demand 3 put to use, and a move across itself:
 pub mod Use
-pub mod Bench

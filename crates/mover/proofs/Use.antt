@@ -1,4 +1,4 @@
--- Demand 3 at work: P1's file is moved twice, with refused calls in between, in a memory of any contents.
+-- Demand 3 at work: P1's file is moved twice, with refused calls in between, in a memory of any contents. And one of its moves across itself.
 -- Assumes nothing.
 use mathlib.Core.Bool.{Bool, true, false}
 use mathlib.Core.List.{List, [], _∷_, map}
@@ -8,7 +8,7 @@ use native.Mathlib.Omega.{arith}
 use lib.ListN.{length, getD}
 use Rattle.acx.specs.AtBases.{placing, adjusting, ending, applied}
 use Rattle.acx.specs.Call.{load}
-use Rattle.acx.specs.Pieces.{Piece, amountOf, adjustments, events}
+use Rattle.acx.specs.Pieces.{Piece, amountOf, edited, adjustments, events}
 use Rattle.acx.specs.Walk.{accepted, refused, checked, walk, from, opening, judged}
 use Rattle.acx.specs.declared.Bases.{Bases}
 use Rattle.answer.specs.Checks.{need}
@@ -22,12 +22,13 @@ use Rattle.records.specs.Records.{readCode, readItems, readFixups, readEnd, rea
 use Rattle.records.specs.declared.Fixup.the-variants.{Word}
 use Rattle.records.specs.declared.Kind.the-variants.{Main}
 use Rattle.words.proofs.Numbers.{bytes-digits}
-use Rattle.words.specs.Numbers.{number, digits, value, on, off}
+use Rattle.words.specs.Numbers.{number, digits, value, store, on, off, change}
 use Rattle.words.specs.Runs.{Bytes, part, put, allZero, contains}
 use Rattle.mover.proofs.Demand3.{demand3}
 use Rattle.mover.proofs.Transfers.{length-moved}
 use Rattle.mover.specs.Call.{Call, loadAt, Ruling, allows, refuses, ruling, memoryBy, memoryAfter}
 use Rattle.mover.specs.Demand3.{after, ifAllowed, reached, last, onto, Linked, Chained, Memory, Demand3}
+use Rattle.mover.specs.Move.{carried, transfer, moved}
 
 -- ---- lists of calls with their rulings
 
@@ -176,3 +177,10 @@ first-byte m h = used m h .plain .0 0 (omega arith) ((λ w. omega arith), tt)
 pub the-word : (m : List ℕ) → Memory m → value 2 (after p1 (calls list) m) 8194 ≡ on 2 8193 (off 2 8192 (value 2 m 8193))
 unfolding amountOf
 the-word m h = used m h .fields .0 .0
+
+-- ---- a move whose old and new places overlap
+
+-- every byte goes at once: from 4C 03 20 at 8192 to 4C 04 20 at 8193, and the first 4C, vacated, stays
+pub across-itself : memoryAfter p1 (asks 1 8192 8193 blank true) (put blank 8192 (0x4C ∷ 0x03 ∷ 0x20 ∷ [])) ≡ put blank 8192 (0x4C ∷ 0x4C ∷ 0x04 ∷ 0x20 ∷ [])
+unfolding p1 number digits value store on off change part put allZero contains fieldsOf need readCode readItems readFixups readEnd read marks blank amountOf edited adjustments events placing adjusting ending applied checked walk from opening judged load carried transfer moved ruling memoryAfter
+across-itself = refl

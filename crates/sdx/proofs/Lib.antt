@@ -11,5 +11,3 @@ pub mod Keeping
 pub mod Demand2
 pub mod Same
 pub mod Benches
--- Rows of the bench table:
-pub mod Bench
