@@ -11,6 +11,7 @@ use lib.ListN.{length, take, replicate}
 use Rattle.acx.specs.Call as acx
 use Rattle.acx.specs.Walk.{reported}
 use Rattle.acx.specs.declared.Bases.{Bases}
+use Rattle.answer.specs.Checks.{pick}
 use Rattle.answer.specs.declared.Fault.the-variants.{CutShort, FieldNotLoaded, AdjustedTwice}
 use Rattle.answer.specs.declared.Outcome.{Outcome}
 use Rattle.answer.specs.declared.Outcome.the-variants.{Accepted, Refused}
@@ -50,25 +51,25 @@ pub record Row : Type 0 where
 abbrev pub device : ℕ
 device = 1
 
--- a main base, with the zero-page base of every row
+-- a main base, with the zero-page base of every ACX row
 abbrev pub at : ℕ → Bases
 at main = record { main = main; zero = 128 }
 
 abbrev pub holds : ℕ → List ℕ → Run
 holds from bytes = record { from = from; bytes = bytes }
 
--- "device file `00 05 00 00 4C 03 00 06 01 01 0B 02 00 00`", and the same with another fixup record than `06 01 01`
-abbrev pub jumpWith : List ℕ → List ℕ
-jumpWith fixups = 0x00 ∷ 0x05 ∷ 0x00 ∷ 0x00 ∷ 0x4C ∷ 0x03 ∷ 0x00 ∷ (fixups ++ (0x0B ∷ 0x02 ∷ 0x00 ∷ 0x00 ∷ []))
+-- "device file `00 05 00 00 4C 03 00 06 01 01 0B 02 00 00`", or with another fixup record than `06 01 01`
+abbrev pub P1FileWith : List ℕ → List ℕ
+P1FileWith fixups = 0x00 ∷ 0x05 ∷ 0x00 ∷ 0x00 ∷ 0x4C ∷ 0x03 ∷ 0x00 ∷ (fixups ++ (0x0B ∷ 0x02 ∷ 0x00 ∷ 0x00 ∷ []))
 
-abbrev pub jump : List ℕ
-jump = jumpWith (0x06 ∷ 0x01 ∷ 0x01 ∷ [])
+abbrev pub P1File : List ℕ
+P1File = P1FileWith (0x06 ∷ 0x01 ∷ 0x01 ∷ [])
 
 -- "bases 8192 and 128: 4C 03 20 at 8192, start 8192, 3 placed, 1 adjusted."
 abbrev pub P1 : Row
 P1 =
     record {
-      case = loadAcx device jump (at 8192);
+      case = loadAcx device P1File (at 8192);
       outcome = Accepted (At 8192) 3 1 0 0;
       memory = holds 8192 (0x4C ∷ 0x03 ∷ 0x20 ∷ []) ∷ [];
       map = holds 8192 (1 ∷ 3 ∷ 3 ∷ []) ∷ [];
@@ -78,21 +79,21 @@ P1 =
 abbrev pub P2 : Row
 P2 =
     record {
-      case = moveAcx device jump (at 8192) (at 12416);
+      case = moveAcx device P1File (at 8192) (at 12416);
       outcome = Accepted (At 12416) 3 1 0 0;
       memory = holds 8192 (0x4C ∷ 0x03 ∷ 0x20 ∷ []) ∷ holds 12416 (0x4C ∷ 0x83 ∷ 0x30 ∷ []) ∷ [];
       map = holds 12416 (1 ∷ 3 ∷ 3 ∷ []) ∷ [];
     }
 
 -- "device file `00 04 00 00 A2 00 08 02 01 F0 0B 00 00 00`"
-abbrev pub highByte : List ℕ
-highByte = 0x00 ∷ 0x04 ∷ 0x00 ∷ 0x00 ∷ 0xA2 ∷ 0x00 ∷ 0x08 ∷ 0x02 ∷ 0x01 ∷ 0xF0 ∷ 0x0B ∷ 0x00 ∷ 0x00 ∷ 0x00 ∷ []
+abbrev pub P3File : List ℕ
+P3File = 0x00 ∷ 0x04 ∷ 0x00 ∷ 0x00 ∷ 0xA2 ∷ 0x00 ∷ 0x08 ∷ 0x02 ∷ 0x01 ∷ 0xF0 ∷ 0x0B ∷ 0x00 ∷ 0x00 ∷ 0x00 ∷ []
 
 -- "bases 8192 and 128: A2 20 at 8192."
 abbrev pub P3 : Row
 P3 =
     record {
-      case = loadAcx device highByte (at 8192);
+      case = loadAcx device P3File (at 8192);
       outcome = Accepted Absent 2 1 0 0;
       memory = holds 8192 (0xA2 ∷ 0x20 ∷ []) ∷ [];
       map = holds 8192 (1 ∷ 3 ∷ []) ∷ [];
@@ -102,7 +103,7 @@ P3 =
 abbrev pub P4 : Row
 P4 =
     record {
-      case = loadAcx device highByte (at 8208);
+      case = loadAcx device P3File (at 8208);
       outcome = Accepted Absent 2 1 0 0;
       memory = holds 8208 (0xA2 ∷ 0x21 ∷ []) ∷ [];
       map = holds 8208 (1 ∷ 3 ∷ []) ∷ [];
@@ -112,15 +113,15 @@ P4 =
 abbrev pub P5 : Row
 P5 =
     record {
-      case = moveAcx device highByte (at 8208) (at 8192);
+      case = moveAcx device P3File (at 8208) (at 8192);
       outcome = Accepted Absent 2 1 0 0;
       memory = holds 8208 (0xA2 ∷ 0x21 ∷ []) ∷ holds 8192 (0xA2 ∷ 0x20 ∷ []) ∷ [];
       map = holds 8192 (1 ∷ 3 ∷ []) ∷ [];
     }
 
 -- "`FE FF 01 00 00 10 03 00 4C 00 10 FD FF 01 00 00 FE 01 01 FC`"
-abbrev pub updated : List ℕ
-updated =
+abbrev pub P6File : List ℕ
+P6File =
     0xFE ∷ 0xFF ∷ 0x01 ∷ 0x00 ∷ 0x00 ∷ 0x10 ∷ 0x03 ∷ 0x00 ∷ 0x4C ∷ 0x00 ∷ 0x10
     ∷ 0xFD ∷ 0xFF ∷ 0x01 ∷ 0x00 ∷ 0x00 ∷ 0xFE ∷ 0x01 ∷ 0x01 ∷ 0xFC ∷ []
 
@@ -128,7 +129,7 @@ updated =
 abbrev pub P6 : Row
 P6 =
     record {
-      case = loadSdx updated 7936 39936;
+      case = loadSdx P6File 7936 39936;
       outcome = Accepted Absent 3 1 0 7939;
       memory = holds 7936 (0x4C ∷ 0x00 ∷ 0x1F ∷ []) ∷ [];
       map = holds 7936 (1 ∷ 3 ∷ 3 ∷ []) ∷ [];
@@ -138,7 +139,7 @@ P6 =
 abbrev pub P7 : Row
 P7 =
     record {
-      case = loadSdx (take (length updated - 1) updated) 7936 39936;
+      case = loadSdx (take (length P6File - 1) P6File) 7936 39936;
       outcome = Refused CutShort 11 0;
       memory = [];
       map = [];
@@ -152,7 +153,7 @@ P8 = record { case = loadSdx [] 7936 39936; outcome = Refused CutShort 0 0; memo
 abbrev pub P9 : Row
 P9 =
     record {
-      case = loadAcx device (jumpWith (0x06 ∷ 0x01 ∷ 0x02 ∷ [])) (at 8192);
+      case = loadAcx device (P1FileWith (0x06 ∷ 0x01 ∷ 0x02 ∷ [])) (at 8192);
       outcome = Refused FieldNotLoaded 7 0;
       memory = [];
       map = [];
@@ -162,16 +163,17 @@ P9 =
 abbrev pub P10 : Row
 P10 =
     record {
-      case = loadAcx device (jumpWith (0x06 ∷ 0x02 ∷ 0x01 ∷ 0x01 ∷ [])) (at 8192);
+      case = loadAcx device (P1FileWith (0x06 ∷ 0x02 ∷ 0x01 ∷ 0x01 ∷ [])) (at 8192);
       outcome = Refused AdjustedTwice 7 0;
       memory = [];
       map = [];
     }
 
+-- the table
 abbrev pub table : List Row
 table = P1 ∷ P2 ∷ P3 ∷ P4 ∷ P5 ∷ P6 ∷ P7 ∷ P8 ∷ P9 ∷ P10 ∷ []
 
--- ---- what the definitions give
+-- ---- what the definitions give: the same terms as in the promises of `sdx::load`, `acx::load` and `mover::move_handler`
 
 -- the outcome of a call, and every room that it is lent, whole: memory, the map, and the others (the new names and their addresses of an SDX
 -- load; the scratch of a move)
@@ -192,7 +194,7 @@ sdxLoaded file low high =
     record {
       outcome = sdx.report (clear .memory) (o .answer) (o .events);
       memory = sdx.memoryAfter (o .answer) (o .events) (clear .memory);
-      map = sdx.mapAfter (o .answer) (o .events);
+      map = pick (sdx.right g clear) (sdx.mapAfter (o .answer) (o .events)) (clear .map);
       others = sdx.namesAfter (o .answer) (clear .names) ∷ sdx.addressesAfter (o .answer) (clear .addresses) ∷ [];
     }
 
@@ -202,7 +204,7 @@ acxLoaded form file b =
     record {
       outcome = reported o .answer;
       memory = acx.memoryAfter (o .answer) (o .events) blank;
-      map = acx.mapAfter (o .answer) (o .events);
+      map = acx.ifSized (acx.sized blank blank) (acx.mapAfter (o .answer) (o .events)) blank;
       others = [];
     }
 
