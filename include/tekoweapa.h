@@ -1,13 +1,15 @@
 /* Tekoweapa: loads SpartaDOS X (SDX) programs and ACX handlers into a lent memory, and moves handlers while they live. Runs nothing.
  *
  * Every function takes whatever comes and ends with a number: 0 for an acceptance, else the first fault (enum tkw_number). A buffer is a
- * pointer and its length in bytes; a length may be wrong (the call is then refused with 1), but the pointer must be good for that many
- * bytes. No two buffers of one call may overlap: nothing checks that, and every promise rests on it. An empty buffer may be NULL.
+ * pointer and its length in bytes. A length may be wrong, and the call is then refused with 1, but the pointer must be good for that many
+ * bytes; an empty buffer may be NULL. No alignment is asked for. No two buffers of one call may overlap: nothing checks that, and every
+ * promise rests on it. Nothing is kept between calls, and what map, scratch and the rooms for new names held before decides nothing.
  *
- * What a call leaves, besides the answer:
- *   accepted     memory, map and the rooms for new names as the file says; every other byte of memory as before
- *   refused, 1   every buffer as before
+ * What a call leaves:
+ *   accepted     memory, map and the rooms for new names as the file says, every other byte of memory as before; the scratch all zero
+ *   refused, 1   every buffer but the answer as before
  *   refused, 2+  memory and the rooms for new names as before; map and scratch all zero
+ * The answer is written each time, unless its own length is wrong: then it too is as before.
  *
  * The code behind these functions is proved to keep these promises, and says them in full: crates/calls.
  */
@@ -21,15 +23,15 @@
 extern "C" {
 #endif
 
-/* The lengths, in bytes, that the lent buffers must have, and the longest file. */
+/* The lengths, in bytes, that the lent buffers must have; and how long a file may be, and how many names may be known. */
 enum {
-    TKW_MEMORY = 65536,     /* memory, map and scratch, each */
-    TKW_FILE_MOST = 65536,  /* a file */
-    TKW_NAME = 8,           /* a name: all eight bytes count */
-    TKW_KNOWN_MOST = 256,   /* known names; their addresses have two bytes each, low byte first */
-    TKW_NEW_NAMES = 256,    /* the room for new names: 32 of them */
-    TKW_NEW_ADDRESSES = 64, /* the room for their addresses, two bytes each, low byte first */
-    TKW_ANSWER = 36         /* the answer: nine four-byte numbers, low byte first */
+    TKW_MEMORY_LENGTH = 65536,     /* memory, map and scratch, each */
+    TKW_NAME_LENGTH = 8,           /* a name: all eight bytes count */
+    TKW_NEW_NAMES_LENGTH = 256,    /* the room for 32 new names */
+    TKW_NEW_ADDRESSES_LENGTH = 64, /* the room for their addresses, two bytes each, low byte first */
+    TKW_ANSWER_LENGTH = 36,        /* the answer: nine four-byte numbers, low byte first */
+    TKW_FILE_MOST = 65536,         /* bytes of a file */
+    TKW_KNOWN_MOST = 256           /* known names */
 };
 
 /* What a byte of the map says of its address; the last event there decides. */
@@ -48,6 +50,14 @@ enum tkw_answer {
     TKW_AT_NEW_NAMES = 7,     /* SDX: new names */
     TKW_AT_LOW = 8            /* SDX: low afterwards */
 };
+
+/* One of the nine numbers of an answer. */
+static inline uint32_t tkw_answer_number(const uint8_t *answer, enum tkw_answer place)
+{
+    const uint8_t *number = answer + 4 * (size_t)place;
+
+    return (uint32_t)number[0] | (uint32_t)number[1] << 8 | (uint32_t)number[2] << 16 | (uint32_t)number[3] << 24;
+}
 
 /* What a call returns. */
 enum tkw_number {
@@ -81,8 +91,9 @@ enum { TKW_DISK = 0, TKW_DEVICE = 1 };
 enum { TKW_USUAL_LOW = 7936, TKW_USUAL_HIGH = 39936, TKW_USUAL_MAIN_BASE = 8192, TKW_USUAL_ZERO_BASE = 128 };
 
 /* Loads an SDX file. Relocatable blocks go to low and upwards, up to high (low <= high <= 65535). The known names are known_names_length / 8
- * names of eight bytes, with as many addresses beside them; the file's own names come before them, and of equal names the newest holds. New
- * names and their addresses stand in their rooms in file order, and the rest of the rooms is zero. */
+ * names of eight bytes, with as many addresses beside them, two bytes each, low byte first (an odd length is 1). The file's own names come
+ * before the known ones, and of equal names the newest holds. New names and their addresses stand in their rooms in file order, and the rest
+ * of the rooms is zero. */
 uint32_t tkw_sdx_load(const uint8_t *file, size_t file_length, uint32_t low, uint32_t high,
                       const uint8_t *known_names, size_t known_names_length,
                       const uint8_t *known_addresses, size_t known_addresses_length,
@@ -110,7 +121,7 @@ uint32_t tkw_acx_load_usual(uint32_t form, const uint8_t *file, size_t file_leng
 
 /* Moves an ACX handler that lives in memory at the old bases to the new ones: its bytes as they are now, its address fields adjusted from
  * their current contents. Refused as a load at the old bases would be (side 0), then as one at the new (side 1). Answer and map are those of a
- * load at the new bases. The scratch is all zero afterwards; its contents before do not matter. */
+ * load at the new bases. */
 uint32_t tkw_acx_move(uint32_t form, const uint8_t *file, size_t file_length, uint32_t old_main, uint32_t old_zero,
                       uint32_t new_main, uint32_t new_zero,
                       uint8_t *memory, size_t memory_length, uint8_t *map, size_t map_length,

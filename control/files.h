@@ -1,0 +1,12 @@
+/* Reading whole files. */
+#ifndef FILES_H
+#define FILES_H
+
+#include <stdbool.h>
+#include <stddef.h>
+#include <stdint.h>
+
+/* Reads a file, or its first `most` bytes if it is longer. False after a complaint. */
+bool read_file(const char *path, uint8_t *bytes, size_t most, size_t *length);
+
+#endif

@@ -1,0 +1,66 @@
+/* Lengths that differ from a right one by 4 GiB: a length cut to 32 bits would look right. The pages are mapped but never touched. */
+#define _DEFAULT_SOURCE
+#include "directed.h"
+
+#include "notation.h"
+
+#include <stdio.h>
+#include <string.h>
+#include <sys/mman.h>
+
+#define BEYOND ((size_t)1 << 32)
+
+static const char sdx_file[] = "FF FF 00 40 00 40 11";
+static const char acx_file[] = "00 03 00 00 77 0B 00 00 00";
+static const uint32_t usual[SETTINGS] = {
+    [FORM] = 1, [LOW] = 7936, [HIGH] = 39936, [MAIN] = 8192, [ZERO] = 128, [NEW_MAIN] = 12416, [NEW_ZERO] = 128,
+};
+
+/* The call with one buffer in the huge mapping: 3 for a file, 1 for every other. Both must say so. */
+static bool huge_refused(struct driver *driver, enum buffer huge, uint8_t *mapping)
+{
+    struct request *request = &driver->request;
+    size_t length = request->buffers[huge].length;
+    bool good = true;
+    for (enum maker maker = 0; maker < MAKERS; maker++) {
+        uint8_t *lent[BUFFERS];
+        for (enum buffer buffer = 0; buffer < BUFFERS; buffer++) {
+            struct loan loan = {request->buffers[buffer].bytes, request->buffers[buffer].length, TIGHT_BELOW, false};
+            lent[buffer] = arena_lend(&driver->arenas[maker][buffer], &loan);
+        }
+        memcpy(mapping, request->buffers[huge].bytes, length);
+        lent[huge] = mapping;
+        request->buffers[huge].length = BEYOND + length;
+        driver->calling = maker;
+        good = good && perform(request, maker, lent) == (huge == FILE_BYTES ? 3 : 1);
+        good = good && memcmp(mapping, request->buffers[huge].bytes, length) == 0;
+        request->buffers[huge].length = length;
+    }
+    return good;
+}
+
+void cases_huge(struct driver *driver)
+{
+    uint8_t *mapping = mmap(NULL, BEYOND + CAPACITY, PROT_READ | PROT_WRITE, MAP_PRIVATE | MAP_ANONYMOUS | MAP_NORESERVE, -1, 0);
+    if (mapping == MAP_FAILED) {
+        printf("lengths past 32 bits are left out: 4 GiB cannot be mapped\n");
+        return;
+    }
+    for (enum call call = 0; call < CALLS; call++)
+        for (enum buffer buffer = 0; buffer < BUFFERS; buffer++) {
+            if (!call_takes_buffer(call, buffer))
+                continue;
+            struct rng rng = rng_start(driver->seed, 2000 + call);
+            snprintf(driver->case_name, sizeof driver->case_name, "%s of a length past 32 bits", buffer_name(buffer));
+            prepare(driver, &rng, call);
+            memcpy(driver->request.settings, usual, sizeof usual);
+            struct contents *file = &driver->request.buffers[FILE_BYTES];
+            file->length = notation_bytes(call <= SDX_LOAD_USUAL ? sdx_file : acx_file, file->bytes, CAPACITY);
+            bool good = huge_refused(driver, buffer, mapping);
+            if (!good)
+                complain(driver, "4 GiB more than the right length is taken for it");
+            count(driver, good);
+        }
+    if (munmap(mapping, BEYOND + CAPACITY) != 0)
+        perror("compare: munmap");
+}

@@ -1,0 +1,55 @@
+/* Directed cases for the mover: P2 and P5 of document 01's table, both sides of a refusal, overlapping places, live data. */
+#include "directed.h"
+
+#define P1 "00 05 00 00 4C 03 00 06 01 01 0B 02 00 00"
+#define P3 "00 04 00 00 A2 00 08 02 01 F0 0B 00 00 00"
+#define END "0B 00 00 00"
+/* Four bytes, none of them a field. */
+#define PLAIN_4 "00 06 00 00 01 02 03 04 " END
+/* A main piece, an absolute one and one in zero page, each with what fields it can have. */
+#define MIXED "00 06 00 00 01 02 03 04 02 01 00 04 01 01 08 02 02 80 01 04 00 30 05 06 0A 04 10 00 07 08 07 01 00 " END
+
+static const struct directed cases[] = {
+    {"P2", MOVE(1, 8192, 128, 12416, 128), P1, STARTED(12416, 3, 1), "3080: 4C 83 30; 2000: 4C 03 20", "307F: 00 01 03 03 00; 2000: 00*3", .before = "2000: 4C 03 20"},
+    {"P5", MOVE(1, 8208, 128, 8192, 128), P3, LOADED(2, 1), "2000: A2 20", "1FFF: 00 01 03 00", .before = "2010: A2 21"},
+    {"disk form", MOVE(0, 8192, 128, 12416, 128), "F0 FF " P1, STARTED(12416, 3, 1), "3080: 4C 83 30", .before = "2000: 4C 03 20"},
+
+    {"up over itself", MOVE(1, 8192, 128, 8193, 128), PLAIN_4, LOADED(4, 0), "2000: 11 11 22 33 44 99", .before = "2000: 11 22 33 44 88 99"},
+    {"down over itself", MOVE(1, 8193, 128, 8192, 128), PLAIN_4, LOADED(4, 0), "2000: 22 33 44 88 88 99", .before = "2000: 11 22 33 44 88 99"},
+    {"nowhere", MOVE(1, 8192, 128, 8192, 128), P1, STARTED(8192, 3, 1), "2000: 77 88 99", .before = "2000: 77 88 99"},
+    {"a live word", MOVE(1, 8192, 128, 12416, 128), P1, STARTED(12416, 3, 1), "3080: EA 81 46", .before = "2000: EA 01 36"},
+    {"a word below its base", MOVE(1, 8192, 128, 0, 128), P1, STARTED(0, 3, 1), "0000: 4C 00 F0", .before = "2000: 4C 00 10"},
+    {"pieces in another order than their places", MOVE(1, 8192, 128, 8194, 128), "00 04 02 00 03 04 00 04 00 00 01 02 " END, LOADED(4, 0), "2002: 11 22 33 44", .before = "2000: 11 22 33 44"},
+    {"pieces of each kind", MOVE(1, 0x20F0, 0x40, 0x4180, 0x44), MIXED, LOADED(8, 4), "4180: 91 24 54 44; 3000: 55 66; 0054: 07 29; 20F0: 01 20 33 44; 0050: 77 08", "3000: 01 01 00; 0050: 00*4 03 03 00", .before = "20F0: 01 20 33 44; 3000: 55 66; 0050: 77 08"},
+    {"zero page alone moves", MOVE(1, 8192, 0, 8192, 255), "0A 03 00 00 77 05 01 00 " END, LOADED(1, 1), "00FF: 0F", .before = "0000: 10"},
+    {"high byte up to the next page", MOVE(1, 0x2000, 0, 0x2001, 0), "00 03 00 00 77 08 02 00 FF " END, LOADED(1, 1), "2001: 21", .before = "2000: 20"},
+    {"high byte within its page", MOVE(1, 0x2001, 0, 0x20FF, 0), "00 03 00 00 77 08 02 00 FF " END, LOADED(1, 1), "20FF: 21", .before = "2001: 21"},
+    {"word in zero page, from main base 65,535", MOVE(1, 65535, 0, 0, 0), "0A 04 00 00 77 78 07 01 00 " END, LOADED(2, 1), "0000: 02 34", .before = "0000: 01 34"},
+    {"no piece at all", MOVE(1, 0, 0, 65535, 255), END, LOADED(0, 0), NULL, "0000: 00*65536"},
+
+    {"form 2", MOVE(2, 8192, 128, 8192, 128), P1, REFUSED(2, 0)},
+    {"old main base 65,536", MOVE(1, 65536, 128, 8192, 128), P1, REFUSED(2, 0)},
+    {"old zero-page base 256", MOVE(1, 8192, 256, 8192, 128), P1, REFUSED(2, 0)},
+    {"new main base 65,536", MOVE(1, 8192, 128, 65536, 128), P1, REFUSED_AT_NEW(2, 0)},
+    {"new zero-page base 256", MOVE(1, 8192, 128, 8192, 256), P1, REFUSED_AT_NEW(2, 0)},
+    {"both bases out of range", MOVE(1, 65536, 128, 65536, 128), P1, REFUSED(2, 0)},
+    {"a faulty file before a new base out of range", MOVE(1, 8192, 128, 65536, 128), "0C", REFUSED(6, 0)},
+    {"a file too long before a new base out of range", MOVE(1, 8192, 128, 65536, 128), "00*65537", REFUSED(3, 0)},
+    {"fits at neither", MOVE(1, 65534, 128, 65535, 128), P1, REFUSED(10, 0)},
+    {"fits at the old only", MOVE(1, 8192, 128, 65534, 128), P1, REFUSED_AT_NEW(10, 0)},
+    {"fits at the new only", MOVE(1, 65534, 128, 8192, 128), P1, REFUSED(10, 0)},
+    {"fits at both ends of memory", MOVE(1, 0, 128, 65533, 128), P1, STARTED(65533, 3, 1), "FFFD: 4C 00 00", .before = "0000: 4C 03 00"},
+    {"zero page fits at the old only", MOVE(1, 8192, 254, 8192, 255), "0A 04 00 00 77 78 " END, REFUSED_AT_NEW(10, 0)},
+    {"onto an absolute piece", MOVE(1, 8192, 128, 0x3000, 128), "01 03 01 30 77 " PLAIN_4, REFUSED_AT_NEW(17, 5)},
+    {"off an absolute piece", MOVE(1, 0x3000, 128, 8192, 128), "01 03 01 30 77 " PLAIN_4, REFUSED(17, 5)},
+    {"onto zero page", MOVE(1, 8192, 128, 125, 128), "0A 03 00 00 77 " PLAIN_4, REFUSED_AT_NEW(17, 5)},
+    {"up to zero page", MOVE(1, 8192, 128, 124, 128), "0A 03 00 00 77 " PLAIN_4, LOADED(5, 0)},
+    {"start too high at the new", MOVE(1, 8192, 128, 8193, 128), "00 02 00 00 0B 02 FF DF", REFUSED_AT_NEW(20, 4)},
+    {"start too high at the old", MOVE(1, 8193, 128, 8192, 128), "00 02 00 00 0B 02 FF DF", REFUSED(20, 4)},
+};
+
+void cases_move(struct driver *driver)
+{
+    for (size_t i = 0; i < sizeof cases / sizeof cases[0]; i++)
+        run_directed(driver, &cases[i]);
+}

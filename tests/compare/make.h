@@ -1,0 +1,40 @@
+/* Random files with settings that suit them. A file is sound unless slips are asked for; then each choice goes wrong once in a while. */
+#ifndef MAKE_H
+#define MAKE_H
+
+#include "driver.h"
+
+/* Slips come once in so many choices; 0 for none. */
+struct making {
+    struct rng *rng;
+    struct request *request;
+    uint32_t slips_once_in;
+};
+
+bool slip(const struct making *making);
+
+/* Write at the end of the request's file; what is past its room is left out. */
+void put_byte(const struct making *making, uint32_t byte);
+void put_word(const struct making *making, uint32_t word);
+void put_random(const struct making *making, uint32_t length);
+
+/* An SDX file with known names, low and high. */
+void make_sdx(const struct making *making);
+
+/* How far an ACX handler reaches from its bases. */
+struct reach {
+    uint32_t main, zero;
+};
+
+/* An ACX file with its form; then bases for it, most of which it fits at. */
+struct reach make_acx(const struct making *making);
+void choose_bases(const struct making *making, struct reach reach, uint32_t *main, uint32_t *zero);
+void choose_new_bases(const struct making *making, struct reach reach);
+
+/* Spoils the request in one way or a few: cuts, flips, insertions, settings at bounds, wrong lengths, files too long. */
+void mutate(const struct making *making);
+
+/* Gives one buffer of the call another length. */
+void mutate_length(const struct making *making);
+
+#endif
