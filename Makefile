@@ -4,6 +4,7 @@
 # make control         build/tekoweapa: the control program
 # make c-tests         the tests in C alone (tests/run)
 # make fuzz SECONDS=n  random cases against the second implementation, for n seconds
+# make bench           times of the library beside the second implementation
 # make proofs          prove what has changed since the last time, without the must-fail edits
 CC := gcc
 CFLAGS := -std=c11 -O2 -Wall -Wextra -Werror
@@ -12,7 +13,7 @@ SECONDS := 60
 LIBRARY := build/libtekoweapa.a
 RATTLE := $(shell find crates -name '*.rt' -o -name '*.antt')
 
-.PHONY: demo test lib control c-tests fuzz proofs clean
+.PHONY: demo test lib control c-tests fuzz bench proofs clean
 
 demo: build/tekoweapa
 	@examples/demo
@@ -30,17 +31,21 @@ c-tests:
 fuzz: build/compare
 	build/compare --seconds $(SECONDS)
 
+bench: build/benchmark
+	build/benchmark
+
 proofs:
 	@rt check
 
 clean:
 	rm -rf build
 
-# Every function behind it is proved before it is built: minutes from nothing, seconds where nothing has changed.
+# Every function behind it is proved before it is built: minutes from nothing, seconds where nothing has changed. (The first command proves
+# crates side by side, the second one after the other.)
 $(LIBRARY): $(RATTLE) crates.txt
 	@mkdir -p build
 	@echo "proving the crates and building $@ (log: build/library.log)"
-	@rt staticlib tkw >build/library.log 2>&1 || { tail -n 40 build/library.log; exit 1; }
+	@{ rt check tkw && rt staticlib tkw; } >build/library.log 2>&1 || { tail -n 40 build/library.log; exit 1; }
 	@cp target/staticlib/libtkw.a $@
 
 build/tekoweapa: $(wildcard control/*) include/tekoweapa.h $(LIBRARY)
@@ -48,3 +53,6 @@ build/tekoweapa: $(wildcard control/*) include/tekoweapa.h $(LIBRARY)
 
 build/compare: $(wildcard tests/compare/* tests/second/*) include/tekoweapa.h $(LIBRARY)
 	$(CC) $(CFLAGS) -Iinclude -Itests/second tests/compare/*.c tests/second/*.c $(LIBRARY) -o $@
+
+build/benchmark: $(wildcard benchmark/* tests/second/*) include/tekoweapa.h $(LIBRARY)
+	$(CC) $(CFLAGS) -Iinclude -Itests/second benchmark/*.c tests/second/*.c $(LIBRARY) -o $@
