@@ -29,7 +29,7 @@ use Rattle.calls.specs.Sdx.{asWords, right, addressesAfter, Loads}
 -- ---- lengths that are wrong
 
 length-addresses : (bytes : List ℕ) → length (addressesIn bytes) ≡ length bytes / 2
-length-addresses bytes = length-decoded 2 (length bytes / 2) bytes
+length-addresses bytes = length-decoded _ (length bytes / 2) bytes
 
 module _ (g : Given) (b : Rooms) where
   odd-known : (length (g .addresses) % 2 ≡ 0 → ⊥) → right g b ≡ false
