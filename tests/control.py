@@ -680,6 +680,13 @@ def the_picture_has_a_colour_per_mark(desk):
     same(len(set(colours.values())), 4, "number of colours")
     same(sorted(set(marks)), [0, 1, 2, 3], "marks")
     holds(picture[len(header):] == b"".join(colours[mark] for mark in marks), "a pixel is not of the colour of its mark")
+    # "placed blue, reserved grey, adjusted amber", as --help says
+    red, green, blue = colours[1]
+    holds(blue > green > red, "placed is not blue")
+    holds(len(set(colours[2])) == 1, "reserved is not grey")
+    red, green, blue = colours[3]
+    holds(red > green > blue, "adjusted is not amber")
+    holds(max(colours[0]) < min(max(colours[mark]) for mark in (1, 2, 3)), "untouched is not the darkest")
 
 
 @test
