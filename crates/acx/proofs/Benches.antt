@@ -19,11 +19,11 @@ use Rattle.events.specs.Lists.{Each}
 use Rattle.words.specs.Runs.{part}
 use Rattle.acx.proofs.Demand2.{asked-judged}
 use Rattle.acx.proofs.Handlers.{fits-memory, handled}
-use Rattle.acx.proofs.Loads.{loaded, laid, play-laid, laid-parts}
+use Rattle.pieces.proofs.Loads.{loaded, laid, play-laid, laid-parts}
 use Rattle.acx.specs.Benches.{RefusedCall, SameProgram}
 use Rattle.acx.specs.Call.{formOf, Settings, basesOf, load, call, memoryAfter, mapAfter, ifSized, Loaded}
 use Rattle.acx.specs.Demand2.{Asked}
-use Rattle.acx.specs.Pieces.{Piece, size, placeOf}
+use Rattle.pieces.specs.Pieces.{Piece, size, placeOf}
 use Rattle.acx.specs.Walk.{Verdict, accepted, refused, atOnce, judged, report, reported}
 
 -- ---- refused

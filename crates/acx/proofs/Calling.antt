@@ -24,9 +24,9 @@ use Rattle.events.specs.declared.Check.the-variants.{Passed, Failed}
 use Rattle.acx.proofs.Standing.{Stands, stands-first, stands-on}
 use Rattle.acx.proofs.Walking.{refused-accepted, accepted-keeps}
 use Rattle.acx.specs.Call.{formOf, Settings, inRange, basesOf, sized, load, call, Carried, Loaded}
-use Rattle.acx.specs.Pieces.{Piece}
+use Rattle.pieces.specs.Pieces.{Piece}
 use Rattle.acx.specs.Walk.{Verdict, accepted, refused, atOnce, from, opening, openingSize, judged, report, reported}
-use Rattle.acx.specs.declared.Bases.{Bases}
+use Rattle.pieces.specs.declared.Bases.{Bases}
 use Rattle.acx.specs.declared.Form.{Form}
 use Rattle.acx.specs.declared.Form.the-variants.{Device}
 

@@ -20,15 +20,15 @@ use Rattle.answer.specs.declared.Start.the-variants.{Absent}
 use Rattle.events.proofs.Events.{placed-append, adjusted-append, length-blank, blank-at}
 use Rattle.events.specs.Events.{Event, place, play, marks, blank, placedIn, adjustedIn, Ran}
 use Rattle.acx.proofs.Handlers.{fits-memory, handled}
-use Rattle.acx.proofs.Loads.{laid, play-laid, laid-outside, laid-plain, laid-fields}
-use Rattle.acx.proofs.Marks.{marks-outside, marks-plain, marks-fields}
-use Rattle.acx.proofs.PieceEvents.{placed-adjustments, adjusted-adjustments}
+use Rattle.pieces.proofs.Loads.{laid, play-laid, laid-outside, laid-plain, laid-fields}
+use Rattle.pieces.proofs.Marks.{marks-outside, marks-plain, marks-fields}
+use Rattle.pieces.proofs.PieceEvents.{placed-adjustments, adjusted-adjustments}
 use Rattle.acx.proofs.Standing.{Stands}
 use Rattle.acx.specs.Call.{formOf, Settings, basesOf, load, call, memoryAfter, mapAfter, Loaded}
 use Rattle.acx.specs.Demand2.{total, Handler, Demand2, Asked, AcceptedCall}
-use Rattle.acx.specs.Pieces.{Piece, size, placeOf, adjustments, events}
+use Rattle.pieces.specs.Pieces.{Piece, size, placeOf, adjustments, events}
 use Rattle.acx.specs.Walk.{Verdict, accepted, refused, atOnce, judged, report, reported}
-use Rattle.acx.specs.declared.Bases.{Bases}
+use Rattle.pieces.specs.declared.Bases.{Bases}
 use Rattle.acx.specs.declared.Form.{Form}
 
 -- the pieces of an accepted file make a handler

@@ -12,7 +12,7 @@ use Rattle.events.specs.Events.{blank}
 use Rattle.events.specs.Lists.{Each}
 use Rattle.words.specs.Runs.{part}
 use Rattle.acx.specs.Call.{formOf, Settings, basesOf, sized}
-use Rattle.acx.specs.Pieces.{Piece, size, placeOf}
+use Rattle.pieces.specs.Pieces.{Piece, size, placeOf}
 use Rattle.acx.specs.Walk.{accepted, judged}
 
 -- "A refusal leaves program memory untouched, and the other buffers hold what document 01 names": a call that was refused found memory m

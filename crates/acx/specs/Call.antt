@@ -12,7 +12,7 @@ use Rattle.answer.specs.declared.Fault.the-variants.{WrongBuffer, SettingOutOfR
 use Rattle.answer.specs.declared.Outcome.{Outcome}
 use Rattle.events.specs.Events.{Event, play, marks, blank, Ran}
 use Rattle.acx.specs.Walk.{Verdict, accepted, refused, atOnce, judged, reported}
-use Rattle.acx.specs.declared.Bases.{Bases}
+use Rattle.pieces.specs.declared.Bases.{Bases}
 use Rattle.acx.specs.declared.Form.{Form}
 use Rattle.acx.specs.declared.Form.the-variants.{Disk, Device}
 

@@ -8,31 +8,13 @@ use Prim.Native.Nat.{ℕ, _+_, _≤_, _<_}
 use lib.ListN.{length, getD}
 use Rattle.answer.specs.declared.Start.{Start}
 use Rattle.events.specs.Lists.{Each, Pairwise}
-use Rattle.records.specs.declared.Field.{Field}
 use Rattle.words.specs.Numbers.{value, on}
-use Rattle.words.specs.Runs.{Within, Apart, part}
+use Rattle.words.specs.Runs.{part}
 use Rattle.acx.specs.Call.{formOf, Settings, inRange, basesOf}
-use Rattle.acx.specs.Pieces.{Piece, size, placeOf, limitOf, width, amountOf}
+use Rattle.pieces.specs.Places.{Placed, In, Inside, PiecesApart, FieldsApart}
+use Rattle.pieces.specs.Pieces.{Piece, size, placeOf, limitOf, width, amountOf}
 use Rattle.acx.specs.Walk.{accepted, judged}
-use Rattle.acx.specs.declared.Bases.{Bases}
-
--- the address is one of the piece's places: "a byte's place is its record's place plus its index among the code bytes"
-abbrev pub Placed : Bases → ℕ → Piece → Type 0
-Placed b x p = Within (placeOf b p) (size p) x
-
--- byte j of the code is in the field
-abbrev pub In : ℕ → Field → Type 0
-In j f = Within (f .index) (width f) j
-
--- the field lies in n code bytes
-abbrev pub Inside : ℕ → Field → Type 0
-Inside n f = f .index + width f ≤ n
-
-abbrev pub PiecesApart : Bases → Piece → Piece → Type 0
-PiecesApart b p q = Apart (placeOf b p) (size p) (placeOf b q) (size q)
-
-abbrev pub FieldsApart : Field → Field → Type 0
-FieldsApart f g = Apart (f .index) (width f) (g .index) (width g)
+use Rattle.pieces.specs.declared.Bases.{Bases}
 
 -- The pieces of an accepted file.
 pub record Handler (file : List ℕ) (b : Bases) (ps : List Piece) : Type 0 where

@@ -6,10 +6,11 @@ use Prim.Native.Nat.{ℕ}
 use lib.ListN.{length, getD}
 use Rattle.acx.proofs.Handlers.{fits-memory}
 use Rattle.events.proofs.Lists.{each-map, each-zip, each-zip3}
-use Rattle.acx.proofs.Loads.{Fits}
-use Rattle.acx.specs.Demand2.{Placed, Handler, Inside}
-use Rattle.acx.specs.Pieces.{Piece, size, placeOf, edited}
-use Rattle.acx.specs.declared.Bases.{Bases}
+use Rattle.pieces.proofs.Loads.{Fits}
+use Rattle.pieces.specs.Places.{Placed, Inside}
+use Rattle.acx.specs.Demand2.{Handler}
+use Rattle.pieces.specs.Pieces.{Piece, size, placeOf, edited}
+use Rattle.pieces.specs.declared.Bases.{Bases}
 use Rattle.events.specs.Lists.{Each}
 use Rattle.words.proofs.Runs.{length-part, bytes-part}
 use Rattle.words.specs.Runs.{part}

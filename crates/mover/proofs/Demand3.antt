@@ -5,13 +5,14 @@ use mathlib.Core.Path.{_≡_, refl, sym, ap, _∙_, subst}
 use Prim.Native.Nat.{ℕ, _+_, _<_}
 use native.Mathlib.Omega.{arith}
 use lib.ListN.{length, getD}
-use Rattle.acx.proofs.Edits.{edited-plain, edited-each}
+use Rattle.pieces.proofs.Edits.{edited-plain, edited-each}
 use Rattle.acx.proofs.Handlers.{fits-memory}
 use Rattle.events.proofs.Lists.{each-map, each-zip, each-zip3}
-use Rattle.acx.proofs.Loads.{Fits, loaded, length-laid, laid-parts}
-use Rattle.acx.specs.Demand2.{In, FieldsApart, Handler, Inside}
-use Rattle.acx.specs.Pieces.{Piece, size, placeOf, width, amountOf, edited}
-use Rattle.acx.specs.declared.Bases.{Bases}
+use Rattle.pieces.proofs.Loads.{Fits, loaded, length-laid, laid-parts}
+use Rattle.pieces.specs.Places.{In, FieldsApart, Inside}
+use Rattle.acx.specs.Demand2.{Handler}
+use Rattle.pieces.specs.Pieces.{Piece, size, placeOf, width, amountOf, edited}
+use Rattle.pieces.specs.declared.Bases.{Bases}
 use Rattle.events.specs.Lists.{Each, Pairwise}
 use Rattle.words.proofs.Changes.{value-part}
 use Rattle.words.proofs.Runs.{length-part, part-at, part-agrees, part-agree-at}

@@ -8,11 +8,12 @@ use native.Mathlib.Omega.{arith}
 use lib.ListN.{length, getD, set, List·getD-eq-default}
 use lib.Seq.{ext-getD, getD-set-same, getD-set-other}
 use Rattle.acx.proofs.Handlers.{fits-memory}
-use Rattle.acx.proofs.Loads.{Fits}
-use Rattle.acx.proofs.Marks.{marks-outside, marks-some}
-use Rattle.acx.specs.Demand2.{Placed, Handler}
-use Rattle.acx.specs.Pieces.{Piece, size, placeOf, events}
-use Rattle.acx.specs.declared.Bases.{Bases}
+use Rattle.pieces.proofs.Loads.{Fits}
+use Rattle.pieces.proofs.Marks.{marks-outside, marks-some}
+use Rattle.pieces.specs.Places.{Placed}
+use Rattle.acx.specs.Demand2.{Handler}
+use Rattle.pieces.specs.Pieces.{Piece, size, placeOf, events}
+use Rattle.pieces.specs.declared.Bases.{Bases}
 use Rattle.events.proofs.Events.{length-marks, length-blank, blank-at}
 use Rattle.events.proofs.Lists.{each-zip3}
 use Rattle.events.specs.Events.{Event, marks, blank}

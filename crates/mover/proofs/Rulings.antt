@@ -10,13 +10,13 @@ use lib.ListN.{length}
 use Rattle.acx.proofs.Calling.{range-bounds, Follows, load-follows}
 use Rattle.acx.proofs.Demand2.{handler-of}
 use Rattle.acx.proofs.Handlers.{fits-memory, handled}
-use Rattle.acx.proofs.Loads.{laid, play-laid}
+use Rattle.pieces.proofs.Loads.{laid, play-laid}
 use Rattle.acx.proofs.Same.{Bare, bare, same-pieces}
 use Rattle.acx.specs.Call.{formOf, settings, memoryAfter as playedBy}
 use Rattle.acx.specs.Demand2.{Handler}
-use Rattle.acx.specs.Pieces.{Piece, events}
+use Rattle.pieces.specs.Pieces.{Piece, events}
 use Rattle.acx.specs.Walk.{Verdict, accepted, refused, judged, report as outcomeReported, reported}
-use Rattle.acx.specs.declared.Bases.{Bases}
+use Rattle.pieces.specs.declared.Bases.{Bases}
 use Rattle.answer.proofs.Outcomes.{isRefused}
 use Rattle.answer.specs.Checks.{need}
 use Rattle.answer.specs.declared.Fault.the-variants.{WrongBuffer}

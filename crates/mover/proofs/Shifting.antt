@@ -4,9 +4,9 @@ use mathlib.Core.List.{List, [], _∷_}
 use mathlib.Core.Path.{_≡_, refl, sym, ap, _∙_}
 use Prim.Native.Nat.{ℕ, _+_, _≤_}
 use lib.ListN.{length}
-use Rattle.acx.specs.Demand2.{Inside}
-use Rattle.acx.specs.Pieces.{width, amountOf, edited}
-use Rattle.acx.specs.declared.Bases.{Bases}
+use Rattle.pieces.specs.Places.{Inside}
+use Rattle.pieces.specs.Pieces.{width, amountOf, edited}
+use Rattle.pieces.specs.declared.Bases.{Bases}
 use Rattle.events.specs.Lists.{Each}
 use Rattle.records.specs.Fields.{widthOf}
 use Rattle.records.specs.declared.Field.{Field}

@@ -4,11 +4,11 @@ use mathlib.Core.List.{List}
 use mathlib.Core.Path.{_≡_, ap, _∙_}
 use Prim.Native.Nat.{ℕ}
 use lib.ListN.{length}
-use Rattle.acx.proofs.Edits.{Fitting, edited-twice, edited-same, edited-none}
-use Rattle.acx.proofs.Loads.{added, added-fits}
-use Rattle.acx.specs.Demand2.{FieldsApart, Inside}
-use Rattle.acx.specs.Pieces.{width, amountOf, edited}
-use Rattle.acx.specs.declared.Bases.{Bases}
+use Rattle.pieces.proofs.Edits.{Fitting, edited-twice, edited-same, edited-none}
+use Rattle.pieces.proofs.Loads.{added, added-fits}
+use Rattle.pieces.specs.Places.{FieldsApart, Inside}
+use Rattle.pieces.specs.Pieces.{width, amountOf, edited}
+use Rattle.pieces.specs.declared.Bases.{Bases}
 use Rattle.events.specs.Lists.{Each, Pairwise}
 use Rattle.records.specs.declared.Field.{Field}
 use Rattle.words.proofs.Numbers.{on-lt, off-lt, off-on, on-off}

@@ -5,14 +5,14 @@ use mathlib.Core.Path.{_≡_, refl, sym, ap, _∙_}
 use Prim.Native.Nat.{ℕ, _+_, _-_, _≤_}
 use native.Mathlib.Omega.{arith}
 use lib.ListN.{length, getD}
-use Rattle.acx.proofs.Edits.{length-edited, bytes-edited}
+use Rattle.pieces.proofs.Edits.{length-edited, bytes-edited}
 use Rattle.acx.proofs.Handlers.{fits-memory}
 use Rattle.events.proofs.Lists.{each-all, each-map}
-use Rattle.acx.proofs.Loads.{Fits, lay, AsLong, length-lay, bytes-lay, lay-outside, lay-parts}
+use Rattle.pieces.proofs.Loads.{Fits, lay, AsLong, length-lay, bytes-lay, lay-outside, lay-parts}
 use Rattle.acx.proofs.Same.{Bare}
-use Rattle.acx.specs.Demand2.{Placed, PiecesApart}
-use Rattle.acx.specs.Pieces.{Piece, size, placeAt, placeOf, edited}
-use Rattle.acx.specs.declared.Bases.{Bases}
+use Rattle.pieces.specs.Places.{Placed, PiecesApart}
+use Rattle.pieces.specs.Pieces.{Piece, size, placeAt, placeOf, edited}
+use Rattle.pieces.specs.declared.Bases.{Bases}
 use Rattle.events.specs.Lists.{Each, Pairwise}
 use Rattle.records.specs.declared.Field.{Field}
 use Rattle.records.specs.declared.Kind.{Kind}

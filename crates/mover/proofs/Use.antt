@@ -6,11 +6,11 @@ use mathlib.Core.Path.{_≡_, refl, ap, _∙_, subst}
 use Prim.Native.Nat.{ℕ}
 use native.Mathlib.Omega.{arith}
 use lib.ListN.{length, getD}
-use Rattle.acx.specs.AtBases.{placing, adjusting, ending, applied}
+use Rattle.pieces.specs.AtBases.{placing, adjusting, ending, applied}
 use Rattle.acx.specs.Call.{load}
-use Rattle.acx.specs.Pieces.{Piece, amountOf, edited, adjustments, events}
+use Rattle.pieces.specs.Pieces.{Piece, amountOf, edited, adjustments, events}
 use Rattle.acx.specs.Walk.{accepted, refused, checked, walk, from, opening, judged}
-use Rattle.acx.specs.declared.Bases.{Bases}
+use Rattle.pieces.specs.declared.Bases.{Bases}
 use Rattle.answer.specs.Checks.{need}
 use Rattle.answer.specs.declared.Fault.the-variants.{WrongBuffer, SettingOutOfRange, DoesNotFit}
 use Rattle.answer.specs.declared.Start.the-variants.{At}

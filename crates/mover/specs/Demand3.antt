@@ -7,10 +7,10 @@ use mathlib.Core.Path.{_≡_}
 use Prim.Native.Nat.{ℕ, _+_, _<_}
 use lib.ListN.{length, getD}
 use Rattle.acx.specs.Call.{memoryAfter as playedBy}
-use Rattle.acx.specs.Demand2.{Placed, In}
-use Rattle.acx.specs.Pieces.{Piece, size, placeOf, width, amountOf}
+use Rattle.pieces.specs.Places.{Placed, In}
+use Rattle.pieces.specs.Pieces.{Piece, size, placeOf, width, amountOf}
 use Rattle.acx.specs.Walk.{accepted}
-use Rattle.acx.specs.declared.Bases.{Bases}
+use Rattle.pieces.specs.declared.Bases.{Bases}
 use Rattle.answer.specs.declared.Outcome.{Outcome}
 use Rattle.answer.specs.declared.Start.{Start}
 use Rattle.events.specs.Lists.{Each}

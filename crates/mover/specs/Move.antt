@@ -2,8 +2,8 @@
 -- Assumes nothing.
 use mathlib.Core.List.{List, [], _∷_}
 use Prim.Native.Nat.{ℕ}
-use Rattle.acx.specs.Pieces.{Piece, size, placeOf, width, amountOf, edited}
-use Rattle.acx.specs.declared.Bases.{Bases}
+use Rattle.pieces.specs.Pieces.{Piece, size, placeOf, width, amountOf, edited}
+use Rattle.pieces.specs.declared.Bases.{Bases}
 use Rattle.records.specs.declared.Field.{Field}
 use Rattle.words.specs.Numbers.{on, off}
 use Rattle.words.specs.Runs.{part, put}

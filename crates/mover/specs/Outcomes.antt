@@ -6,8 +6,8 @@ use mathlib.Core.Path.{_≡_}
 use Prim.Native.Nat.{ℕ, _+_, _<_}
 use lib.ListN.{length, getD}
 use Rattle.acx.specs.Call.{settings, Loaded}
-use Rattle.acx.specs.Demand2.{Placed, In}
-use Rattle.acx.specs.Pieces.{Piece, size, placeOf, width, amountOf}
+use Rattle.pieces.specs.Places.{Placed, In}
+use Rattle.pieces.specs.Pieces.{Piece, size, placeOf, width, amountOf}
 use Rattle.answer.specs.declared.Fault.{Fault}
 use Rattle.answer.specs.declared.Fault.the-variants.{WrongBuffer}
 use Rattle.answer.specs.declared.Outcome.{Outcome}

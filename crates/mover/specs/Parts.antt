@@ -4,9 +4,9 @@ use mathlib.Core.List.{List}
 use mathlib.Core.Path.{_≡_}
 use Prim.Native.Nat.{ℕ, zero, suc, _+_, _≤_}
 use lib.ListN.{length, getD}
-use Rattle.acx.specs.Demand2.{Inside}
-use Rattle.acx.specs.Pieces.{edited}
-use Rattle.acx.specs.declared.Bases.{Bases}
+use Rattle.pieces.specs.Places.{Inside}
+use Rattle.pieces.specs.Pieces.{edited}
+use Rattle.pieces.specs.declared.Bases.{Bases}
 use Rattle.acx.specs.declared.Cursor.{Cursor}
 use Rattle.events.specs.Lists.{Each}
 use Rattle.records.specs.Fields.{fieldsOf}

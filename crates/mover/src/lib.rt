@@ -1,10 +1,10 @@
 // The ACX mover: it takes a handler that lives in memory from one pair of bases to another.
 // Two loads that only check decide whether it may. Then the handler's bytes are gathered from their old places into the scratch, where they
 // lie at their new places and have their fields adjusted, and only then go into memory: so old and new places may overlap in any way.
-use acx::Bases;
 use acx::Cursor;
 use answer::Fault;
 use answer::Outcome;
+use pieces::Bases;
 use records::Field;
 use records::Fixup;
 use records::Record;
@@ -15,8 +15,8 @@ ghost use Rattle.words.specs.Numbers.{on, off, change};
 ghost use Rattle.events.specs.Lists.{Each};
 ghost use Rattle.events.specs.Events.{blank};
 ghost use Rattle.records.specs.Fields.{fieldsOf, widthOf};
-ghost use Rattle.acx.specs.Pieces.{edited};
-ghost use Rattle.acx.specs.Demand2.{Inside};
+ghost use Rattle.pieces.specs.Pieces.{edited};
+ghost use Rattle.pieces.specs.Places.{Inside};
 ghost use Rattle.mover.specs.Move.{shift, transfer, moved};
 ghost use Rattle.mover.specs.Parts.{taken, Sound, Overlaid};
 ghost use Rattle.mover.specs.Call.{basesAt, call, loadAt, side as sideOf, rulingOf, Allows, piecesOf, mapBy, Judged, Done, Moved};
@@ -236,8 +236,8 @@ fn shift_fields(items: &[u8], fixup: Fixup, old: Bases, new: Bases, code: &mut [
         shift_field(
             code,
             field,
-            acx::amount(old, field),
-            acx::amount(new, field),
+            pieces::amount(old, field),
+            pieces::amount(new, field),
         );
         i += step;
     }
