@@ -63,7 +63,7 @@ module _ {m m₁ p₁ : List ℕ} {r : Outcome} where
     where
       by : (v : Verdict) → o .answer ≡ v → Carried o m (Refused fault at side) m₁ p′
       by (accepted ps start) f = absurd (false≢true (sym (ap isRefused (sym e ∙ d .answer ∙ ap (λ (v : Verdict). report v (o .events)) f))))
-      by (refused k i) f = record { outcome = sym e ∙ d .answer; memory = rw f (d .memory); map = rw f ep }
+      by (refused k i) f = record { outcome = sym e ∙ d .answer; memory = rw f (d .reached .memory); map = rw f ep }
 
   pub carried-accepted : {o : Ran Verdict} {start : Start} {i j k l : ℕ} {r₂ : Outcome} {m₂ p₂ : List ℕ}
       → Did Outcome (reported o) false m blank r m₁ p₁
@@ -72,7 +72,7 @@ module _ {m m₁ p₁ : List ℕ} {r : Outcome} where
     where
       by : (v : Verdict) → o .answer ≡ v → Carried o m r₂ m₂ p₂
       by (accepted ps start) f =
-          record { outcome = d₂ .answer; memory = rw f (d₂ .memory ∙ ap (λ (t : List ℕ). play (o .events) t) (d .memory)); map = rw f (d₂ .map) }
+          record { outcome = d₂ .answer; memory = rw f (d₂ .reached .memory ∙ ap (λ (t : List ℕ). play (o .events) t) (d .reached .memory)); map = rw f (d₂ .reached .map) }
       by (refused h a) f = absurd (false≢true (ap isRefused (sym e ∙ d .answer ∙ ap (λ (v : Verdict). report v (o .events)) f)))
 
 -- ---- the settings and the file's length

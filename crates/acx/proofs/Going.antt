@@ -81,7 +81,7 @@ module _ {file : List ℕ} {b : Bases} {first : ℕ} {write : Bool} {m₀ : List
       going-fails e =
           let go : ℕ → List Piece → Ran Verdict = λ e qs. from file b e qs in
           let o = one ∙ ap (λ (k : Check). judge go file b (c .at) (x .pieces) (checked file b (c .at) (x .pieces) .events) k found) e in
-          rw o (record { answer = refl; memory = now .memory; map = now .map })
+          rw o (record { answer = refl; reached = now })
 
       -- the start of an end record that passed is an address
       pub going-start : {entry : Entry} {next : ℕ} → r ≡ Passed → found ≡ End entry next → address (startOf b entry) ≤ 65535
@@ -105,7 +105,7 @@ module _ {file : List ℕ} {b : Bases} {first : ℕ} {write : Bool} {m₀ : List
           ∙ append-nil (events b ps) in
           let pl : c .placed ≡ placedIn es = ap (λ (k : Cursor). k .placed) (x .came .here) ∙ ap placedIn (sym z) in
           let ad : c .adjusted ≡ adjustedIn es = ap (λ (k : Cursor). k .adjusted) (x .came .here) ∙ ap adjustedIn (sym z) in
-          rw (o, pl, ad) (record { answer = refl; memory = now .memory; map = now .map })
+          rw (o, pl, ad) (record { answer = refl; reached = now })
 
       pub going-on : r ≡ Passed → Onward found → Going file b first write m₀ (advanced b c found) m′ p′
       going-on e o =

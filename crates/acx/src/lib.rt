@@ -21,9 +21,6 @@ ghost use Rattle.acx.specs.Walk.{from, opening as openingOf, openingSize
 ghost use Rattle.acx.specs.Cursor.{begun, advanced};
 ghost use Rattle.acx.specs.Call.{formOf, settings, usual, inRange, load as loadOf, Carried, Loaded};
 
-// The length of memory and of the map.
-const MEMORY: usize = 65536;
-
 // The most bytes that a file has.
 const FILE: usize = 65536;
 
@@ -59,10 +56,10 @@ pub fn load(
 ) -> Outcome
     ensures { λ r. ⌜ Loaded (settings form «main_base» «zero_base») (now (file .entry)) (now (memory .entry)) (now (map .entry)) r (now (memory .exit)) (now (map .exit)) ⌝ }
 {
-    if memory.len() != MEMORY {
+    if memory.len() != events::MEMORY {
         return answer::refused(Fault::WrongBuffer);
     }
-    if map.len() != MEMORY {
+    if map.len() != events::MEMORY {
         return answer::refused(Fault::WrongBuffer);
     }
     load_sized(form, file, main_base, zero_base, memory, map)

@@ -42,7 +42,7 @@ module _ {o : Ran Verdict} {m : List ℕ} {r : Outcome} {m₁ p₁ : List ℕ} (
       by (refused h i) f =
           record {
             outcome = rw f (ap (withSide n) (sym e ∙ d .answer ∙ ap (λ (v : Verdict). report v (o .events)) f));
-            memory = d .memory;
+            memory = d .reached .memory;
             map = rw f ep;
           }
 
@@ -52,7 +52,7 @@ module _ {o : Ran Verdict} {m : List ℕ} {r : Outcome} {m₁ p₁ : List ℕ} (
     where
       by : (v : Verdict) → o .answer ≡ v → Judged o (side n (o .answer)) m r m₁ p₁
       by (accepted ps start) f =
-          record { outcome = rw f (d .answer ∙ ap (λ (v : Verdict). report v (o .events)) f); memory = d .memory; map = rw f (d .map) }
+          record { outcome = rw f (d .answer ∙ ap (λ (v : Verdict). report v (o .events)) f); memory = d .reached .memory; map = rw f (d .reached .map) }
       by (refused h i) f = absurd (false≢true (ap isRefused (sym e ∙ d .answer ∙ ap (λ (v : Verdict). report v (o .events)) f)))
 
 -- ---- both sides

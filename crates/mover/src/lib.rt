@@ -14,15 +14,12 @@ ghost use lib.ListN.{length};
 ghost use Rattle.words.specs.Numbers.{on, off, change};
 ghost use Rattle.events.specs.Lists.{Each};
 ghost use Rattle.events.specs.Events.{blank};
-ghost use Rattle.records.specs.Fields.{fieldsOf, widthOf};
-ghost use Rattle.pieces.specs.Pieces.{edited};
+ghost use Rattle.records.specs.Fields.{fieldsOf};
+ghost use Rattle.pieces.specs.Pieces.{width, edited};
 ghost use Rattle.pieces.specs.Places.{Inside};
 ghost use Rattle.mover.specs.Move.{shift, transfer, moved};
 ghost use Rattle.mover.specs.Parts.{taken, Sound, Overlaid};
 ghost use Rattle.mover.specs.Call.{basesAt, call, loadAt, side as sideOf, rulingOf, Allows, piecesOf, mapBy, Judged, Done, Moved};
-
-// The length of memory, of the map and of the scratch.
-const MEMORY: usize = 65536;
 
 // A pair of bases as a call asks for it, in its range or not.
 pub struct Site {
@@ -42,13 +39,13 @@ pub fn move_handler(
 ) -> Outcome
     ensures { λ r. ⌜ Moved (now (file .entry)) (call form old new (now (map .entry)) (now (scratch .entry))) (now (memory .entry)) r (now (memory .exit)) (now (map .exit)) (now (scratch .exit)) ⌝ }
 {
-    if memory.len() != MEMORY {
+    if memory.len() != events::MEMORY {
         return answer::refused(Fault::WrongBuffer);
     }
-    if map.len() != MEMORY {
+    if map.len() != events::MEMORY {
         return answer::refused(Fault::WrongBuffer);
     }
-    if scratch.len() != MEMORY {
+    if scratch.len() != events::MEMORY {
         return answer::refused(Fault::WrongBuffer);
     }
     move_sized(form, file, old, new, memory, map, scratch)
@@ -159,7 +156,7 @@ fn commit(map: &[u8], scratch: &[u8], memory: &mut [u8])
     ensures { λ _. ⌜ Overlaid (now (map .entry)) (now (scratch .entry)) (now (memory .entry)) (now (memory .exit)) ⌝ }
 {
     let mut x = 0;
-    while x < MEMORY {
+    while x < events::MEMORY {
         if map[x] != 0 {
             memory[x] = scratch[x];
         }
@@ -243,18 +240,13 @@ fn shift_fields(items: &[u8], fixup: Fixup, old: Bases, new: Bases, code: &mut [
     }
 }
 
-// One amount off a field of the code, another on.
+// Takes one amount off a field of the code and puts another on.
 fn shift_field(code: &mut [u8], field: Field, old: u16, new: u16)
-    requires { ⌜ field .index + widthOf (field .fixup) ≤ length (now code) ⌝ }
-    ensures { λ _. ⌜ now (code .exit) ≡ change (widthOf (field .fixup)) (λ v. on (widthOf (field .fixup)) new (off (widthOf (field .fixup)) old v)) (now (code .entry)) (field .index) ⌝ }
+    requires { ⌜ Inside (length (now code)) field ⌝ }
+    ensures { λ _. ⌜ now (code .exit) ≡ change (width field) (λ v. on (width field) new (off (width field) old v)) (now (code .entry)) (field .index) ⌝ }
 {
     let fixup = field.fixup;
-    let width = records::width(fixup);
-    if width == 1 {
-        words::take_off_byte(code, field.index, old);
-        words::add_to_byte(code, field.index, new);
-        return;
-    }
-    words::take_off_word(code, field.index, old);
-    words::add_to_word(code, field.index, new);
+    let size = records::width(fixup);
+    words::take_off(code, field.index, size, old);
+    words::add(code, field.index, size, new);
 }

@@ -15,16 +15,14 @@ use Rattle.events.proofs.Events.{did-none, filled}
 use Rattle.events.specs.Events.{Event, place, play, adjustedMark, markOne, marks, Ran, failed, playIf, Reached, Did}
 use Rattle.events.specs.declared.Check.{Check}
 use Rattle.events.specs.declared.Check.the-variants.{Passed, Failed}
-use Rattle.records.specs.Fields.{widthOf}
 use Rattle.records.specs.declared.Field.{Field}
-use Rattle.records.specs.declared.Fixup.{Fixup}
-use Rattle.records.specs.declared.Fixup.the-variants.{Low, Page, Word, High}
 use Rattle.records.specs.declared.Kind.{Kind}
 use Rattle.records.specs.declared.Kind.the-variants.{Main, ZeroPage, Absolute}
 use Rattle.words.proofs.Lent.{lent-is, back-changed}
 use Rattle.words.specs.Numbers.{on, change}
 use Rattle.words.specs.Runs.{part, put, allZero, contains}
 use Rattle.pieces.specs.AtBases.{placing, adjusting}
+use Rattle.pieces.specs.Places.{Inside}
 use Rattle.pieces.specs.Pieces.{limitOf, width, amountOf, adjustment, adjustments}
 use Rattle.pieces.specs.declared.Bases.{Bases}
 
@@ -46,13 +44,16 @@ need-passed false fault o e = absurd (failed-passed fault e)
 -- ---- a part that was lent
 
 -- a part of memory that a field was adjusted in
-pub added : (b : Bases) (a n : ℕ) (f : Field) (x : ℕ) (m w : List ℕ) (write : Bool) → write ≡ true → x ≡ amountOf b f → a + n ≤ length m
-    → f .index + width f ≤ n
-    → w ≡ change (width f) (on (width f) x) (midOf a (a + n - a) m) (f .index) → putMid a (a + n - a) m w ≡ playIf write (adjustment b a f ∷ []) m
+-- (the program has the field's width as a number k, and its amount as a number x)
+pub added : (b : Bases) (a n : ℕ) (f : Field) (k x : ℕ) (m w : List ℕ) (write : Bool) → write ≡ true → k ≡ width f → x ≡ amountOf b f
+    → a + n ≤ length m
+    → Inside n f
+    → w ≡ change k (on k x) (midOf a (a + n - a) m) (f .index) → putMid a (a + n - a) m w ≡ playIf write (adjustment b a f ∷ []) m
 unfolding play
-added b a n f x m w write t ex h i e =
+added b a n f k x m w write t ek ex h i e =
+    let e′ : w ≡ change (width f) (on (width f) x) (midOf a (a + n - a) m) (f .index) = rw ek at e in
     rw t
-    (back-changed (width f) (on (width f) x) a n m w (f .index) h i e
+    (back-changed (width f) (on (width f) x) a n m w (f .index) h i e′
     ∙ ap (λ (y : ℕ). change (width f) (on (width f) y) m (a + f .index)) ex)
 
 -- ---- code
@@ -81,7 +82,7 @@ module _ (a limit : ℕ) (code : List ℕ) (write : Bool) (m p : List ℕ) where
   unfolding placing need
   placing-done m′ p′ h z r =
       let z′ : allZero (part p a (length code)) ≡ true = rw (lent-is a (length code) p) at z in
-      rw (le-leb _ _ h, z′) (record { answer = refl; memory = r .memory; map = r .map })
+      rw (le-leb _ _ h, z′) (record { answer = refl; reached = r })
 
 -- code that passed has room below its limit, found nothing placed there, and is placed
 pub placing-passed : (a limit : ℕ) (code p : List ℕ) → placing a limit code p .answer ≡ Passed
@@ -93,13 +94,6 @@ placing-passed a limit code p e =
     (leb-true _ _ (x .0), y .0, ap (λ (o : Ran Check). o .events) (x .1 ∙ y .1))
 
 -- ---- fields
-
--- a field has two bytes at most
-pub width-le : (fixup : Fixup) → widthOf fixup ≤ 2
-width-le Low = omega arith
-width-le Page = omega arith
-width-le Word = omega arith
-width-le High = omega arith
 
 -- (the program has the field's width as a number k)
 module _ (b : Bases) (a n : ℕ) (f : Field) (write : Bool) (m p : List ℕ) (k : ℕ) (ek : k ≡ width f) where
@@ -126,7 +120,10 @@ module _ (b : Bases) (a n : ℕ) (f : Field) (write : Bool) (m p : List ℕ) (k 
       let u : contains adjustedMark (part p (a + f .index) (width f)) ≡ false = rw (lent-is (a + f .index) k p, ek) at t in
       let e = filled (a + f .index) k adjustedMark p w l ew in
       rw (le-leb _ _ g, u)
-      (record { answer = refl; memory = em; map = e ∙ ap (λ (j : ℕ). put p (a + f .index) (replicate j adjustedMark)) ek })
+      (record {
+        answer = refl;
+        reached = record { memory = em; map = e ∙ ap (λ (j : ℕ). put p (a + f .index) (replicate j adjustedMark)) ek };
+      })
 
 -- a field that passed lies in the code, has no byte that was adjusted before, and is adjusted before the others
 pub adjusting-passed : (b : Bases) (a n : ℕ) (f : Field) (fs : List Field) (p : List ℕ) → adjusting b a n (f ∷ fs) p .answer ≡ Passed

@@ -11,31 +11,28 @@ use Rattle.answer.specs.Checks.{need}
 use Rattle.answer.specs.declared.Fault.{Fault}
 use Rattle.answer.specs.declared.Fault.the-variants.{FieldNotLoaded, AdjustedTwice}
 use Rattle.events.proofs.Events.{reached-none, reached-more}
+use Rattle.events.specs.Walk.{after}
 use Rattle.events.specs.Events.{Event, markOne, marks, Ran, failed, passed, Reached, Did}
 use Rattle.events.specs.declared.Check.{Check}
 use Rattle.events.specs.declared.Check.the-variants.{Passed, Failed}
 use Rattle.records.proofs.Listing.{fields-more, fields-none}
-use Rattle.records.specs.Fields.{itemSize, fieldAt, fieldsOf}
+use Rattle.records.specs.Fields.{itemSize, fieldsOf}
 use Rattle.records.specs.declared.Field.{Field}
 use Rattle.records.specs.declared.Fixup.{Fixup}
 use Rattle.records.specs.declared.Fixup.the-variants.{Low, Page, Word, High}
 use Rattle.words.specs.Runs.{part, contains}
 use Rattle.pieces.proofs.Checks.{adjusting-all}
-use Rattle.pieces.specs.AtBases.{first, adjusting}
+use Rattle.pieces.specs.AtBases.{adjusting}
 use Rattle.pieces.specs.Pieces.{width, adjustment, adjustments}
 use Rattle.pieces.specs.declared.Bases.{Bases}
 
--- what a part comes to after the events es
-abbrev behind : List Event → Ran Check → Ran Check
-behind es o = record { answer = o .answer; events = es ++ o .events }
-
 -- the rest where a part passed, and nothing more where it failed
 abbrev chain : Check → List Event → Ran Check → Ran Check
-chain Passed es rest = behind es rest
+chain Passed es rest = after es rest
 chain (Failed fault) es rest = record { answer = Failed fault; events = es }
 
 chain-needs : (c d : Bool) (e : Event) (rest : Ran Check)
-    → need failed c FieldNotLoaded (need failed d AdjustedTwice (first e rest))
+    → need failed c FieldNotLoaded (need failed d AdjustedTwice (after (e ∷ []) rest))
     ≡ chain (need failed c FieldNotLoaded (need failed d AdjustedTwice (passed (e ∷ []))) .answer)
     (need failed c FieldNotLoaded (need failed d AdjustedTwice (passed (e ∷ []))) .events) rest
 unfolding need
@@ -56,7 +53,7 @@ one-field b a n f fs p =
 pub record Adjusting (b : Bases) (a n : ℕ) (write : Bool) (all : List Field) (m₀ p₀ : List ℕ) (rest : List Field) (m p : List ℕ) : Type 0 where
   pub es : List Event
   pub reached : Reached es write m₀ p₀ m p
-  pub same : adjusting b a n all p₀ ≡ behind es (adjusting b a n rest p)
+  pub same : adjusting b a n all p₀ ≡ after es (adjusting b a n rest p)
 
 module _ {b : Bases} {a n : ℕ} {write : Bool} {all : List Field} {m₀ p₀ : List ℕ} where
   pub adjusting-none : Adjusting b a n write all m₀ p₀ all m₀ p₀
@@ -65,12 +62,12 @@ module _ {b : Bases} {a n : ℕ} {write : Bool} {all : List Field} {m₀ p₀ : 
   module _ {f : Field} {rest rest′ : List Field} {m p m′ p′ : List ℕ} {r : Check} (left : rest ≡ f ∷ rest′)
       (x : Adjusting b a n write all m₀ p₀ rest m p) (d : Did Check (adjusting b a n (f ∷ []) p) write m p r m′ p′) where
     one : adjusting b a n all p₀
-        ≡ behind (x .es) (chain r (adjusting b a n (f ∷ []) p .events) (adjusting b a n rest′ (markOne (adjustment b a f) p)))
+        ≡ after (x .es) (chain r (adjusting b a n (f ∷ []) p .events) (adjusting b a n rest′ (markOne (adjustment b a f) p)))
     one =
         x .same
-        ∙ ap (λ (fs : List Field). behind (x .es) (adjusting b a n fs p)) left
-        ∙ ap (behind (x .es)) (one-field b a n f rest′ p)
-        ∙ ap (λ (c : Check). behind (x .es)
+        ∙ ap (λ (fs : List Field). after (x .es) (adjusting b a n fs p)) left
+        ∙ ap (after (x .es)) (one-field b a n f rest′ p)
+        ∙ ap (λ (c : Check). after (x .es)
         (chain c (adjusting b a n (f ∷ []) p .events) (adjusting b a n rest′ (markOne (adjustment b a f) p)))) (sym (d .answer))
 
     pub adjusting-more : r ≡ Passed → Adjusting b a n write all m₀ p₀ rest′ m′ p′
@@ -78,14 +75,14 @@ module _ {b : Bases} {a n : ℕ} {write : Bool} {all : List Field} {m₀ p₀ : 
     adjusting-more e =
         let es = adjusting b a n (f ∷ []) p .events in
         let only : es ≡ adjustment b a f ∷ [] = adjusting-all b a n (f ∷ []) p (sym (d .answer) ∙ e) in
-        let here : markOne (adjustment b a f) p ≡ p′ = sym (d .map ∙ ap (λ (l : List Event). marks l p) only) in
+        let here : markOne (adjustment b a f) p ≡ p′ = sym (d .reached .map ∙ ap (λ (l : List Event). marks l p) only) in
         record {
           es = x .es ++ es;
           reached = reached-more (x .es) write m₀ p₀ m p m′ p′ _ r (x .reached) d;
           same =
               one
-              ∙ ap (λ (c : Check). behind (x .es) (chain c es (adjusting b a n rest′ (markOne (adjustment b a f) p)))) e
-              ∙ ap (λ (l : List ℕ). behind (x .es) (behind es (adjusting b a n rest′ l))) here
+              ∙ ap (λ (c : Check). after (x .es) (chain c es (adjusting b a n rest′ (markOne (adjustment b a f) p)))) e
+              ∙ ap (λ (l : List ℕ). after (x .es) (after es (adjusting b a n rest′ l))) here
               ∙ ap (λ (l : List Event). record { answer = adjusting b a n rest′ p′ .answer; events = l })
               (sym (append-assoc (x .es) es (adjusting b a n rest′ p′ .events)));
         }
@@ -93,9 +90,9 @@ module _ {b : Bases} {a n : ℕ} {write : Bool} {all : List Field} {m₀ p₀ : 
     pub adjusting-fails : {fault : Fault} → r ≡ Failed fault → Did Check (adjusting b a n all p₀) write m₀ p₀ (Failed fault) m′ p′
     adjusting-fails e =
         let y = reached-more (x .es) write m₀ p₀ m p m′ p′ _ r (x .reached) d in
-        let z = one ∙ ap (λ (c : Check). behind (x .es)
+        let z = one ∙ ap (λ (c : Check). after (x .es)
         (chain c (adjusting b a n (f ∷ []) p .events) (adjusting b a n rest′ (markOne (adjustment b a f) p)))) e in
-        rw z (record { answer = refl; memory = y .memory; map = y .map })
+        rw z (record { answer = refl; reached = y })
 
   pub adjusting-end : {rest : List Field} {m p : List ℕ} → rest ≡ [] → Adjusting b a n write all m₀ p₀ rest m p
       → Did Check (adjusting b a n all p₀) write m₀ p₀ Passed m p
@@ -103,9 +100,9 @@ module _ {b : Bases} {a n : ℕ} {write : Bool} {all : List Field} {m₀ p₀ : 
   adjusting-end {rest} {m} {p} e x =
       let z : adjusting b a n all p₀ ≡ record { answer = Passed; events = x .es } =
       x .same
-      ∙ ap (λ (fs : List Field). behind (x .es) (adjusting b a n fs p)) e
+      ∙ ap (λ (fs : List Field). after (x .es) (adjusting b a n fs p)) e
       ∙ ap (λ (l : List Event). record { answer = Passed; events = l }) (append-nil (x .es)) in
-      rw z (record { answer = refl; memory = x .reached .memory; map = x .reached .map })
+      rw z (record { answer = refl; reached = x .reached })
 
 -- ---- the fields from the item at i on (the program has the size of an item as a number k)
 
@@ -116,11 +113,12 @@ item-le Page = omega arith
 item-le Word = omega arith
 item-le High = omega arith
 
-pub next-field : (fixup : Fixup) (items : List ℕ) (i k : ℕ) (f : Field) → k ≡ itemSize fixup → i + k ≤ length items → f ≡ fieldAt fixup items i
+pub next-field : (fixup : Fixup) (items : List ℕ) (i k : ℕ) (f : Field) → k ≡ itemSize fixup → i + k ≤ length items
+    → f ∷ [] ≡ fieldsOf fixup (part items i (itemSize fixup))
     → fieldsOf fixup (drop i items) ≡ f ∷ fieldsOf fixup (drop (i + k) items)
 next-field fixup items i k f ek h ef =
     let g : i + itemSize fixup ≤ length items = rw (← ek) h in
-    rw (ef, ek) (fields-more fixup items i g)
+    rw ek (fields-more fixup items i f g ef)
 
 pub last-field : (fixup : Fixup) (items : List ℕ) (i k : ℕ) → k ≡ itemSize fixup → length items < i + k → fieldsOf fixup (drop i items) ≡ []
 last-field fixup items i k ek h =

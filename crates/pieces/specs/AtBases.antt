@@ -10,7 +10,8 @@ use Rattle.answer.specs.Report.{address as addressOf}
 use Rattle.answer.specs.declared.Fault.the-variants.{DoesNotFit, PiecesOverlap, FieldNotLoaded, AdjustedTwice, StartTooHigh, BytesAfterEnd}
 use Rattle.answer.specs.declared.Start.{Start}
 use Rattle.answer.specs.declared.Start.the-variants.{Absent, At}
-use Rattle.events.specs.Events.{Event, place, adjustedMark, markOne, Ran, failed, passed}
+use Rattle.events.specs.Events.{place, adjustedMark, markOne, Ran, failed, passed}
+use Rattle.events.specs.Walk.{after}
 use Rattle.events.specs.declared.Check.{Check}
 use Rattle.records.specs.Fields.{fieldsOf}
 use Rattle.records.specs.declared.Entry.{Entry}
@@ -29,16 +30,13 @@ placing a limit code map =
     (need failed (allZero (part map a (length code))) PiecesOverlap
     (passed (place a code ∷ [])))
 
-abbrev pub first : Event → Ran Check → Ran Check
-first e rest = record { answer = rest .answer; events = e ∷ rest .events }
-
 -- the fields of n code bytes at a place, "Item by item: index inside the record, for words index + 1 too (12); no byte adjusted before (13)"
 unfoldable pub adjusting : Bases → ℕ → ℕ → List Field → List ℕ → Ran Check
 adjusting b a n [] map = passed []
 adjusting b a n (f ∷ fs) map =
     need failed (leb (f .index + width f) n) FieldNotLoaded
     (need failed (not (contains adjustedMark (part map (a + f .index) (width f)))) AdjustedTwice
-    (first (adjustment b a f) (adjusting b a n fs (markOne (adjustment b a f) map))))
+    (after (adjustment b a f ∷ []) (adjusting b a n fs (markOne (adjustment b a f) map))))
 
 -- "flag 0 none, 1 absolute, 2 plus main base"
 abbrev pub startOf : Bases → Entry → Start

@@ -11,21 +11,15 @@ ghost use mathlib.Core.List.{[], _∷_};
 ghost use mathlib.Core.Path.{_≡_};
 ghost use Prim.Native.Nat.{_+_, _<_, _≤_};
 ghost use lib.ListN.{length};
-ghost use Rattle.words.specs.Numbers.{on, change};
 ghost use Rattle.answer.specs.Report.{address as addressOf};
 ghost use Rattle.events.specs.Events.{playIf, Did};
-ghost use Rattle.records.specs.Fields.{fieldsOf, widthOf};
+ghost use Rattle.records.specs.Fields.{fieldsOf};
 ghost use Rattle.pieces.specs.Pieces.{placeAt, limitOf, amountOf, adjustment};
+ghost use Rattle.pieces.specs.Places.{Inside};
 ghost use Rattle.pieces.specs.AtBases.{placing, adjusting, ending, startOf, EndsBy, applied};
-
-// The length of memory and of the map.
-const MEMORY: usize = 65536;
 
 // Where zero page ends.
 const ZERO_PAGE: usize = 256;
-
-// The mark of a byte that was adjusted.
-const ADJUSTED: u8 = 3;
 
 // What the addresses of relocatable records count from.
 pub struct Bases {
@@ -123,9 +117,9 @@ fn limit(kind: Kind) -> usize
     ensures { λ r. ⌜ (r ≡ limitOf kind) × (r ≤ 65536) ⌝ }
 {
     match kind {
-        Kind::Main => MEMORY,
+        Kind::Main => events::MEMORY,
         Kind::ZeroPage => ZERO_PAGE,
-        Kind::Absolute => MEMORY,
+        Kind::Absolute => events::MEMORY,
     }
 }
 
@@ -200,37 +194,37 @@ fn adjust_field(
     }
     let at = place + field.index;
     let past = at + width;
-    let adjusted = words::contains(&map[at..past], ADJUSTED);
+    let adjusted = words::contains(&map[at..past], events::ADJUSTED);
     if adjusted {
         return Check::Failed(Fault::AdjustedTwice);
     }
-    words::fill(&mut map[at..past], ADJUSTED);
+    words::fill(&mut map[at..past], events::ADJUSTED);
     write_field(field, bases, place, size, write, memory);
     Check::Passed
 }
 
-// Adjusts the field in memory, where `write` is true.
-fn write_field(field: Field, bases: Bases, at: usize, size: usize, write: bool, memory: &mut [u8])
-    requires { ⌜ (field .lsb < 256) × (field .index + widthOf (field .fixup) ≤ size) × (at + size ≤ length (now memory)) ⌝ }
-    ensures { λ _. ⌜ now (memory .exit) ≡ playIf write (adjustment bases at field ∷ []) (now (memory .entry)) ⌝ }
+// Adjusts a field of the `size` code bytes at `place` in memory, where `write` is true.
+fn write_field(
+    field: Field,
+    bases: Bases,
+    place: usize,
+    size: usize,
+    write: bool,
+    memory: &mut [u8],
+)
+    requires { ⌜ (field .lsb < 256) × Inside size field × (place + size ≤ length (now memory)) ⌝ }
+    ensures { λ _. ⌜ now (memory .exit) ≡ playIf write (adjustment bases place field ∷ []) (now (memory .entry)) ⌝ }
 {
     if write {
-        let end = at + size;
-        add(&mut memory[at..end], field, amount(bases, field));
-    }
-}
-
-// Puts an amount on a field of the code.
-fn add(code: &mut [u8], field: Field, amount: u16)
-    requires { ⌜ field .index + widthOf (field .fixup) ≤ length (now code) ⌝ }
-    ensures { λ _. ⌜ now (code .exit) ≡ change (widthOf (field .fixup)) (on (widthOf (field .fixup)) amount) (now (code .entry)) (field .index) ⌝ }
-{
-    let fixup = field.fixup;
-    match fixup {
-        Fixup::Low => words::add_to_byte(code, field.index, amount),
-        Fixup::Page => words::add_to_byte(code, field.index, amount),
-        Fixup::Word => words::add_to_word(code, field.index, amount),
-        Fixup::High => words::add_to_byte(code, field.index, amount),
+        let fixup = field.fixup;
+        let width = records::width(fixup);
+        let end = place + size;
+        words::add(
+            &mut memory[place..end],
+            field.index,
+            width,
+            amount(bases, field),
+        );
     }
 }
 

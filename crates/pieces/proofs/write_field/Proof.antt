@@ -5,6 +5,9 @@ use Rattle.pieces.proofs.Checks.{added}
 use Rattle.pieces.proofs.write_field.Statement.{statement}
 use Rattle.pieces.proofs.write_field.Tie as tie
 
+width-requires : tie.Need-width-requires
+width-requires c κs = search needs
+
 add-end : tie.Need-add-end
 add-end c = search needs
 
@@ -28,8 +31,9 @@ same-length c = search needs
 
 returns : tie.Need-returns
 returns c =
-    let s = c .before .before .before .before .before .before .before in
-    added _ _ _ _ _ _ _ _ (c .before .before .before .before .before .if1 .taken) (c .before .before .before .amount .ensures) (s .pre .2)
+    let w = c .before .before .before .before .before in
+    let s = w .before .before .before in
+    added _ _ _ _ _ _ _ _ _ (w .before .if1 .taken) (w .width .ensures .0) (c .before .before .before .amount .ensures) (s .pre .2)
     (s .pre .1) (c .before .before .add .ensures)
 
 returns-2 : tie.Need-returns-2
@@ -39,6 +43,7 @@ pub write-field-spec : {M : Type 1} → statement M
 write-field-spec =
     tie.close
     (tie.spec
+    width-requires
     add-end
     sub-add
     part-add-start
