@@ -9,6 +9,7 @@ use pieces::Bases;
 use records::Entry;
 use records::Last;
 use records::Record;
+ghost use mathlib.Core.Bool.{true};
 ghost use mathlib.Core.List.{[]};
 ghost use mathlib.Core.Path.{_≡_};
 ghost use Prim.Native.Nat.{_+_, _<_, _≤_};
@@ -16,10 +17,11 @@ ghost use lib.ListN.{length};
 ghost use Rattle.answer.specs.Report.{address as addressOf};
 ghost use Rattle.answer.specs.declared.Outcome.the-variants.{Accepted};
 ghost use Rattle.events.specs.Events.{blank, Did};
+ghost use Rattle.pieces.specs.Pieces.{basesAt};
 ghost use Rattle.pieces.specs.AtBases.{startOf, EndsBy};
 ghost use Rattle.acx.specs.Walk.{from, opening as openingOf, openingSize, judged, reported};
 ghost use Rattle.acx.specs.Cursor.{begun, advanced};
-ghost use Rattle.acx.specs.Call.{formOf, settings, usual, inRange, load as loadOf, Carried, Loaded};
+ghost use Rattle.acx.specs.Call.{formOf, usual, inRange, sized, load as loadOf, Loaded};
 
 // The most bytes that a file has.
 const FILE: usize = 65536;
@@ -54,7 +56,7 @@ pub fn load(
     memory: &mut [u8],
     map: &mut [u8],
 ) -> Outcome
-    ensures { λ r. ⌜ Loaded (settings form «main_base» «zero_base») (now (file .entry)) (now (memory .entry)) (now (map .entry)) r (now (memory .exit)) (now (map .exit)) ⌝ }
+    ensures { λ r. ⌜ Loaded form (basesAt «main_base» «zero_base») (now (file .entry)) (sized (now (memory .entry)) (now (map .entry))) (now (memory .entry)) (now (map .entry)) r (now (memory .exit)) (now (map .exit)) ⌝ }
 {
     if memory.len() != events::MEMORY {
         return answer::refused(Fault::WrongBuffer);
@@ -67,7 +69,7 @@ pub fn load(
 
 // Loads a file at the usual bases.
 pub fn load_usual(form: u32, file: &[u8], memory: &mut [u8], map: &mut [u8]) -> Outcome
-    ensures { λ r. ⌜ Loaded (usual form) (now (file .entry)) (now (memory .entry)) (now (map .entry)) r (now (memory .exit)) (now (map .exit)) ⌝ }
+    ensures { λ r. ⌜ Loaded form usual (now (file .entry)) (sized (now (memory .entry)) (now (map .entry))) (now (memory .entry)) (now (map .entry)) r (now (memory .exit)) (now (map .exit)) ⌝ }
 {
     load(form, file, USUAL_MAIN_BASE, USUAL_ZERO_BASE, memory, map)
 }
@@ -84,11 +86,11 @@ pub fn walk_call(
     map: &mut [u8],
 ) -> Outcome
     requires { ⌜ (length (now memory) ≡ 65536) × (length (now map) ≡ 65536) ⌝ }
-    ensures { λ r. ⌜ Did Outcome (reported (loadOf (settings form «main_base» «zero_base») (now (file .entry)))) write (now (memory .entry)) blank r (now (memory .exit)) (now (map .exit)) ⌝ }
+    ensures { λ r. ⌜ Did Outcome (reported (loadOf form (basesAt «main_base» «zero_base») (now (file .entry)))) write (now (memory .entry)) blank r (now (memory .exit)) (now (map .exit)) ⌝ }
 {
     words::fill(map, 0);
-    let known = in_range(form, main_base, zero_base);
-    if !known {
+    let ranged = in_range(form, main_base, zero_base);
+    if !ranged {
         return answer::refused(Fault::SettingOutOfRange);
     }
     if FILE < file.len() {
@@ -178,7 +180,7 @@ fn load_sized(
     map: &mut [u8],
 ) -> Outcome
     requires { ⌜ (length (now memory) ≡ 65536) × (length (now map) ≡ 65536) ⌝ }
-    ensures { λ r. ⌜ Carried (loadOf (settings form «main_base» «zero_base») (now (file .entry))) (now (memory .entry)) r (now (memory .exit)) (now (map .exit)) ⌝ }
+    ensures { λ r. ⌜ Loaded form (basesAt «main_base» «zero_base») (now (file .entry)) true (now (memory .entry)) (now (map .entry)) r (now (memory .exit)) (now (map .exit)) ⌝ }
 {
     let checked = walk_call(form, file, main_base, zero_base, false, memory, map);
     if let Outcome::Refused {
@@ -198,7 +200,7 @@ fn load_sized(
 
 // Whether the settings of a call are in their ranges.
 fn in_range(form: u32, main_base: u32, zero_base: u32) -> bool
-    ensures { λ r. ⌜ r ≡ inRange (settings form «main_base» «zero_base») ⌝ }
+    ensures { λ r. ⌜ r ≡ inRange form (basesAt «main_base» «zero_base») ⌝ }
 {
     if 1 < form {
         return false;

@@ -39,9 +39,9 @@ use Rattle.records.specs.declared.Record.the-variants.{Code, Fixups, End, Fault
 use Rattle.words.proofs.Lent.{lent-is, back-is}
 use Rattle.words.proofs.Runs.{length-part, length-put, part-put, put-put}
 use Rattle.words.specs.Runs.{part, put}
-use Rattle.mover.proofs.Rulings.{follows, verdict, allows-is, both}
-use Rattle.mover.specs.Call.{rulingOf, Allows, piecesOf}
-use Rattle.mover.specs.Move.{shift, carried, transfer}
+use Rattle.moves.proofs.Rulings.{follows, verdict, allows-is, both}
+use Rattle.moves.specs.Call.{rulingOf, Allows, piecesOf}
+use Rattle.moves.specs.Move.{shift, carried, transfer}
 use Rattle.mover.specs.Parts.{taken, Sound}
 
 -- ---- the file

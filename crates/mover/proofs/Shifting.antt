@@ -12,7 +12,7 @@ use Rattle.records.specs.declared.Field.{Field}
 use Rattle.words.proofs.Changes.{length-change, change-change}
 use Rattle.words.proofs.Numbers.{off-lt}
 use Rattle.words.specs.Numbers.{value, on, off, change}
-use Rattle.mover.specs.Move.{shift}
+use Rattle.moves.specs.Move.{shift}
 
 -- one amount off a field of the width w, another on (the program has the width as a number k)
 pub shifted-field : (w k old new : ℕ) (l m n : List ℕ) (i : ℕ) → w ≡ k → i + w ≤ length l → m ≡ change k (off k old) l i

@@ -8,6 +8,7 @@ use pieces::Bases;
 use records::Field;
 use records::Fixup;
 use records::Record;
+ghost use mathlib.Core.Bool.{true};
 ghost use mathlib.Core.Path.{_≡_};
 ghost use Prim.Native.Nat.{_+_, _≤_};
 ghost use lib.ListN.{length};
@@ -17,9 +18,10 @@ ghost use Rattle.events.specs.Events.{blank};
 ghost use Rattle.records.specs.Fields.{fieldsOf};
 ghost use Rattle.pieces.specs.Pieces.{width, edited};
 ghost use Rattle.pieces.specs.Places.{Inside};
-ghost use Rattle.mover.specs.Move.{shift, transfer, moved};
-ghost use Rattle.mover.specs.Parts.{taken, Sound, Overlaid};
-ghost use Rattle.mover.specs.Call.{basesAt, call, loadAt, side as sideOf, rulingOf, Allows, piecesOf, mapBy, Judged, Done, Moved};
+ghost use Rattle.acx.specs.Call.{load as loadOf};
+ghost use Rattle.moves.specs.Move.{shift, transfer, moved};
+ghost use Rattle.mover.specs.Parts.{basesOf, Judged, Done, taken, Sound, Overlaid};
+ghost use Rattle.moves.specs.Call.{callOf, side as sideOf, rulingOf, Allows, piecesOf, mapBy, Moved};
 
 // A pair of bases as a call asks for it, in its range or not.
 pub struct Site {
@@ -37,7 +39,7 @@ pub fn move_handler(
     map: &mut [u8],
     scratch: &mut [u8],
 ) -> Outcome
-    ensures { λ r. ⌜ Moved (now (file .entry)) (call form old new (now (map .entry)) (now (scratch .entry))) (now (memory .entry)) r (now (memory .exit)) (now (map .exit)) (now (scratch .exit)) ⌝ }
+    ensures { λ r. ⌜ Moved (now (file .entry)) (callOf form (basesOf old) (basesOf new) (now (map .entry)) (now (scratch .entry)) true) (now (memory .entry)) r (now (memory .exit)) (now (map .exit)) (now (scratch .exit)) ⌝ }
 {
     if memory.len() != events::MEMORY {
         return answer::refused(Fault::WrongBuffer);
@@ -62,7 +64,7 @@ fn move_sized(
     scratch: &mut [u8],
 ) -> Outcome
     requires { ⌜ (length (now memory) ≡ 65536) × (length (now map) ≡ 65536) × (length (now scratch) ≡ 65536) ⌝ }
-    ensures { λ r. ⌜ Done form (basesAt old) (basesAt new) (now (file .entry)) (now (memory .entry)) r (now (memory .exit)) (now (map .exit)) (now (scratch .exit)) ⌝ }
+    ensures { λ r. ⌜ Done form (basesOf old) (basesOf new) (now (file .entry)) (now (memory .entry)) r (now (memory .exit)) (now (map .exit)) (now (scratch .exit)) ⌝ }
 {
     let outcome = judge(form, file, old, new, memory, map);
     if let Outcome::Refused {
@@ -80,7 +82,7 @@ fn move_sized(
 // The bases of a site that is in its range.
 fn bases(site: Site) -> Bases
     requires { ⌜ (site .main ≤ 65535) × (site .zero ≤ 65535) ⌝ }
-    ensures { λ r. ⌜ r ≡ basesAt site ⌝ }
+    ensures { λ r. ⌜ r ≡ basesOf site ⌝ }
 {
     Bases {
         main: site.main as u16,
@@ -91,7 +93,7 @@ fn bases(site: Site) -> Bases
 // Whether the handler may move: the load at the old bases, then the one at the new, which leaves the map.
 fn judge(form: u32, file: &[u8], old: Site, new: Site, memory: &mut [u8], map: &mut [u8]) -> Outcome
     requires { ⌜ (length (now memory) ≡ 65536) × (length (now map) ≡ 65536) ⌝ }
-    ensures { λ r. ⌜ Judged (loadAt form (basesAt new) (now (file .entry))) (rulingOf form (basesAt old) (basesAt new) (now (file .entry))) (now (memory .entry)) r (now (memory .exit)) (now (map .exit)) ⌝ }
+    ensures { λ r. ⌜ Judged (loadOf form (basesOf new) (now (file .entry))) (rulingOf form (basesOf old) (basesOf new) (now (file .entry))) (now (memory .entry)) r (now (memory .exit)) (now (map .exit)) ⌝ }
 {
     let at_old = judge_side(form, file, old, 0, memory, map);
     if let Outcome::Refused {
@@ -114,7 +116,7 @@ fn judge_side(
     map: &mut [u8],
 ) -> Outcome
     requires { ⌜ (length (now memory) ≡ 65536) × (length (now map) ≡ 65536) ⌝ }
-    ensures { λ r. ⌜ Judged (loadAt form (basesAt site) (now (file .entry))) (sideOf side (loadAt form (basesAt site) (now (file .entry)) .answer)) (now (memory .entry)) r (now (memory .exit)) (now (map .exit)) ⌝ }
+    ensures { λ r. ⌜ Judged (loadOf form (basesOf site) (now (file .entry))) (sideOf side (loadOf form (basesOf site) (now (file .entry)) .answer)) (now (memory .entry)) r (now (memory .exit)) (now (map .exit)) ⌝ }
 {
     let outcome = acx::walk_call(form, file, site.main, site.zero, false, memory, map);
     if let Outcome::Refused {
@@ -142,7 +144,7 @@ fn carry(
     memory: &mut [u8],
     scratch: &mut [u8],
 )
-    requires { ⌜ Allows (rulingOf form old new (now file)) × (now map ≡ mapBy (loadAt form new (now file)) (rulingOf form old new (now file))) × (length (now memory) ≡ 65536) × (length (now scratch) ≡ 65536) ⌝ }
+    requires { ⌜ Allows (rulingOf form old new (now file)) × (now map ≡ mapBy (loadOf form new (now file)) (rulingOf form old new (now file))) × (length (now memory) ≡ 65536) × (length (now scratch) ≡ 65536) ⌝ }
     ensures { λ _. ⌜ (now (memory .exit) ≡ moved old new (piecesOf (rulingOf form old new (now (file .entry)))) (now (memory .entry))) × (now (scratch .exit) ≡ blank) ⌝ }
 {
     gather(form, file, old, new, memory, scratch);

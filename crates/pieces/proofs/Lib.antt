@@ -2,6 +2,7 @@
 pub mod Checks
 pub mod Fields
 pub mod Applying
+pub mod Faults
 -- The events of pieces, what they leave in memory and in the map:
 pub mod PieceEvents
 pub mod Edits

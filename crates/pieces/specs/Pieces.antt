@@ -4,6 +4,7 @@ use mathlib.Core.List.{List, [], _∷_, _++_}
 use Prim.Native.Nat.{ℕ, _+_, _/_}
 use lib.ListN.{length}
 use Rattle.events.specs.Events.{Event, place, adjust}
+use Rattle.events.specs.Sizes.{memorySize}
 use Rattle.records.specs.Fields.{widthOf}
 use Rattle.records.specs.declared.Field.{Field}
 use Rattle.records.specs.declared.Fixup.{Fixup}
@@ -12,6 +13,10 @@ use Rattle.records.specs.declared.Kind.{Kind}
 use Rattle.records.specs.declared.Kind.the-variants.{Main, ZeroPage, Absolute}
 use Rattle.words.specs.Numbers.{change}
 use Rattle.pieces.specs.declared.Bases.{Bases}
+
+-- a pair of bases, as a call asks for it
+abbrev pub basesAt : ℕ → ℕ → Bases
+basesAt main zp = record { main = main; zero = zp }
 
 -- a code record with the fields that the fixup records after it list, in file order
 pub record Piece : Type 0 where
@@ -36,9 +41,9 @@ placeOf b p = placeAt b (p .kind) (p .address)
 
 -- "Place + n ≤ 65,536, for 0A ≤ 256"
 abbrev pub limitOf : Kind → ℕ
-limitOf Main = 65536
+limitOf Main = memorySize
 limitOf ZeroPage = 256
-limitOf Absolute = 65536
+limitOf Absolute = memorySize
 
 -- the bytes of a field
 abbrev pub width : Field → ℕ

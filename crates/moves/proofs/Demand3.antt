@@ -11,20 +11,20 @@ use Rattle.events.proofs.Lists.{each-map, each-zip, each-zip3}
 use Rattle.pieces.proofs.Loads.{Fits, loaded, length-laid, laid-parts}
 use Rattle.pieces.specs.Places.{In, FieldsApart, Inside}
 use Rattle.acx.specs.Demand2.{Handler}
-use Rattle.pieces.specs.Pieces.{Piece, size, placeOf, width, amountOf, edited}
+use Rattle.pieces.specs.Pieces.{Piece, size, placeOf, width, edited}
 use Rattle.pieces.specs.declared.Bases.{Bases}
 use Rattle.events.specs.Lists.{Each, Pairwise}
 use Rattle.words.proofs.Changes.{value-part}
 use Rattle.words.proofs.Runs.{length-part, part-at, part-agrees, part-agree-at}
-use Rattle.words.specs.Numbers.{value, on, off}
+use Rattle.words.specs.Numbers.{value}
 use Rattle.words.specs.Runs.{Bytes, part}
-use Rattle.mover.proofs.Chains.{Sound, sound, State, state-first, ends, last-again}
-use Rattle.mover.proofs.Rulings.{handler-at, code-bytes, load-laid, Allowed, allows-ruling, one-allowed, told, memory-moved, report-told}
-use Rattle.mover.proofs.Shifts.{shift-fits, shift-added}
-use Rattle.mover.proofs.Transfers.{moved-parts}
-use Rattle.mover.specs.Call.{Call, memoryAfter}
-use Rattle.mover.specs.Demand3.{after, reached, last, arrived, Report, report, reports, Memory, AcceptedAt, loadInto, Alike, OneMove, Demand3, Claim, Run, none, next, ClaimOfRuns}
-use Rattle.mover.specs.Move.{shift, carried, moved}
+use Rattle.moves.proofs.Chains.{Sound, sound, State, state-first, ends, last-again}
+use Rattle.moves.proofs.Rulings.{handler-at, code-bytes, load-laid, Allowed, allows-ruling, one-allowed, told, memory-moved, report-told}
+use Rattle.moves.proofs.Shifts.{shift-fits, shift-added}
+use Rattle.moves.proofs.Transfers.{moved-parts}
+use Rattle.moves.specs.Call.{Call, memoryAfter}
+use Rattle.moves.specs.Demand3.{after, reached, last, arrived, Report, report, reports, Memory, AcceptedAt, loadInto, Alike, FieldsShifted, OneMove, Demand3, Claim, Run, none, next, ClaimOfRuns, Moves}
+use Rattle.moves.specs.Move.{shift, carried, moved}
 
 -- ---- one piece that stands at z in n as one move from a of what m held would leave it
 
@@ -40,8 +40,7 @@ module _ (a z : Bases) (m n : List ℕ) (p : Piece) (e : part n (placeOf z p) (s
 
   -- the fields
   piece-fields : Sound a (length m) p → Fits z (length n) p → Pairwise FieldsApart (p .fields)
-      → Each (λ f. value (width f) n (placeOf z p + f .index)
-      ≡ on (width f) (amountOf z f) (off (width f) (amountOf a f) (value (width f) m (placeOf a p + f .index)))) (p .fields)
+      → Each (λ f. value (width f) n (placeOf z p + f .index) ≡ shift a z f (value (width f) m (placeOf a p + f .index))) (p .fields)
   unfolding carried
   piece-fields s g d =
       let bs : List ℕ = part m (placeOf a p) (size p) in
@@ -75,10 +74,7 @@ module _ (file : List ℕ) (form : ℕ) (ps : List Piece) (a z : Bases) (m n : L
   sound-a = sound file a ps (length m) (y .0) at-a
 
   -- all fields
-  fields-at : Each
-      (λ p. Each
-      (λ f. value (width f) n (placeOf z p + f .index)
-      ≡ on (width f) (amountOf z f) (off (width f) (amountOf a f) (value (width f) m (placeOf a p + f .index)))) (p .fields)) ps
+  fields-at : FieldsShifted a z ps m n
   fields-at =
       each-zip3 (λ p (t : Sound a (length m) p × Fits z (length n) p) d e. piece-fields a z m n p e (t .0) (t .1) d) ps
       (each-zip (λ p t f. (t, f)) ps sound-a (fits-memory z (length n) ps (s .memory .0) (at-z .fits))) (at-a .distinct) (s .holds)
@@ -144,13 +140,23 @@ demand3 file b form ps a h cs m y g =
           (ap (last (told file form z)) (x .reported) ∙ last-again (told file form) a (reached file cs m));
     }
 
--- what the program's calls leave is what the definition says
-run-after : {file : List ℕ} {cs : List Call} {m n : List ℕ} → Run file cs m n → n ≡ after file cs m
-unfolding after
-run-after none = refl
-run-after {file} (next {cs = cs} w r) = run-after r ∙ ap (after file cs) (w .memory)
+-- ---- of calls that were carried out
 
--- of every list of calls that the program carried out
-pub demand3-of-runs : ClaimOfRuns
-demand3-of-runs file b form ps a h cs m n r y g =
-    subst (Demand3 file form ps a (arrived file a cs m) cs m) (sym (run-after r)) (demand3 file b form ps a h cs m y g)
+-- what they leave is what the definition says
+run-after : (file : List ℕ) {Kept : Call → List ℕ → List ℕ → Type 0} → ((c : Call) (m m′ : List ℕ) → Kept c m m′ → m′ ≡ memoryAfter file c m)
+    → {cs : List Call} {m n : List ℕ}
+    → Run Kept cs m n
+    → n ≡ after file cs m
+unfolding after
+run-after file keeps none = refl
+run-after file keeps (next {c = c} {cs = cs} {m = m} {m′ = m′} w r) = run-after file keeps r ∙ ap (after file cs) (keeps c m m′ w)
+
+-- of every list of calls that leave what the definition says
+pub demand3-of-runs : (Kept : List ℕ → Call → List ℕ → List ℕ → Type 0)
+    → ((file : List ℕ) (c : Call) (m m′ : List ℕ) → Kept file c m m′ → m′ ≡ memoryAfter file c m) → ClaimOfRuns Kept
+demand3-of-runs Kept keeps file b form ps a h cs m n r y g =
+    subst (Demand3 file form ps a (arrived file a cs m) cs m) (sym (run-after file (keeps file) r)) (demand3 file b form ps a h cs m y g)
+
+-- of every list of calls of the mover
+pub demand3-of-moves : ClaimOfRuns Moves
+demand3-of-moves = demand3-of-runs Moves (λ file c m m′ w. w .moved .memory)

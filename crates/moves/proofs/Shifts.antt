@@ -14,7 +14,7 @@ use Rattle.records.specs.declared.Field.{Field}
 use Rattle.words.proofs.Numbers.{on-lt, off-lt, off-on, on-off}
 use Rattle.words.specs.Numbers.{on, off}
 use Rattle.words.specs.Runs.{Bytes}
-use Rattle.mover.specs.Move.{shift}
+use Rattle.moves.specs.Move.{shift}
 
 -- what a move makes of a number fits in the field
 pub shift-fits : (a z : Bases) → Fitting (shift a z)

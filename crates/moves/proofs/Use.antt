@@ -8,7 +8,7 @@ use native.Mathlib.Omega.{arith}
 use lib.ListN.{length, getD}
 use Rattle.pieces.specs.AtBases.{placing, adjusting, ending, applied}
 use Rattle.acx.specs.Call.{load}
-use Rattle.pieces.specs.Pieces.{Piece, amountOf, edited, adjustments, events}
+use Rattle.pieces.specs.Pieces.{basesAt, Piece, amountOf, edited, adjustments, events}
 use Rattle.acx.specs.Walk.{accepted, refused, checked, walk, from, opening, judged}
 use Rattle.pieces.specs.declared.Bases.{Bases}
 use Rattle.answer.specs.Checks.{need}
@@ -24,11 +24,11 @@ use Rattle.records.specs.declared.Kind.the-variants.{Main}
 use Rattle.words.proofs.Numbers.{bytes-digits}
 use Rattle.words.specs.Numbers.{number, digits, value, store, on, off, change}
 use Rattle.words.specs.Runs.{Bytes, part, put, allZero, contains}
-use Rattle.mover.proofs.Demand3.{demand3}
-use Rattle.mover.proofs.Transfers.{length-moved}
-use Rattle.mover.specs.Call.{Call, loadAt, Ruling, allows, refuses, ruling, memoryBy, memoryAfter}
-use Rattle.mover.specs.Demand3.{after, ifAllowed, reached, last, onto, Linked, Chained, Memory, Demand3}
-use Rattle.mover.specs.Move.{carried, transfer, moved}
+use Rattle.moves.proofs.Demand3.{demand3}
+use Rattle.moves.proofs.Transfers.{length-moved}
+use Rattle.moves.specs.Call.{Call, callOf, Ruling, allows, refuses, ruling, memoryBy, memoryAfter}
+use Rattle.moves.specs.Demand3.{after, ifAllowed, reached, last, onto, Linked, Chained, Memory, Demand3}
+use Rattle.moves.specs.Move.{carried, transfer, moved}
 
 -- ---- lists of calls with their rulings
 
@@ -99,14 +99,14 @@ pieces =
 
 -- a main base, with the usual zero-page base
 abbrev pub at : ℕ → Bases
-at main = record { main = main; zero = 128 }
+at main = basesAt main 128
 
 -- accepted at three main bases; at a fourth there is no room, and there is no form 7
-loads : (loadAt 1 (at 8192) p1 .answer ≡ accepted pieces (At 8192))
-    × (loadAt 1 (at 12416) p1 .answer ≡ accepted pieces (At 12416))
-    × (loadAt 1 (at 8193) p1 .answer ≡ accepted pieces (At 8193))
-    × (loadAt 1 (at 65535) p1 .answer ≡ refused DoesNotFit 0)
-    × (loadAt 7 (at 12416) p1 .answer ≡ refused SettingOutOfRange 0)
+loads : (load 1 (at 8192) p1 .answer ≡ accepted pieces (At 8192))
+    × (load 1 (at 12416) p1 .answer ≡ accepted pieces (At 12416))
+    × (load 1 (at 8193) p1 .answer ≡ accepted pieces (At 8193))
+    × (load 1 (at 65535) p1 .answer ≡ refused DoesNotFit 0)
+    × (load 7 (at 12416) p1 .answer ≡ refused SettingOutOfRange 0)
 unfolding p1 number value part put allZero contains fieldsOf need readCode readItems readFixups readEnd read marks blank adjustments events placing adjusting ending applied checked walk from opening judged load
 loads = (refl, refl, refl, refl, refl)
 
@@ -119,7 +119,7 @@ p1-bytes = bytes-digits 14 (number p1)
 
 -- in a form, from a main base to another, with a scratch, and with a C answer of the right length or not
 abbrev pub asks : ℕ → ℕ → ℕ → List ℕ → Bool → Call
-asks form old new scratch answer = record { form = form; old = at old; new = at new; map = blank; scratch = scratch; answer = answer }
+asks form old new scratch answerSized = callOf form (at old) (at new) blank scratch answerSized
 
 -- two that move the handler, and five refused in between
 abbrev pub list : List Ruled

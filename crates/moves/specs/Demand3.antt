@@ -1,22 +1,24 @@
--- Demand 3: what a list of moves of one handler in one memory leaves. The claims at the end are proved in proofs/Demand3.antt: `demand3` of
--- the definition, `demand3-of-runs` of the program.
+-- Demand 3: what a list of moves of one handler in one memory leaves. The claims at the end are proved in proofs/Demand3.antt: `demand3 : Claim`
+-- of the definition, `demand3-of-moves : ClaimOfRuns Moves` of the program's calls.
 -- Assumes nothing.
 use mathlib.Core.Bool.{true}
 use mathlib.Core.List.{List, [], _∷_}
 use mathlib.Core.Path.{_≡_}
 use Prim.Native.Nat.{ℕ, _+_, _<_}
 use lib.ListN.{length, getD}
-use Rattle.acx.specs.Call.{memoryAfter as playedBy}
+use Rattle.acx.specs.Call.{load, memoryAfter as playedBy}
 use Rattle.pieces.specs.Places.{Placed, In}
-use Rattle.pieces.specs.Pieces.{Piece, size, placeOf, width, amountOf}
+use Rattle.pieces.specs.Pieces.{Piece, size, placeOf, width}
 use Rattle.acx.specs.Walk.{accepted}
 use Rattle.pieces.specs.declared.Bases.{Bases}
 use Rattle.answer.specs.declared.Outcome.{Outcome}
 use Rattle.answer.specs.declared.Start.{Start}
+use Rattle.events.specs.Sizes.{memorySize}
 use Rattle.events.specs.Lists.{Each}
-use Rattle.words.specs.Numbers.{value, on, off}
+use Rattle.words.specs.Numbers.{value}
 use Rattle.words.specs.Runs.{Bytes}
-use Rattle.mover.specs.Call.{Call, loadAt, Ruling, allows, refuses, ruling, outcomeOf, memoryAfter, mapAfter, Moved}
+use Rattle.moves.specs.Move.{shift}
+use Rattle.moves.specs.Call.{Call, Ruling, allows, refuses, ruling, outcomeOf, memoryAfter, mapAfter, Moved}
 
 -- ---- the list
 
@@ -25,6 +27,7 @@ unfoldable pub after : List ℕ → List Call → List ℕ → List ℕ
 after file [] m = m
 after file (c ∷ cs) m = after file cs (memoryAfter file c m)
 
+-- one more where a call is allowed
 abbrev pub ifAllowed : {A : Type 0} → Ruling → A → List A → List A
 ifAllowed (allows ps) x xs = x ∷ xs
 ifAllowed (refuses fault at side) x xs = xs
@@ -64,10 +67,11 @@ pub record Report : Type 0 where
   pub outcome : Outcome
   pub map : List ℕ
 
+-- those of a call
 abbrev pub report : List ℕ → Call → List ℕ → Report
 report file c m = record { outcome = outcomeOf file c m; map = mapAfter file c m }
 
--- those of the accepted calls
+-- those of each accepted call
 unfoldable pub reports : List ℕ → List Call → List ℕ → List Report
 reports file [] m = []
 reports file (c ∷ cs) m = ifAllowed (ruling file c m) (report file c m) (reports file cs (memoryAfter file c m))
@@ -76,28 +80,38 @@ reports file (c ∷ cs) m = ifAllowed (ruling file c m) (report file c m) (repor
 
 -- "any contents": a memory is 65,536 bytes
 abbrev pub Memory : List ℕ → Type 0
-Memory m = (length m ≡ 65536) × Bytes m
+Memory m = (length m ≡ memorySize) × Bytes m
 
 -- "A handler is one file with its form, disk or device, accepted where a load in that form accepts it"
 abbrev pub AcceptedAt : List ℕ → ℕ → List Piece → Bases → Type 0
-AcceptedAt file form ps b = (start : Start) × (loadAt form b file .answer ≡ accepted ps start)
+AcceptedAt file form ps b = (start : Start) × (load form b file .answer ≡ accepted ps start)
 
 -- memory after a load of the handler into r
 abbrev pub loadInto : List ℕ → ℕ → Bases → List ℕ → List ℕ
-loadInto file form b r = playedBy (loadAt form b file .answer) (loadAt form b file .events) r
+loadInto file form b r = playedBy (load form b file .answer) (load form b file .events) r
 
 -- two memories are alike at every place of the handler at b: "Its places at a pair of bases are the addresses that a load there places"
 abbrev pub Alike : Bases → List Piece → List ℕ → List ℕ → Type 0
 Alike b ps m n = Each (λ p. (x : ℕ) → Placed b x p → getD m x 0 ≡ getD n x 0) ps
+
+-- the bytes of the pieces that are in no field hold in n, at their places at new, what they held in m at their places at old
+abbrev pub PlainKept : Bases → Bases → List Piece → List ℕ → List ℕ → Type 0
+PlainKept old new ps m n =
+    Each (λ p. (j : ℕ) → j < size p → Each (λ f. ¬ In j f) (p .fields) → getD n (placeOf new p + j) 0 ≡ getD m (placeOf old p + j) 0) ps
+
+-- their fields hold in n, at new, the values that they had in m, at old, "with the amounts of A off and those of Z on"
+abbrev pub FieldsShifted : Bases → Bases → List Piece → List ℕ → List ℕ → Type 0
+FieldsShifted old new ps m n =
+    Each (λ p. Each (λ f. value (width f) n (placeOf new p + f .index) ≡ shift old new f (value (width f) m (placeOf old p + f .index))) (p .fields)) ps
 
 -- "The one move from A to Z": a call with the right buffers, in the handler's form
 pub record OneMove (form : ℕ) (a z : Bases) (c : Call) : Type 0 where
   pub in-form : c .form ≡ form
   pub old : c .old ≡ a
   pub new : c .new ≡ z
-  pub map : length (c .map) ≡ 65536
-  pub scratch : length (c .scratch) ≡ 65536
-  pub answer : c .answer ≡ true
+  pub map : length (c .map) ≡ memorySize
+  pub scratch : length (c .scratch) ≡ memorySize
+  pub answer : c .answerSized ≡ true
 
 -- ---- the demand
 
@@ -107,18 +121,15 @@ pub record Demand3 (file : List ℕ) (form : ℕ) (ps : List Piece) (a z : Bases
   pub lands : AcceptedAt file form ps z
   pub direct : (c : Call) → OneMove form a z c → ruling file c m ≡ allows ps
   -- "After the list, its bytes that aren't address fields hold at their places at Z what they held before it at their places at A."
-  pub plain : Each (λ p. (j : ℕ) → j < size p → Each (λ f. ¬ In j f) (p .fields) → getD n (placeOf z p + j) 0 ≡ getD m (placeOf a p + j) 0) ps
+  pub plain : PlainKept a z ps m n
   -- "Its address fields there hold the values that they had at A, with the amounts of A off and those of Z on."
-  pub fields : Each
-      (λ p. Each
-      (λ f. value (width f) n (placeOf z p + f .index)
-      ≡ on (width f) (amountOf z f) (off (width f) (amountOf a f) (value (width f) m (placeOf a p + f .index)))) (p .fields)) ps
+  pub fields : FieldsShifted a z ps m n
   -- "Every byte that is in none of its places at the bases reached stays as before."
   pub others : (x : ℕ) → Each (λ b. Each (λ p. ¬ Placed b x p) ps) (reached file cs m) → getD n x 0 ≡ getD m x 0
   -- "At every address placed at Z, memory equals what one move from A to Z leaves."
   pub one-move : (c : Call) → OneMove form a z c → Alike z ps n (memoryAfter file c m)
   -- "If its bytes were as loaded at A, memory at those addresses equals a fresh load at Z." (a load into any memory, at A as at Z)
-  pub fresh : (k r : List ℕ) → length k ≡ 65536 → length r ≡ 65536 → Alike a ps m (loadInto file form a k) → Alike z ps n (loadInto file form z r)
+  pub fresh : (k r : List ℕ) → length k ≡ memorySize → length r ≡ memorySize → Alike a ps m (loadInto file form a k) → Alike z ps n (loadInto file form z r)
   -- "its answer and map equal those of the last accepted call, if there is one"
   pub reported : (c : Call) → OneMove form a z c → last (report file c m) (reports file cs m) ≡ report file c m
 
@@ -131,16 +142,24 @@ Claim =
 
 -- ---- the program's calls
 
--- calls that were carried out one after another: each kept the mover's contract, and found memory as the one before left it
-pub data Run (file : List ℕ) : List Call → List ℕ → List ℕ → Type 0 where
-  none : {m : List ℕ} → Run file [] m m
-  next : {c : Call} {cs : List Call} {m m′ p′ s′ n : List ℕ} {r : Outcome} → Moved file c m r m′ p′ s′ → Run file cs m′ n → Run file (c ∷ cs) m n
+-- calls that were carried out one after another, each of which found memory as the one before left it: `Kept c m m′` says that some call with c
+-- found memory m and left m′
+pub data Run (Kept : Call → List ℕ → List ℕ → Type 0) : List Call → List ℕ → List ℕ → Type 0 where
+  none : {m : List ℕ} → Run Kept [] m m
+  next : {c : Call} {cs : List Call} {m m′ n : List ℕ} → Kept c m m′ → Run Kept cs m′ n → Run Kept (c ∷ cs) m n
 
--- The claim of what the program leaves.
-abbrev pub ClaimOfRuns : Type 0
-ClaimOfRuns =
+-- The claim of what such calls leave, where `Kept file` says which calls with the file there are.
+abbrev pub ClaimOfRuns : (List ℕ → Call → List ℕ → List ℕ → Type 0) → Type 0
+ClaimOfRuns Kept =
     (file : List ℕ) → Bytes file → (form : ℕ) (ps : List Piece) (a : Bases) → AcceptedAt file form ps a → (cs : List Call) (m n : List ℕ)
-    → Run file cs m n
+    → Run (Kept file) cs m n
     → Memory m
     → Chained file form a cs m
     → Demand3 file form ps a (arrived file a cs m) cs m n
+
+-- some call of the mover kept its contract: it found memory m and left m′
+pub record Moves (file : List ℕ) (c : Call) (m m′ : List ℕ) : Type 0 where
+  pub outcome : Outcome
+  pub map : List ℕ
+  pub scratch : List ℕ
+  pub moved : Moved file c m outcome m′ map scratch

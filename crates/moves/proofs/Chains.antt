@@ -14,12 +14,12 @@ use Rattle.pieces.specs.declared.Bases.{Bases}
 use Rattle.events.specs.Lists.{Each}
 use Rattle.words.proofs.Runs.{length-part, bytes-part}
 use Rattle.words.specs.Runs.{part}
-use Rattle.mover.proofs.Rulings.{handler-at, same-at, Allowed, ruling-allows, told, memory-moved, report-told}
-use Rattle.mover.proofs.Shifts.{shift-none, shift-shift}
-use Rattle.mover.proofs.Transfers.{length-moved, bytes-moved, moved-outside, moved-parts}
-use Rattle.mover.specs.Call.{Call, Ruling, allows, refuses, ruling, memoryBy, memoryAfter}
-use Rattle.mover.specs.Demand3.{after, ifAllowed, reached, last, onto, Linked, Chained, Report, report, reports, Memory, AcceptedAt}
-use Rattle.mover.specs.Move.{shift, carried, moved}
+use Rattle.moves.proofs.Rulings.{handler-at, same-at, Allowed, ruling-allows, told, memory-moved, report-told}
+use Rattle.moves.proofs.Shifts.{shift-none, shift-shift}
+use Rattle.moves.proofs.Transfers.{length-moved, bytes-moved, moved-outside, moved-parts}
+use Rattle.moves.specs.Call.{Call, Ruling, allows, refuses, ruling, memoryBy, memoryAfter}
+use Rattle.moves.specs.Demand3.{after, ifAllowed, reached, last, onto, Linked, Chained, Report, report, reports, Memory, AcceptedAt}
+use Rattle.moves.specs.Move.{shift, carried, moved}
 
 -- the piece lies in n addresses at b, and its fields in it
 abbrev pub Sound : Bases → ℕ → Piece → Type 0

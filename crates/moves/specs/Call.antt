@@ -1,24 +1,24 @@
 -- A call of the mover, whatever comes in: its outcome, and what it leaves in memory, map and scratch.
 -- Assumes nothing.
-use mathlib.Core.Bool.{Bool, true, _&&_}
+use mathlib.Core.Bool.{Bool, _&&_}
 use mathlib.Core.List.{List, []}
 use mathlib.Core.Path.{_≡_}
 use Prim.Native.Nat.{ℕ, _≤_}
 use lib.Dec.{eqb}
 use lib.ListN.{length}
-use Rattle.acx.specs.Call.{settings, load, ifSized}
+use Rattle.acx.specs.Call.{load, mapAfter as loadedMap}
 use Rattle.pieces.specs.Pieces.{Piece}
 use Rattle.acx.specs.Walk.{Verdict, accepted, refused, reported}
 use Rattle.pieces.specs.declared.Bases.{Bases}
-use Rattle.answer.specs.Checks.{need}
+use Rattle.answer.specs.Checks.{need, pick}
 use Rattle.answer.specs.Report.{placedOf, adjustedOf}
 use Rattle.answer.specs.declared.Fault.{Fault}
 use Rattle.answer.specs.declared.Fault.the-variants.{WrongBuffer}
 use Rattle.answer.specs.declared.Outcome.{Outcome}
 use Rattle.answer.specs.declared.Outcome.the-variants.{Refused}
-use Rattle.events.specs.Events.{marks, blank, Ran}
-use Rattle.mover.specs.Move.{moved}
-use Rattle.mover.specs.declared.Site.{Site}
+use Rattle.events.specs.Events.{blank, Ran}
+use Rattle.events.specs.Sizes.{memorySize}
+use Rattle.moves.specs.Move.{moved}
 
 -- "It takes form, file, old and new bases, memory, map and scratch." The file and memory stand apart: demand 3 is about many calls with one
 -- file in one memory.
@@ -29,24 +29,16 @@ pub record Call : Type 0 where
   pub map : List ℕ
   pub scratch : List ℕ
   -- whether the C answer has its length; a call that lends none has nothing wrong there
-  pub answer : Bool
+  pub answerSized : Bool
 
--- the bases that a site names
-abbrev pub basesAt : Site → Bases
-basesAt s = record { main = s .main; zero = s .zero }
-
--- a call without a C answer
-abbrev pub call : ℕ → Site → Site → List ℕ → List ℕ → Call
-call form old new map scratch =
-    record { form = form; old = basesAt old; new = basesAt new; map = map; scratch = scratch; answer = true }
+abbrev pub callOf : ℕ → Bases → Bases → List ℕ → List ℕ → Bool → Call
+callOf form old new map scratch answerSized =
+    record { form = form; old = old; new = new; map = map; scratch = scratch; answerSized = answerSized }
 
 -- ---- whether it is refused
 
--- a load with the right buffers: 2, then 3, then the file
-abbrev pub loadAt : ℕ → Bases → List ℕ → Ran Verdict
-loadAt form b file = load (settings form (b .main) (b .zero)) file
-
--- the move of some pieces is allowed, or the call is refused with a fault, its offset and its side
+-- the move of some pieces is allowed, or the call is refused with a fault, its offset and its side. (The pieces are those of the load at the
+-- new bases; the load at the old bases has the same, by `same-pieces` of `acx`.)
 pub data Ruling : Type 0 where
   allows : List Piece → Ruling
   refuses : Fault → ℕ → ℕ → Ruling
@@ -61,16 +53,19 @@ abbrev pub sides : Verdict → Verdict → Ruling
 sides (accepted ps start) new = side 1 new
 sides (refused fault at) new = refuses fault at 0
 
+-- the ruling on a call with the right buffers
 abbrev pub rulingOf : ℕ → Bases → Bases → List ℕ → Ruling
-rulingOf form old new file = sides (loadAt form old file .answer) (loadAt form new file .answer)
+rulingOf form old new file = sides (load form old file .answer) (load form new file .answer)
 
 -- "A wrong scratch length is 1, side 0", and so is that of memory, map or C answer
 abbrev pub sized : Call → List ℕ → Bool
-sized c m = eqb (length m) 65536 && eqb (length (c .map)) 65536 && eqb (length (c .scratch)) 65536 && c .answer
+sized c m = eqb (length m) memorySize && eqb (length (c .map)) memorySize && eqb (length (c .scratch)) memorySize && c .answerSized
 
+-- a refusal before the loads
 abbrev pub beforehand : Fault → Ruling
 beforehand fault = refuses fault 0 0
 
+-- the ruling on a call, whatever its buffers: 1 first
 unfoldable pub ruling : List ℕ → Call → List ℕ → Ruling
 ruling file c m = need beforehand (sized c m) WrongBuffer (rulingOf (c .form) (c .old) (c .new) file)
 
@@ -91,7 +86,7 @@ outcomeBy new (allows ps) = reported new .answer
 outcomeBy new (refuses fault at side) = Refused fault at side
 
 abbrev pub mapBy : Ran Verdict → Ruling → List ℕ
-mapBy new (allows ps) = marks (new .events) blank
+mapBy new (allows ps) = loadedMap (new .answer) (new .events)
 mapBy new (refuses fault at side) = blank
 
 -- "A refusal leaves program memory untouched"
@@ -99,34 +94,21 @@ abbrev pub memoryBy : Bases → Bases → Ruling → List ℕ → List ℕ
 memoryBy old new (allows ps) m = moved old new ps m
 memoryBy old new (refuses fault at side) m = m
 
+-- the outcome of a call
 unfoldable pub outcomeOf : List ℕ → Call → List ℕ → Outcome
-outcomeOf file c m = outcomeBy (loadAt (c .form) (c .new) file) (ruling file c m)
+outcomeOf file c m = outcomeBy (load (c .form) (c .new) file) (ruling file c m)
 
+-- memory after a call
 unfoldable pub memoryAfter : List ℕ → Call → List ℕ → List ℕ
 memoryAfter file c m = memoryBy (c .old) (c .new) (ruling file c m) m
 
--- "Refusal 1 changes nothing"; "Every other refusal leaves .. the map all zero."
+-- the map after a call: "Refusal 1 changes nothing"; "Every other refusal leaves .. the map all zero."
 unfoldable pub mapAfter : List ℕ → Call → List ℕ → List ℕ
-mapAfter file c m = ifSized (sized c m) (mapBy (loadAt (c .form) (c .new) file) (ruling file c m)) (c .map)
+mapAfter file c m = pick (sized c m) (mapBy (load (c .form) (c .new) file) (ruling file c m)) (c .map)
 
--- "a scratch of 65,536 bytes, all zero after it unless refused with 1"
+-- the scratch after a call: "a scratch of 65,536 bytes, all zero after it unless refused with 1"
 unfoldable pub scratchAfter : Call → List ℕ → List ℕ
-scratchAfter c m = ifSized (sized c m) blank (c .scratch)
-
--- ---- contracts
-
--- A load that only checks, as one side of a move, or both of them: the outcome, memory and the map after it.
-pub record Judged (o : Ran Verdict) (v : Ruling) (m : List ℕ) (r : Outcome) (m′ p′ : List ℕ) : Type 0 where
-  pub outcome : r ≡ outcomeBy o v
-  pub memory : m′ ≡ m
-  pub map : p′ ≡ mapBy o v
-
--- What a call with the right buffers does.
-pub record Done (form : ℕ) (old new : Bases) (file m : List ℕ) (r : Outcome) (m′ p′ s′ : List ℕ) : Type 0 where
-  pub outcome : r ≡ outcomeBy (loadAt form new file) (rulingOf form old new file)
-  pub memory : m′ ≡ memoryBy old new (rulingOf form old new file) m
-  pub map : p′ ≡ mapBy (loadAt form new file) (rulingOf form old new file)
-  pub scratch : s′ ≡ blank
+scratchAfter c m = pick (sized c m) blank (c .scratch)
 
 -- What a call promises: it found memory m, and answers r and leaves m′, the map p′ and the scratch s′.
 pub record Moved (file : List ℕ) (c : Call) (m : List ℕ) (r : Outcome) (m′ p′ s′ : List ℕ) : Type 0 where

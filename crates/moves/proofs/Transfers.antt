@@ -19,10 +19,10 @@ use Rattle.records.specs.declared.Kind.{Kind}
 use Rattle.records.specs.declared.Kind.the-variants.{Main, ZeroPage, Absolute}
 use Rattle.words.proofs.Runs.{within?, put-outside, put-inside, length-part, part-at, bytes-part}
 use Rattle.words.specs.Runs.{Bytes, Within, part, put}
-use Rattle.mover.proofs.Rulings.{handler-at, bare-at}
-use Rattle.mover.specs.Demand3.{AcceptedAt}
-use Rattle.mover.specs.Move.{shift, carried, transfer, moved}
-use Rattle.mover.specs.Outcomes.{Relocatable}
+use Rattle.moves.proofs.Rulings.{handler-at, bare-at}
+use Rattle.moves.specs.Demand3.{AcceptedAt}
+use Rattle.moves.specs.Move.{shift, carried, transfer, moved}
+use Rattle.moves.specs.Outcomes.{Relocatable}
 
 module _ (old new : Bases) (m : List ℕ) where
   -- what a piece brings is as long as the piece

@@ -12,31 +12,31 @@ use Rattle.acx.proofs.Demand2.{handler-of}
 use Rattle.acx.proofs.Handlers.{fits-memory, handled}
 use Rattle.pieces.proofs.Loads.{laid, play-laid}
 use Rattle.acx.proofs.Same.{Bare, bare, same-pieces}
-use Rattle.acx.specs.Call.{formOf, settings, memoryAfter as playedBy}
+use Rattle.acx.specs.Call.{formOf, load, memoryAfter as playedBy, mapAfter as loadedMap}
 use Rattle.acx.specs.Demand2.{Handler}
 use Rattle.pieces.specs.Pieces.{Piece, events}
 use Rattle.acx.specs.Walk.{Verdict, accepted, refused, judged, report as outcomeReported, reported}
 use Rattle.pieces.specs.declared.Bases.{Bases}
 use Rattle.answer.proofs.Outcomes.{isRefused}
-use Rattle.answer.specs.Checks.{need}
+use Rattle.answer.specs.Checks.{need, pick}
 use Rattle.answer.specs.declared.Fault.the-variants.{WrongBuffer}
 use Rattle.answer.specs.declared.Outcome.the-variants.{Accepted}
 use Rattle.answer.specs.declared.Start.{Start}
 use Rattle.events.proofs.Lists.{each-map}
-use Rattle.events.specs.Events.{Event, play, marks, blank, Ran}
+use Rattle.events.specs.Events.{Event, play, blank, Ran}
 use Rattle.events.specs.Lists.{Each}
 use Rattle.words.proofs.Runs.{bytes-part}
 use Rattle.words.specs.Runs.{Bytes}
-use Rattle.mover.specs.Call.{Call, loadAt, Ruling, allows, refuses, sides, rulingOf, sized, beforehand, ruling, Allows, piecesOf, outcomeBy, mapBy, memoryBy, outcomeOf, memoryAfter, mapAfter}
-use Rattle.mover.specs.Demand3.{Report, report, AcceptedAt, loadInto, OneMove}
-use Rattle.mover.specs.Move.{moved}
+use Rattle.moves.specs.Call.{Call, Ruling, allows, refuses, sides, rulingOf, sized, beforehand, ruling, Allows, piecesOf, outcomeBy, mapBy, memoryBy, outcomeOf, memoryAfter, mapAfter}
+use Rattle.moves.specs.Demand3.{Report, report, AcceptedAt, loadInto, OneMove}
+use Rattle.moves.specs.Move.{moved}
 
 -- ---- a load that accepts
 
 module _ (file : List ℕ) (form : ℕ) (ps : List Piece) (b : Bases) (h : AcceptedAt file form ps b) where
   -- the file follows the rules
-  pub follows : Follows (settings form (b .main) (b .zero)) file
-  follows = load-follows (settings form (b .main) (b .zero)) file ps (h .0) (h .1)
+  pub follows : Follows form b file
+  follows = load-follows form b file ps (h .0) (h .1)
 
   pub verdict : judged (formOf form) file b .answer ≡ accepted ps (h .0)
   verdict = ap (λ (o : Ran Verdict). o .answer) (sym (follows .by-rules)) ∙ h .1
@@ -44,12 +44,12 @@ module _ (file : List ℕ) (form : ℕ) (ps : List Piece) (b : Bases) (h : Accep
   -- the bases are in their ranges
   pub in-range : (b .main ≤ 65535) × (b .zero ≤ 65535)
   in-range =
-      let k = range-bounds (settings form (b .main) (b .zero)) (follows .range) in
+      let k = range-bounds form b (follows .range) in
       (k .0, omega (arith, k .1))
 
   -- its outcome is no refusal
-  pub reported-accepted : isRefused (reported (loadAt form b file) .answer) ≡ false
-  reported-accepted = ap (λ (v : Verdict). isRefused (outcomeReported v (loadAt form b file .events))) (h .1)
+  pub reported-accepted : isRefused (reported (load form b file) .answer) ≡ false
+  reported-accepted = ap (λ (v : Verdict). isRefused (outcomeReported v (load form b file .events))) (h .1)
 
   -- its pieces make a handler
   pub handler-at : Handler file b ps
@@ -64,13 +64,13 @@ module _ (file : List ℕ) (form : ℕ) (ps : List Piece) (b : Bases) (h : Accep
   bare-at = bare (formOf form) file b ps (h .0) verdict
 
   -- its events are those of the pieces
-  pub events-at : loadAt form b file .events ≡ events b ps
+  pub events-at : load form b file .events ≡ events b ps
   events-at = ap (λ (o : Ran Verdict). o .events) (follows .by-rules) ∙ handled file b (formOf form) ps (h .0) verdict .3
 
   -- it leaves the pieces in memory
   pub load-laid : (r : List ℕ) → length r ≡ 65536 → loadInto file form b r ≡ laid b ps r
   load-laid r n =
-      ap (λ (v : Verdict). playedBy v (loadAt form b file .events) r) (h .1)
+      ap (λ (v : Verdict). playedBy v (load form b file .events) r) (h .1)
       ∙ ap (λ (t : List Event). play t r) events-at
       ∙ play-laid b ps r (fits-memory b (length r) ps n (handler-at .fits)) (handler-at .inside)
 
@@ -97,7 +97,7 @@ sides-both (refused fault at) v ps e = absurd (subst Allows (sym e) tt)
 pub both : (form : ℕ) (old new : Bases) (file : List ℕ) (ps : List Piece) → rulingOf form old new file ≡ allows ps
     → AcceptedAt file form ps old × AcceptedAt file form ps new
 both form old new file ps e =
-    let x = sides-both (loadAt form old file .answer) (loadAt form new file .answer) ps e in
+    let x = sides-both (load form old file .answer) (load form new file .answer) ps e in
     let h : AcceptedAt file form (x .0 .0) old = (x .0 .1, x .0 .2) in
     let s : x .0 .0 ≡ ps = same-at file form (x .0 .0) ps old new h (x .1) in
     (subst (λ (qs : List Piece). AcceptedAt file form qs old) s h, x .1)
@@ -152,7 +152,7 @@ pub allows-ruling : (file : List ℕ) (c : Call) (m : List ℕ) (ps : List Piece
 unfolding ruling need
 allows-ruling file c m ps x =
     ap (λ (t : Bool). need beforehand t WrongBuffer (rulingOf (c .form) (c .old) (c .new) file)) (x .buffers)
-    ∙ ap (λ (v : Verdict). sides v (loadAt (c .form) (c .new) file .answer)) (x .old .1)
+    ∙ ap (λ (v : Verdict). sides v (load (c .form) (c .new) file .answer)) (x .old .1)
     ∙ ap (λ (v : Verdict). sides (accepted ps (x .old .0)) v) (x .new .1)
 
 -- the one move of a handler that is accepted at both bases
@@ -169,7 +169,7 @@ one-allowed file form ps a z m n h k c o =
 
 -- what a load at the bases reports
 abbrev pub told : List ℕ → ℕ → Bases → Report
-told file form b = record { outcome = reported (loadAt form b file) .answer; map = marks (loadAt form b file .events) blank }
+told file form b = record { outcome = reported (load form b file) .answer; map = loadedMap (load form b file .answer) (load form b file .events) }
 
 module _ (file : List ℕ) (c : Call) (m : List ℕ) (ps : List Piece) (x : Allowed file c m ps) where
   -- the pieces moved
@@ -179,5 +179,5 @@ module _ (file : List ℕ) (c : Call) (m : List ℕ) (ps : List Piece) (x : Allo
 
   -- the report of a load at the new bases
   pub report-told : report file c m ≡ told file (c .form) (c .new)
-  unfolding outcomeOf mapAfter
+  unfolding outcomeOf mapAfter pick
   report-told = rw (allows-ruling file c m ps x, x .buffers) refl
