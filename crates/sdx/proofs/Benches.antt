@@ -14,14 +14,15 @@ use Rattle.answer.specs.declared.Outcome.the-variants.{Accepted, Refused}
 use Rattle.answer.specs.declared.Start.{Start}
 use Rattle.events.specs.Events.{Event, play, marks, blank, placedIn, adjustedIn, Ran}
 use Rattle.words.specs.Runs.{Bytes}
+use Rattle.passes.specs.Rooms.{Rooms}
+use Rattle.passes.specs.Walk.{Given, Progress, Verdict, finished, refused}
 use Rattle.sdx.proofs.Demand2.{finished-asked, asked-judged, asked-memory, asked-top, Left, call-leaves}
 use Rattle.sdx.proofs.Keeping.{judged-keeps}
 use Rattle.sdx.proofs.Lawful.{Lawful}
 use Rattle.sdx.proofs.Same.{loaded-same, placed-same, start-same}
 use Rattle.sdx.specs.Benches.{RefusedCall, SameProgram}
-use Rattle.sdx.specs.Call.{load, call, report, memoryAfter, mapAfter, namesAfter, addressesAfter, Rooms, right, Loaded}
+use Rattle.sdx.specs.Call.{load, call, report, memoryAfter, mapAfter, namesAfter, addressesAfter, right, Loaded, atOnce, judged}
 use Rattle.sdx.specs.Demand2.{Places, Among, Asked}
-use Rattle.sdx.specs.Walk.{Given, Progress, Verdict, finished, refused, atOnce, judged}
 
 -- ---- refused
 

@@ -1,20 +1,18 @@
 -- A load as a whole, over plain values: the two walks, the acceptance, the settings and the lengths.
 -- Assumes nothing.
 use mathlib.Core.Bool.{Bool, true, false}
-use mathlib.Core.List.{List, [], _++_, append-nil}
+use mathlib.Core.List.{List, [], _++_}
 use mathlib.Core.Path.{_≡_, refl, sym, ap, _∙_}
-use Prim.Native.Nat.{ℕ, _+_, _-_, _*_, _≤_, _<_}
+use Prim.Native.Nat.{ℕ, _+_, _*_, _≤_, _<_}
 use native.Mathlib.Omega.{arith}
 use borrow.Author.Tests.{le-leb, lt-leb, leb-true, eqb-true}
-use borrow.Rule.Slice.PartMut.{midOf, putMid}
 use lib.Dec.{leb, eqb}
-use lib.ListN.{length, replicate, take, drop, length-replicate, drop-of-length-le}
-use lib.Seq.{sets-eq}
+use lib.ListN.{length}
 use Rattle.answer.proofs.Checks.{on-need, and-true}
 use Rattle.answer.specs.Checks.{need, pick}
 use Rattle.answer.specs.Report.{placedOf, adjustedOf}
 use Rattle.answer.specs.declared.Fault.{Fault}
-use Rattle.answer.specs.declared.Fault.the-variants.{WrongBuffer, SettingOutOfRange, FileTooLong}
+use Rattle.answer.specs.declared.Fault.the-variants.{WrongBuffer, SettingOutOfRange, FileTooLong, CutShort, WrongOpening}
 use Rattle.answer.specs.declared.Outcome.{Outcome}
 use Rattle.answer.specs.declared.Outcome.the-variants.{Accepted, Refused}
 use Rattle.answer.specs.declared.Start.{Start}
@@ -22,54 +20,40 @@ use Rattle.answer.specs.declared.Start.the-variants.{Absent}
 use Rattle.events.specs.Events.{Event, play, marks, blank, placedIn, adjustedIn, Ran}
 use Rattle.events.specs.Walk.{leads}
 use Rattle.events.specs.declared.Check.the-variants.{Passed, Failed}
-use Rattle.words.proofs.Lent.{lent-is, back-is}
-use Rattle.words.proofs.Runs.{front-holds, length-part}
+use Rattle.words.proofs.Runs.{front-holds}
 use Rattle.words.specs.Runs.{part, put}
-use Rattle.sdx.proofs.Going.{stopped-finished, totalsIn}
-use Rattle.sdx.proofs.Turning.{refused-finished, Behind, behind-first, behind-on, led-ends, judged-holds}
-use Rattle.sdx.specs.Call.{ranged, inRange, listed, load, call, startIn, report, filledUp, Rooms, rooms, Carried, right, Loaded}
-use Rattle.sdx.specs.Parts.{walked, progressOf, Went, Checked, Reported}
-use Rattle.sdx.specs.Walk.{Given, Progress, Verdict, finished, refused, turn, blocksOf, atOnce, opening, judged}
-use Rattle.sdx.specs.declared.Totals.{Totals}
-use Rattle.sdx.specs.declared.Walked.{Walked}
-use Rattle.sdx.specs.declared.Walked.the-variants.{Stopped, Finished}
+use Rattle.words.specs.Numbers.{value}
+use Rattle.events.specs.declared.Check.{Check}
+use Rattle.deeds.proofs.Ending.{Behind, behind-first, behind-on}
+use Rattle.passes.proofs.Going.{stopped-finished, totalsIn}
+use Rattle.passes.proofs.Turning.{refused-finished, led-ends, blocks-hold}
+use Rattle.passes.specs.Parts.{walked, progressOf, Went, Checked, Reported}
+use Rattle.passes.specs.Rooms.{startIn, filledUp, Rooms, rooms}
+use Rattle.passes.specs.Walk.{Given, Progress, Verdict, finished, refused, turn, blocksOf, begun}
+use Rattle.passes.specs.declared.Totals.{Totals}
+use Rattle.passes.specs.declared.Walked.{Walked}
+use Rattle.passes.specs.declared.Walked.the-variants.{Stopped, Finished}
+use Rattle.sdx.specs.Call.{ranged, inRange, listed, load, call, report, Carried, right, Loaded, atOnce, opening, judged, opened}
 
--- ---- the rest of a room is cleared
+-- ---- before the first block
 
--- a room whose end from k on was filled with zeros
-pub rest-cleared : (n k : ℕ) (l w : List ℕ) → k ≤ n → length l ≡ n → w ≡ replicate (length (midOf k (n - k) l)) 0
-    → putMid k (n - k) l w ≡ filledUp n (part l 0 k)
-unfolding put part
-rest-cleared n k l w h e f =
-    let size : n - k ≡ k + (n - k) - k = omega arith in
-    let inside : k + (n - k) ≤ length l = omega (arith, e) in
-    let lent : length (midOf k (n - k) l) ≡ n - k =
-    ap (λ (i : ℕ). length (midOf k i l)) size ∙ ap length (lent-is k (n - k) l) ∙ length-part l k (n - k) inside in
-    let is : w ≡ replicate (n - k) 0 = f ∙ ap (λ (i : ℕ). replicate i 0) lent in
-    let long : length w ≡ n - k = ap length is ∙ length-replicate (n - k) 0 in
-    let front : length (take k (drop 0 l)) ≡ k = length-part l 0 k (omega (arith, e)) in
-    let past : length l ≤ k + length w = omega (arith, e, long) in
-    let none : drop (k + length w) l ≡ [] = drop-of-length-le l past in
-    ap (λ (i : ℕ). putMid k i l w) size
-    ∙ back-is k (n - k) l w inside long
-    ∙ sets-eq w l k (omega (arith, e, long))
-    ∙ ap (λ (r : List ℕ). take k l ++ w ++ r) none
-    ∙ append-nil (take k l ++ w)
-    ∙ ap (λ (r : List ℕ). take k l ++ r) is
-    ∙ ap (λ (i : ℕ). take k l ++ replicate (n - i) 0) (sym front)
+pub range-not : (low high : ℕ) → high < low → false ≡ ranged low high
+range-not low high h = rw (lt-leb _ _ h) refl
 
--- an acceptance, with both rooms
-pub reported-as : {t : Totals} {m p ns ads ns′ ads′ : List ℕ} {start : Start} → start ≡ startIn p m
-    → ns′ ≡ filledUp 256 (part ns 0 (8 * t .named)) → ads′ ≡ filledUp 32 (part ads 0 (t .named))
-    → Reported t (rooms m p ns ads) (Accepted start (t .placed) (t .adjusted) (t .named) (t .low)) ns′ ads′
-reported-as e f g = record { outcome = rw e refl; names = f; addresses = g }
+module _ (file : List ℕ) where
+  pub opening-cut : length file < 2 → Failed CutShort ≡ opening file
+  unfolding opening need
+  opening-cut h = rw (lt-leb _ _ h) refl
+
+  pub opening-wrong : (word : ℕ) → word ≡ value 2 file 0 → 2 ≤ length file → word < 65530 → Failed WrongOpening ≡ opening file
+  unfolding opening need
+  opening-wrong word e h i = rw (le-leb _ _ h, ← e, lt-leb _ _ i) refl
+
+  pub opening-right : (word : ℕ) → word ≡ value 2 file 0 → 2 ≤ length file → 65530 ≤ word → Passed ≡ opening file
+  unfolding opening need
+  opening-right word e h i = rw (le-leb _ _ h, ← e, le-leb _ _ i) refl
 
 -- ---- first checked, then carried out
-
--- a walk that only checks has written no memory
-pub checked-as : {o : Ran Verdict} {m p ns ads m′ p′ ns′ ads′ p″ : List ℕ} {r : Walked}
-    → Went o false (rooms m p ns ads) r (rooms m′ p′ ns′ ads′) → p″ ≡ blank → Checked o m r m′ p″
-checked-as h clear = record { answer = h .did .answer; memory = h .did .memory; map = clear; bounded = h .bounded }
 
 -- what a stopped walk is reported as
 abbrev refusal : Walked → Outcome
@@ -164,6 +148,18 @@ module _ (file : List ℕ) (g : Given) where
 -- settings in range
 pub range-bounds : (low high : ℕ) → ranged low high ≡ true → (low ≤ high) × (high ≤ 65535)
 range-bounds low high e = let x = and-true (leb low high) (leb high 65535) e in (leb-true _ _ (x .0), leb-true _ _ (x .1))
+
+-- what every turn keeps holds of every file that is accepted
+module _ (file : List ℕ) (g : Given) (top : g .high ≤ 65535) (P : Progress → List Event → Type 0) (first : P (begun g) [])
+    (keeps : (y z : Progress) (es : List Event) → P y es → turn file g y (marks es blank) .answer ≡ leads z
+    → P z (es ++ turn file g y (marks es blank) .events)) where
+  pub judged-holds : (z : Progress) → judged file g .answer ≡ finished z → P z (judged file g .events)
+  unfolding judged
+  judged-holds z e = by (opening file) e
+    where
+      by : (c : Check) → opened g c (blocksOf file g) .answer ≡ finished z → P z (opened g c (blocksOf file g) .events)
+      by Passed f = blocks-hold file g top P first keeps z f
+      by (Failed fault) f = absurd (refused-finished f)
 
 -- ---- the counts
 

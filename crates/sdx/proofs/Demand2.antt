@@ -18,13 +18,14 @@ use Rattle.events.proofs.Events.{length-blank, blank-at}
 use Rattle.events.proofs.Lists.{each-map}
 use Rattle.events.specs.Events.{Event, adjust, play, marks, blank, placedIn, adjustedIn, Ran}
 use Rattle.words.specs.Runs.{Bytes}
+use Rattle.passes.proofs.Turning.{refused-finished}
+use Rattle.passes.specs.Rooms.{namesRoom, addressesRoom, startIn, filledUp, Rooms}
+use Rattle.passes.specs.Walk.{Given, Progress, Verdict, finished, refused}
 use Rattle.sdx.proofs.Calling.{range-bounds, right-sizes}
 use Rattle.sdx.proofs.Keeping.{Keeps, judged-keeps}
 use Rattle.sdx.proofs.Lawful.{Lawful, marks-untouched, marks-last, play-others, put-held, play-fields}
-use Rattle.sdx.proofs.Turning.{refused-finished}
-use Rattle.sdx.specs.Call.{namesRoom, addressesRoom, load, call, startIn, report, memoryAfter, mapAfter, filledUp, namesAfter, addressesAfter, Rooms, right, Loaded}
+use Rattle.sdx.specs.Call.{load, call, report, memoryAfter, mapAfter, namesAfter, addressesAfter, right, Loaded, atOnce, judged}
 use Rattle.sdx.specs.Demand2.{Among, Demand2, Asked, AcceptedCall}
-use Rattle.sdx.specs.Walk.{Given, Progress, Verdict, finished, refused, atOnce, judged}
 
 -- what the events of a file leave that kept to the rules
 kept-demand2 : (file : List ℕ) (g : Given) (z : Progress) (es : List Event) (m : List ℕ) → Keeps file g z es → length m ≡ 65536

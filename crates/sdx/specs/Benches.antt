@@ -9,9 +9,10 @@ use Rattle.answer.specs.declared.Fault.{Fault}
 use Rattle.answer.specs.declared.Fault.the-variants.{WrongBuffer}
 use Rattle.answer.specs.declared.Outcome.{Outcome}
 use Rattle.events.specs.Events.{Event, blank}
-use Rattle.sdx.specs.Call.{load, Rooms, right}
+use Rattle.passes.specs.Rooms.{Rooms}
+use Rattle.passes.specs.Walk.{Given, Progress, finished}
+use Rattle.sdx.specs.Call.{load, right}
 use Rattle.sdx.specs.Demand2.{Places, Among}
-use Rattle.sdx.specs.Walk.{Given, Progress, finished}
 
 -- "A refusal leaves program memory untouched, and the other buffers hold what document 01 names": a call that was refused found the buffers b,
 -- and left b′

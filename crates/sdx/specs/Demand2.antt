@@ -14,8 +14,10 @@ use Rattle.events.specs.Lists.{Each}
 use Rattle.updates.specs.Items.{slotAt}
 use Rattle.words.specs.Numbers.{value, digits, on}
 use Rattle.words.specs.Runs.{Within, part}
-use Rattle.sdx.specs.Call.{Rooms, filledUp, namesRoom, addressesRoom, inRange, right}
-use Rattle.sdx.specs.Walk.{Given, nameIn, addressIn, Deed, Progress, finished, judged}
+use Rattle.deeds.specs.Deeds.{nameIn, addressIn}
+use Rattle.passes.specs.Rooms.{Rooms, filledUp, namesRoom, addressesRoom}
+use Rattle.passes.specs.Walk.{Given, Deed, Progress, finished}
+use Rattle.sdx.specs.Call.{inRange, right, judged}
 
 -- ---- events at an address
 

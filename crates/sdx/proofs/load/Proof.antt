@@ -3,8 +3,9 @@
 use mathlib.Core.Path.{sym, _∙_}
 use borrow.Author.Needs.{needs}
 use borrow.Author.Tests.{not-true, not-false}
+use Rattle.passes.specs.Rooms.{rooms}
+use Rattle.passes.specs.Walk.{given}
 use Rattle.sdx.proofs.Calling.{loaded-wrong, loaded-right, right-sizes}
-use Rattle.sdx.specs.Call.{given, rooms}
 use Rattle.sdx.proofs.load.Statement.{statement}
 use Rattle.sdx.proofs.load.Tie as tie
 
