@@ -35,7 +35,7 @@ pub fn first(low: u16) -> Cursor
     }
 }
 
-// What a block does to memory and the map.
+// Carries out a block, in the map and, where `write` is true, in memory.
 pub fn carry_out(
     file: &[u8],
     found: Block,
@@ -75,7 +75,7 @@ pub fn carry_out(
     }
 }
 
-// The name that a block brings, behind those before it.
+// Notes the name that a block brings, behind those before it.
 pub fn note(
     file: &[u8],
     found: Block,
@@ -142,7 +142,7 @@ pub fn advance(cursor: Cursor, found: Block, next: usize) -> Cursor
     }
 }
 
-// So many bytes of the file placed at an address.
+// Places so many bytes of the file at an address.
 fn place(
     file: &[u8],
     from: usize,
@@ -160,7 +160,7 @@ fn place(
     Ended::Done { next, adjusted: 0 }
 }
 
-// The room of a relocatable block: its data placed at low, or only reserved there.
+// Places the data of a relocatable block at low, or only reserves room for it there.
 fn lay(
     file: &[u8],
     from: usize,

@@ -38,7 +38,7 @@ pub enum Walked {
     Finished(Totals),
 }
 
-// The walk that only checks, with rooms of its own for new names. The map is clear again after it.
+// Goes through all blocks and only checks them, with rooms of its own for new names. The map is clear again after it.
 pub fn check(
     file: &[u8],
     low: u16,
@@ -69,7 +69,8 @@ pub fn check(
     walked
 }
 
-// All blocks of a file, over a clear map.
+// Goes through all blocks of a file, over a clear map. `write` decides whether memory is written too; new names go to the lent rooms, behind
+// those before them.
 pub fn walk(
     file: &[u8],
     low: u16,
@@ -98,9 +99,7 @@ pub fn walk(
         let own = &new_addresses[0..named];
         let ended = deeds::carry_out(file, found, cursor, lent_addresses, own, write, memory, map);
         match ended {
-            Ended::Broken(fault) => {
-                return Walked::Stopped(fault, cursor.at);
-            }
+            Ended::Broken(fault) => return Walked::Stopped(fault, cursor.at),
             Ended::Done { next, adjusted } => {
                 deeds::note(file, found, named, new_names, new_addresses);
                 bytes += deeds::placed_by(found);
@@ -111,7 +110,7 @@ pub fn walk(
     }
 }
 
-// The acceptance of a file whose blocks are carried out; the rest of the rooms for new names is cleared.
+// Reports the acceptance of a file whose blocks are carried out, and clears the rest of the rooms for new names.
 pub fn finish(
     totals: Totals,
     memory: &[u8],
@@ -147,7 +146,7 @@ fn total(cursor: Cursor, placed: usize, adjusted: usize) -> Totals
     }
 }
 
-// Zero in all addresses.
+// Puts zero in all addresses.
 fn clear(addresses: &mut [u16])
     ensures { λ _. ⌜ now (addresses .exit) ≡ replicate (length (now (addresses .entry))) 0 ⌝ }
 {

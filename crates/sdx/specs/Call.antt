@@ -26,21 +26,19 @@ abbrev pub usual : List ℕ → List ℕ → Given
 usual names addresses = given names addresses 7936 39936
 
 -- "low and high, with low ≤ high ≤ 65,535"
-abbrev pub ranged : ℕ → ℕ → Bool
-ranged low high = leb low high && leb high 65535
-
 abbrev pub inRange : Given → Bool
-inRange g = ranged (g .low) (g .high)
+inRange g = leb (g .low) (g .high) && leb (g .high) 65535
 
 -- "known names, eight bytes each, beside a list of as many 16-bit addresses, at most 256"
 abbrev pub listed : Given → Bool
 listed g = leb (length (g .addresses)) 256 && eqb (length (g .names)) (nameSize * length (g .addresses))
 
 -- the lengths of all that is lent
-abbrev pub sized : Given → List ℕ → List ℕ → List ℕ → List ℕ → Bool
-sized g memory map names addresses =
-    eqb (length memory) 65536
-    && (eqb (length map) 65536 && (eqb (length names) namesRoom && (eqb (length addresses) addressesRoom && listed g)))
+abbrev pub sized : Given → Rooms → Bool
+sized g b =
+    eqb (length (b .memory)) 65536
+    && (eqb (length (b .map)) 65536
+    && (eqb (length (b .names)) namesRoom && (eqb (length (b .addresses)) addressesRoom && listed g)))
 
 -- a refusal before the first block: "0 for 1 to 4 and a cut opening"
 abbrev pub atOnce : Given → Fault → Ran Verdict
@@ -50,6 +48,7 @@ atOnce g fault = record { answer = refused fault (begun g); events = [] }
 unfoldable pub opening : List ℕ → Check
 opening file = need Failed (leb 2 (length file)) CutShort (need Failed (leb firstMarker (value 2 file 0)) WrongOpening Passed)
 
+-- where the checks before the first block have passed, the rest decides
 abbrev pub opened : Given → Check → Ran Verdict → Ran Verdict
 opened g Passed rest = rest
 opened g (Failed fault) rest = atOnce g fault
@@ -58,12 +57,16 @@ opened g (Failed fault) rest = atOnce g fault
 unfoldable pub judged : List ℕ → Given → Ran Verdict
 judged file g = opened g (opening file) (blocksOf file g)
 
--- a load with the right buffers: 2, then 3, then the file
+-- what a load with the right buffers checks before the first block: 2, then 3, then the opening
+unfoldable pub admitting : List ℕ → Given → Check
+admitting file g =
+    need Failed (inRange g) SettingOutOfRange
+    (need Failed (leb (length file) 65536) FileTooLong
+    (opening file))
+
+-- a load with the right buffers
 unfoldable pub load : List ℕ → Given → Ran Verdict
-load file g =
-    need (atOnce g) (inRange g) SettingOutOfRange
-    (need (atOnce g) (leb (length file) 65536) FileTooLong
-    (judged file g))
+load file g = opened g (admitting file g) (blocksOf file g)
 
 -- and whatever the buffers: 1 first
 unfoldable pub call : List ℕ → Given → Bool → Ran Verdict
@@ -95,25 +98,14 @@ abbrev pub addressesAfter : Verdict → List ℕ → List ℕ
 addressesAfter (finished z) addresses = filledUp addressesRoom (z .addresses)
 addressesAfter (refused fault z) addresses = addresses
 
--- What a load with the right buffers does: it found b, and answers r and leaves b′, as o says.
-pub record Carried (o : Ran Verdict) (b : Rooms) (r : Outcome) (b′ : Rooms) : Type 0 where
-  pub outcome : r ≡ report (b .memory) (o .answer) (o .events)
-  pub memory : b′ .memory ≡ memoryAfter (o .answer) (o .events) (b .memory)
-  pub map : b′ .map ≡ mapAfter (o .answer) (o .events)
-  pub names : b′ .names ≡ namesAfter (o .answer) (b .names)
-  pub addresses : b′ .addresses ≡ addressesAfter (o .answer) (b .addresses)
-
-abbrev pub right : Given → Rooms → Bool
-right g b = sized g (b .memory) (b .map) (b .names) (b .addresses)
-
--- What a call promises: it found the buffers b, and answers r and leaves b′.
-pub record Loaded (file : List ℕ) (g : Given) (b : Rooms) (r : Outcome) (b′ : Rooms) : Type 0 where
-  pub outcome : r ≡ report (b .memory) (call file g (right g b) .answer) (call file g (right g b) .events)
-  pub memory : b′ .memory ≡ memoryAfter (call file g (right g b) .answer) (call file g (right g b) .events) (b .memory)
+-- What a call promises: it found the buffers b, of the right lengths or not, and answers r and leaves b′.
+pub record Loaded (file : List ℕ) (g : Given) (right : Bool) (b : Rooms) (r : Outcome) (b′ : Rooms) : Type 0 where
+  pub outcome : r ≡ report (b .memory) (call file g right .answer) (call file g right .events)
+  pub memory : b′ .memory ≡ memoryAfter (call file g right .answer) (call file g right .events) (b .memory)
   -- ("Refusal 1 changes nothing")
-  pub map : b′ .map ≡ pick (right g b) (mapAfter (call file g (right g b) .answer) (call file g (right g b) .events)) (b .map)
-  pub names : b′ .names ≡ namesAfter (call file g (right g b) .answer) (b .names)
-  pub addresses : b′ .addresses ≡ addressesAfter (call file g (right g b) .answer) (b .addresses)
+  pub map : b′ .map ≡ pick right (mapAfter (call file g right .answer) (call file g right .events)) (b .map)
+  pub names : b′ .names ≡ namesAfter (call file g right .answer) (b .names)
+  pub addresses : b′ .addresses ≡ addressesAfter (call file g right .answer) (b .addresses)
   -- "neither exceeds the file's length"
   pub placed-fits : placedOf r ≤ length file
   pub adjusted-fits : adjustedOf r ≤ length file

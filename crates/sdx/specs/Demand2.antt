@@ -17,7 +17,7 @@ use Rattle.words.specs.Runs.{Within, part}
 use Rattle.deeds.specs.Deeds.{nameIn, addressIn}
 use Rattle.passes.specs.Rooms.{Rooms, filledUp, namesRoom, addressesRoom}
 use Rattle.passes.specs.Walk.{Given, Deed, Progress, finished}
-use Rattle.sdx.specs.Call.{inRange, right, judged}
+use Rattle.sdx.specs.Call.{inRange, sized, judged}
 
 -- ---- events at an address
 
@@ -131,7 +131,7 @@ pub record Demand2 (file : List ℕ) (g : Given) (z : Progress) (es : List Event
 
 -- "settings and buffers as document 01 asks"
 pub record Asked (file : List ℕ) (g : Given) (b : Rooms) : Type 0 where
-  pub buffers : right g b ≡ true
+  pub buffers : sized g b ≡ true
   pub settings : inRange g ≡ true
   pub fits : length file ≤ 65536
 

@@ -3,13 +3,16 @@ use answer::Fault;
 use answer::Outcome;
 use events::Check;
 use passes::Walked;
+ghost use mathlib.Core.Bool.{true};
+ghost use mathlib.Core.List.{[]};
 ghost use mathlib.Core.Path.{_≡_};
 ghost use Prim.Native.Nat.{_*_, _≤_};
 ghost use lib.ListN.{length};
 ghost use Rattle.events.specs.Events.{blank};
-ghost use Rattle.passes.specs.Walk.{given, blocksOf};
+ghost use Rattle.events.specs.declared.Check.the-variants.{Passed};
+ghost use Rattle.passes.specs.Walk.{given};
 ghost use Rattle.passes.specs.Rooms.{rooms};
-ghost use Rattle.sdx.specs.Call.{usual, ranged, sized, opening as openingOf, load as loadOf, Carried, Loaded};
+ghost use Rattle.sdx.specs.Call.{usual, inRange, sized, opening as openingOf, admitting, Loaded};
 
 // The length of memory and of the map.
 const MEMORY: usize = 65536;
@@ -43,23 +46,26 @@ pub fn load(
     new_names: &mut [u8],
     new_addresses: &mut [u16],
 ) -> Outcome
-    ensures { λ r. ⌜ Loaded (now (file .entry)) (given (now («known_names» .entry)) (now («known_addresses» .entry)) low high) (rooms (now (memory .entry)) (now (map .entry)) (now («new_names» .entry)) (now («new_addresses» .entry))) r (rooms (now (memory .exit)) (now (map .exit)) (now («new_names» .exit)) (now («new_addresses» .exit))) ⌝ }
+    ensures { λ r. ⌜ Loaded (now (file .entry)) (given (now («known_names» .entry)) (now («known_addresses» .entry)) low high) (sized (given (now («known_names» .entry)) (now («known_addresses» .entry)) low high) (rooms (now (memory .entry)) (now (map .entry)) (now («new_names» .entry)) (now («new_addresses» .entry)))) (rooms (now (memory .entry)) (now (map .entry)) (now («new_names» .entry)) (now («new_addresses» .entry))) r (rooms (now (memory .exit)) (now (map .exit)) (now («new_names» .exit)) (now («new_addresses» .exit))) ⌝ }
 {
-    let lent = is_sized(
+    if !is_sized(
         known_names,
         known_addresses,
         memory,
         map,
         new_names,
         new_addresses,
-    );
-    if !lent {
+    ) {
         return answer::refused(Fault::WrongBuffer);
     }
-    load_sized(
+    words::fill(map, 0);
+    if let Check::Failed(fault) = admit(file, low, high) {
+        return answer::refused(fault);
+    }
+    load_blocks(
         file,
-        low,
-        high,
+        low as u16,
+        high as u16,
         known_names,
         known_addresses,
         memory,
@@ -79,7 +85,7 @@ pub fn load_usual(
     new_names: &mut [u8],
     new_addresses: &mut [u16],
 ) -> Outcome
-    ensures { λ r. ⌜ Loaded (now (file .entry)) (usual (now («known_names» .entry)) (now («known_addresses» .entry))) (rooms (now (memory .entry)) (now (map .entry)) (now («new_names» .entry)) (now («new_addresses» .entry))) r (rooms (now (memory .exit)) (now (map .exit)) (now («new_names» .exit)) (now («new_addresses» .exit))) ⌝ }
+    ensures { λ r. ⌜ Loaded (now (file .entry)) (usual (now («known_names» .entry)) (now («known_addresses» .entry))) (sized (usual (now («known_names» .entry)) (now («known_addresses» .entry))) (rooms (now (memory .entry)) (now (map .entry)) (now («new_names» .entry)) (now («new_addresses» .entry)))) (rooms (now (memory .entry)) (now (map .entry)) (now («new_names» .entry)) (now («new_addresses» .entry))) r (rooms (now (memory .exit)) (now (map .exit)) (now («new_names» .exit)) (now («new_addresses» .exit))) ⌝ }
 {
     load(
         file,
@@ -103,7 +109,7 @@ fn is_sized(
     new_names: &[u8],
     new_addresses: &[u16],
 ) -> bool
-    ensures { λ r. ⌜ r ≡ sized (given (now («known_names» .entry)) (now («known_addresses» .entry)) 0 0) (now (memory .entry)) (now (map .entry)) (now («new_names» .entry)) (now («new_addresses» .entry)) ⌝ }
+    ensures { λ r. ⌜ r ≡ sized (given (now («known_names» .entry)) (now («known_addresses» .entry)) 0 0) (rooms (now (memory .entry)) (now (map .entry)) (now («new_names» .entry)) (now («new_addresses» .entry))) ⌝ }
 {
     if memory.len() != MEMORY {
         return false;
@@ -123,49 +129,22 @@ fn is_sized(
     known_names.len() == NAME * known_addresses.len()
 }
 
-// A load with the right buffers: the settings, the file's length, its first word, then its blocks.
-fn load_sized(
-    file: &[u8],
-    low: u32,
-    high: u32,
-    known_names: &[u8],
-    known_addresses: &[u16],
-    memory: &mut [u8],
-    map: &mut [u8],
-    new_names: &mut [u8],
-    new_addresses: &mut [u16],
-) -> Outcome
-    requires { ⌜ (length (now «known_names») ≡ 8 * length (now «known_addresses»)) × (length (now memory) ≡ 65536) × (length (now map) ≡ 65536) × (length (now «new_names») ≡ 256) × (length (now «new_addresses») ≡ 32) ⌝ }
-    ensures { λ r. ⌜ Carried (loadOf (now (file .entry)) (given (now («known_names» .entry)) (now («known_addresses» .entry)) low high)) (rooms (now (memory .entry)) (now (map .entry)) (now («new_names» .entry)) (now («new_addresses» .entry))) r (rooms (now (memory .exit)) (now (map .exit)) (now («new_names» .exit)) (now («new_addresses» .exit))) ⌝ }
+// Checks what comes before the first block: the settings, the file's length, its opening.
+fn admit(file: &[u8], low: u32, high: u32) -> Check
+    ensures { λ r. ⌜ r ≡ admitting (now (file .entry)) (given [] [] low high) ⌝ }
 {
-    words::fill(map, 0);
-    let known = in_range(low, high);
-    if !known {
-        return answer::refused(Fault::SettingOutOfRange);
+    if !in_range(low, high) {
+        return Check::Failed(Fault::SettingOutOfRange);
     }
     if FILE < file.len() {
-        return answer::refused(Fault::FileTooLong);
+        return Check::Failed(Fault::FileTooLong);
     }
-    let opened = opening(file);
-    if let Check::Failed(fault) = opened {
-        return answer::refused(fault);
-    }
-    load_blocks(
-        file,
-        low as u16,
-        high as u16,
-        known_names,
-        known_addresses,
-        memory,
-        map,
-        new_names,
-        new_addresses,
-    )
+    opening(file)
 }
 
 // Whether the settings of a call are in their ranges.
 fn in_range(low: u32, high: u32) -> bool
-    ensures { λ r. ⌜ r ≡ ranged low high ⌝ }
+    ensures { λ r. ⌜ r ≡ inRange (given [] [] low high) ⌝ }
 {
     if high < low {
         return false;
@@ -187,7 +166,7 @@ fn opening(file: &[u8]) -> Check
     Check::Passed
 }
 
-// The blocks of a file, over a clear map: checked first, and carried out only where nothing is refused.
+// Loads the blocks of a file, over a clear map: checks them first, and carries them out only where nothing is refused.
 fn load_blocks(
     file: &[u8],
     low: u16,
@@ -199,8 +178,8 @@ fn load_blocks(
     new_names: &mut [u8],
     new_addresses: &mut [u16],
 ) -> Outcome
-    requires { ⌜ (length (now file) ≤ 65536) × (length (now «known_names») ≡ 8 * length (now «known_addresses»)) × (length (now memory) ≡ 65536) × (length (now map) ≡ 65536) × (length (now «new_names») ≡ 256) × (length (now «new_addresses») ≡ 32) × (now map ≡ blank) ⌝ }
-    ensures { λ r. ⌜ Carried (blocksOf (now (file .entry)) (given (now («known_names» .entry)) (now («known_addresses» .entry)) low high)) (rooms (now (memory .entry)) (now (map .entry)) (now («new_names» .entry)) (now («new_addresses» .entry))) r (rooms (now (memory .exit)) (now (map .exit)) (now («new_names» .exit)) (now («new_addresses» .exit))) ⌝ }
+    requires { ⌜ (length (now file) ≤ 65536) × (length (now «known_names») ≡ 8 * length (now «known_addresses»)) × (length (now memory) ≡ 65536) × (length (now map) ≡ 65536) × (length (now «new_names») ≡ 256) × (length (now «new_addresses») ≡ 32) × (now map ≡ blank) × (admitting (now file) (given (now «known_names») (now «known_addresses») low high) ≡ Passed) ⌝ }
+    ensures { λ r. ⌜ Loaded (now (file .entry)) (given (now («known_names» .entry)) (now («known_addresses» .entry)) low high) true (rooms (now (memory .entry)) (now (map .entry)) (now («new_names» .entry)) (now («new_addresses» .entry))) r (rooms (now (memory .exit)) (now (map .exit)) (now («new_names» .exit)) (now («new_addresses» .exit))) ⌝ }
 {
     let checked = passes::check(file, low, high, known_names, known_addresses, memory, map);
     match checked {

@@ -60,7 +60,7 @@ abbrev isPassed : Check → Bool
 isPassed Passed = true
 isPassed (Failed fault) = false
 
-failed-passed : (fault : Fault) → Failed fault ≡ Passed → ⊥
+pub failed-passed : (fault : Fault) → Failed fault ≡ Passed → ⊥
 failed-passed fault e = false≢true (ap isPassed e)
 
 -- a word that an item adjusts lies in memory
