@@ -13,9 +13,6 @@ ghost use Rattle.updates.specs.Bodies.{ended};
 ghost use Rattle.deeds.specs.Deeds.{placing, laying, carried, firstCursor, movedOn, withBlock, advanced, placedBy};
 ghost use Rattle.deeds.specs.Parts.{NameFits, RoomFits, Noted};
 
-// The bytes of a name.
-const NAME: usize = 8;
-
 // The cursor before the first block.
 pub fn first(low: u16) -> Cursor
     ensures { λ r. ⌜ r ≡ firstCursor low ⌝ }
@@ -68,7 +65,7 @@ pub fn carry_out(
             updates::body(file, table, amount, from, write, memory, map)
         }
         Block::NewName { from, address } => Ended::Done {
-            next: from + NAME,
+            next: from + names::NAME,
             adjusted: 0,
         },
         Block::Faulty(fault) => Ended::Broken(fault),
@@ -87,9 +84,9 @@ pub fn note(
     ensures { λ _. ⌜ Noted (now (file .entry)) found named (now («new_names» .entry)) (now («new_addresses» .entry)) (now («new_names» .exit)) (now («new_addresses» .exit)) ⌝ }
 {
     if let Block::NewName { from, address } = found {
-        let end = from + NAME;
-        let start = NAME * named;
-        let stop = start + NAME;
+        let end = from + names::NAME;
+        let start = names::NAME * named;
+        let stop = start + names::NAME;
         words::copy(&mut new_names[start..stop], &file[from..end]);
         new_addresses[named] = address;
     }

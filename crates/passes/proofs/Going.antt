@@ -17,7 +17,7 @@ use Rattle.events.proofs.Events.{placed-append, adjusted-append, reached-none, 
 use Rattle.events.proofs.Walks.{came-on, came-end}
 use Rattle.events.specs.Events.{Event, marks, blank, placedIn, adjustedIn, Ran, Reached, Did}
 use Rattle.events.specs.Walk.{Turn, ends, leads, after}
-use Rattle.updates.specs.Bodies.{Stop, broken, done, counted, ended}
+use Rattle.updates.specs.Bodies.{Stop, broken, done, counted, ended, bytesLeft}
 use Rattle.updates.specs.declared.Ended.{Ended}
 use Rattle.updates.specs.declared.Ended.the-variants.{Broken, Done}
 use Rattle.words.proofs.Runs.{front-holds}
@@ -29,7 +29,7 @@ use Rattle.deeds.specs.Parts.{NameFits, RoomFits, Noted}
 use Rattle.passes.proofs.Turning.{turn-end, turn-block, block-fits, turn-falls}
 use Rattle.passes.specs.Parts.{totals, Bounded, Went}
 use Rattle.passes.specs.Rooms.{Rooms, rooms}
-use Rattle.passes.specs.Walk.{stepped, Given, Deed, Progress, Verdict, finished, refused, judge, blockAt, carriedAt, turn, bytesLeft, blocksFrom, begun, blocksOf}
+use Rattle.passes.specs.Walk.{stepped, Given, Deed, Progress, Verdict, finished, refused, judge, blockAt, carriedAt, turn, blocksFrom, begun, blocksOf}
 use Rattle.passes.specs.declared.Totals.{Totals}
 use Rattle.passes.specs.declared.Walked.{Walked}
 use Rattle.passes.specs.declared.Walked.the-variants.{Stopped, Finished}
@@ -137,7 +137,7 @@ module _ {file : List ℕ} {g : Given} {write : Bool} {b : Rooms} where
         → blocksOf file g ≡ record { answer = v; events = x .events ++ turn file g here (marks (x .events) blank) .events }
     unfolding blocksFrom
     ends-with v e =
-        came-end (turn file g) (λ y. refused CutShort y) (bytesLeft file) (turn-falls file g top) (blocksOf file g) (x .events) here blank
+        came-end (turn file g) (λ y. refused CutShort y) (λ y. bytesLeft file (y .cursor .at)) (turn-falls file g top) (blocksOf file g) (x .events) here blank
         (x .came) v e
 
     -- at the file's end the walk has finished
@@ -252,7 +252,7 @@ module _ {file : List ℕ} {g : Given} {write : Bool} {b : Rooms} where
               let t : turn file g here (marks (x .events) blank) ≡ record { answer = leads then; events = o .events } =
               turn-is
               ∙ ap (λ (s : Stop). record { answer = judge file here (blockAt file g here) (o .events) s; events = o .events }) (stopped .0) in
-              came-on (turn file g) (λ y. refused CutShort y) (bytesLeft file) (turn-falls file g top) (blocksOf file g) (x .events) here blank
+              came-on (turn file g) (λ y. refused CutShort y) (λ y. bytesLeft file (y .cursor .at)) (turn-falls file g top) (blocksOf file g) (x .events) here blank
               (x .came) then (ap (λ (q : Ran (Turn Progress Verdict)). q .answer) t)
               ∙ ap
               (λ (es : List Event). after (x .events ++ es) (blocksFrom file g then (marks (x .events ++ es) blank)))

@@ -16,10 +16,10 @@ use Rattle.blocks.specs.Bounds.{Fits}
 use Rattle.events.proofs.Walks.{ends-leads, leads-same, ends-same, walk-keeps}
 use Rattle.events.specs.Events.{Event, marks, blank, Ran}
 use Rattle.events.specs.Walk.{Turn, ends, leads}
-use Rattle.updates.specs.Bodies.{Stop, broken, done}
+use Rattle.updates.specs.Bodies.{Stop, broken, done, bytesLeft}
 use Rattle.deeds.proofs.Ending.{Ends, carried-ends, advanced-at}
 use Rattle.passes.specs.Parts.{progressOf}
-use Rattle.passes.specs.Walk.{Given, Progress, Verdict, finished, refused, judge, blockAt, carriedAt, turn, bytesLeft, blocksFrom, begun, blocksOf, stepped}
+use Rattle.passes.specs.Walk.{Given, Progress, Verdict, finished, refused, judge, blockAt, carriedAt, turn, blocksFrom, begun, blocksOf, stepped}
 
 -- a refusal is no end of a file
 abbrev isFinished : Verdict → ℕ
@@ -112,7 +112,7 @@ module _ (file : List ℕ) (g : Given) (top : g .high ≤ 65535) where
       ∙ advanced-at file (g .addresses) (y .addresses) (y .cursor) (blockAt file g y) map (l .next) (l .done-at) in
       rw (a, l .events) f
 
-  pub turn-falls : (y z : Progress) (map : List ℕ) → turn file g y map .answer ≡ leads z → bytesLeft file z < bytesLeft file y
+  pub turn-falls : (y z : Progress) (map : List ℕ) → turn file g y map .answer ≡ leads z → bytesLeft file (z .cursor .at) < bytesLeft file (y .cursor .at)
   turn-falls y z map e = let l = led-ends y z map e in omega (arith, l .further, l .inside)
 
   -- ---- what every turn keeps
@@ -124,7 +124,7 @@ module _ (file : List ℕ) (g : Given) (top : g .high ≤ 65535) where
     pub blocks-hold : (z : Progress) → blocksOf file g .answer ≡ finished z → P z (blocksOf file g .events)
     unfolding blocksFrom
     blocks-hold z e =
-        let x = walk-keeps (turn file g) (λ y. refused CutShort y) (bytesLeft file) turn-falls P blank keeps (begun g) first in
+        let x = walk-keeps (turn file g) (λ y. refused CutShort y) (λ y. bytesLeft file (y .cursor .at)) turn-falls P blank keeps (begun g) first in
         let t = turn-finished file g (x .state) (marks (x .before) blank) z (x .answer ∙ ap ends e) in
         let es : blocksOf file g .events ≡ x .before = x .events ∙ ap (λ (fs : List Event). x .before ++ fs) (t .1) ∙ append-nil (x .before) in
         rw (es, ← t .0) (x .held)

@@ -1,7 +1,7 @@
 -- A file, block by block: "A file is blocks until its end."
 -- Assumes nothing.
 use mathlib.Core.List.{List, [], _∷_, _++_}
-use Prim.Native.Nat.{ℕ, _-_}
+use Prim.Native.Nat.{ℕ}
 use lib.Dec.{eqb}
 use lib.ListN.{length}
 use Rattle.answer.specs.Checks.{pick}
@@ -13,7 +13,7 @@ use Rattle.blocks.specs.declared.Cursor.{Cursor}
 use Rattle.deeds.specs.Deeds.{carried, firstCursor, advanced, nameIn, addressIn}
 use Rattle.events.specs.Events.{Event, blank, Ran}
 use Rattle.events.specs.Walk.{Turn, ends, leads, from}
-use Rattle.updates.specs.Bodies.{Stop, broken, done}
+use Rattle.updates.specs.Bodies.{Stop, broken, done, bytesLeft}
 
 -- "SDX: known names .., beside a list of as many 16-bit addresses ..; low and high"
 pub record Given : Type 0 where
@@ -22,6 +22,7 @@ pub record Given : Type 0 where
   pub low : ℕ
   pub high : ℕ
 
+-- all of it
 abbrev pub given : List ℕ → List ℕ → ℕ → ℕ → Given
 given names addresses low high = record { names = names; addresses = addresses; low = low; high = high }
 
@@ -58,10 +59,11 @@ abbrev pub judge : List ℕ → Progress → Block → List Event → Stop → T
 judge file z found es (broken fault) = ends (refused fault z)
 judge file z found es (done next) = leads (stepped file z found es next)
 
--- the next block, and what it comes to
+-- the next block
 abbrev pub blockAt : List ℕ → Given → Progress → Block
 blockAt file g z = read file (g .high) (g .names) (z .names) (z .cursor)
 
+-- and what it comes to
 unfoldable pub carriedAt : List ℕ → Given → Progress → List ℕ → Ran Stop
 carriedAt file g z map = carried file (g .addresses) (z .addresses) (z .cursor) (blockAt file g z) map
 
@@ -75,12 +77,9 @@ turn file g z map =
       events = carriedAt file g z map .events;
     })
 
-abbrev pub bytesLeft : List ℕ → Progress → ℕ
-bytesLeft file z = length file - z .cursor .at
-
 -- the blocks from some progress on
 unfoldable pub blocksFrom : List ℕ → Given → Progress → List ℕ → Ran Verdict
-blocksFrom file g z map = from (turn file g) (λ y. refused CutShort y) (bytesLeft file) z map
+blocksFrom file g z map = from (turn file g) (λ y. refused CutShort y) (λ y. bytesLeft file (y .cursor .at)) z map
 
 -- before the first block
 abbrev pub begun : Given → Progress

@@ -18,9 +18,6 @@ pub const NAMES: usize = 256;
 
 pub const ADDRESSES: usize = 32;
 
-// The bytes of a name.
-const NAME: usize = 8;
-
 // Where a program's start stands.
 const START: usize = 0x02E0;
 
@@ -94,7 +91,7 @@ pub fn walk(
             return Walked::Finished(total(cursor, bytes, fields));
         }
         let named = cursor.named;
-        let size = NAME * named;
+        let size = names::NAME * named;
         let found = blocks::read(file, high, lent_names, &new_names[0..size], cursor);
         let own = &new_addresses[0..named];
         let ended = deeds::carry_out(file, found, cursor, lent_addresses, own, write, memory, map);
@@ -122,7 +119,7 @@ pub fn finish(
     ensures { λ r. ⌜ Reported totals (rooms (now (memory .entry)) (now (map .entry)) (now («new_names» .entry)) (now («new_addresses» .entry))) r (now («new_names» .exit)) (now («new_addresses» .exit)) ⌝ }
 {
     let named = totals.named;
-    let size = NAME * named;
+    let size = names::NAME * named;
     words::fill(&mut new_names[size..NAMES], 0);
     clear(&mut new_addresses[named..ADDRESSES]);
     Outcome::Accepted {

@@ -21,13 +21,7 @@ const MEMORY: usize = 65536;
 const FILE: usize = 65536;
 
 // The most names that are lent.
-const KNOWN: usize = 256;
-
-// The bytes of a name.
-const NAME: usize = 8;
-
-// The lowest marker.
-const FIRST_MARKER: u16 = 0xFFFA;
+pub const KNOWN: usize = 256;
 
 // The settings of the short call.
 pub const USUAL_LOW: u32 = 7936;
@@ -126,7 +120,7 @@ fn is_sized(
     if KNOWN < known_addresses.len() {
         return false;
     }
-    known_names.len() == NAME * known_addresses.len()
+    known_names.len() == names::NAME * known_addresses.len()
 }
 
 // Checks what comes before the first block: the settings, the file's length, its opening.
@@ -160,7 +154,7 @@ fn opening(file: &[u8]) -> Check
         return Check::Failed(Fault::CutShort);
     }
     let word = words::word_at(file, 0);
-    if word < FIRST_MARKER {
+    if word < blocks::FIRST_MARKER {
         return Check::Failed(Fault::WrongOpening);
     }
     Check::Passed
