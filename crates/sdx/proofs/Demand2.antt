@@ -14,6 +14,7 @@ use Rattle.answer.specs.declared.Fault.the-variants.{WrongBuffer}
 use Rattle.answer.specs.declared.Outcome.{Outcome}
 use Rattle.answer.specs.declared.Outcome.the-variants.{Accepted, Refused}
 use Rattle.answer.specs.declared.Start.{Start}
+use Rattle.answer.specs.declared.Start.the-variants.{Absent}
 use Rattle.events.proofs.Events.{length-blank, blank-at}
 use Rattle.events.proofs.Lists.{each-map}
 use Rattle.events.specs.Events.{Event, adjust, play, marks, blank, placedIn, adjustedIn, Ran}
@@ -24,18 +25,20 @@ use Rattle.passes.proofs.Turning.{refused-finished}
 use Rattle.passes.specs.Rooms.{namesRoom, addressesRoom, startIn, filledUp, Rooms}
 use Rattle.passes.specs.Walk.{Given, Progress, Verdict, finished, refused, blocksOf}
 use Rattle.sdx.proofs.Calling.{admitted, range-bounds, right-sizes}
-use Rattle.sdx.proofs.Keeping.{Keeps, judged-keeps}
+use Rattle.sdx.proofs.Keeping.{Keeps, judged-keeps, judged-came}
 use Rattle.sdx.proofs.Lawful.{Lawful, marks-untouched, marks-last, play-others, put-held, play-fields}
 use Rattle.sdx.specs.Call.{atOnce, opened, admitting, load, call, report, memoryAfter, mapAfter, namesAfter, addressesAfter, sized, Loaded, judged}
-use Rattle.sdx.specs.Demand2.{Among, Demand2, Asked, AcceptedCall}
+use Rattle.sdx.specs.Demand2.{Among, Came, Demand2, Asked, AcceptedCall, Claim}
 
 -- what the events of a file leave that kept to the rules
-kept-demand2 : (file : List ℕ) (g : Given) (z : Progress) (es : List Event) (m : List ℕ) → Keeps file g z es → length m ≡ 65536
+kept-demand2 : (file : List ℕ) (g : Given) (z : Progress) (es : List Event) (m : List ℕ) → Came file g z es → Keeps file g z es
+    → length m ≡ 65536
     → Demand2 file g z es m (play es m) (marks es blank) (placedIn es) (adjustedIn es)
-kept-demand2 file g z es m k n =
+kept-demand2 file g z es m c k n =
     let split : (before : List Event) (e : Event) (after : List Event) → Among es before e after → Lawful blank (before ++ (e ∷ after)) =
     λ before e after h. rw (h .order) at (k .lawful) in
     record {
+      came = c;
       deeds = k .deeds;
       by-rule = each-map (λ d h. h .by-rule) (z .deeds) (k .ruled);
       names = k .names;
@@ -57,7 +60,7 @@ pub demand2 : (file : List ℕ) (g : Given) (z : Progress) (m : List ℕ) → g 
     → judged file g .answer ≡ finished z
     → Demand2 file g z (judged file g .events) m (play (judged file g .events) m) (marks (judged file g .events) blank)
     (placedIn (judged file g .events)) (adjustedIn (judged file g .events))
-demand2 file g z m top bytes n e = kept-demand2 file g z (judged file g .events) m (judged-keeps file g top bytes z e) n
+demand2 file g z m top bytes n e = kept-demand2 file g z (judged file g .events) m (judged-came file g top bytes z e) (judged-keeps file g top bytes z e) n
 
 -- ---- of every call
 
@@ -112,10 +115,14 @@ call-leaves file g b b′ r d a z e =
       addresses = d .addresses ∙ j (List ℕ) (λ v fs. addressesAfter v (b .addresses));
     }
 
--- the number of new names, and low, of an outcome
+-- the number of new names, the start and low of an outcome
 abbrev namedOf : Outcome → ℕ
 namedOf (Accepted start placed adjusted named low) = named
 namedOf (Refused fault offset side) = 0
+
+abbrev startOf : Outcome → Start
+startOf (Accepted start placed adjusted named low) = start
+startOf (Refused fault offset side) = Absent
 
 abbrev lowOf : Outcome → ℕ
 lowOf (Accepted start placed adjusted named low) = low
@@ -131,7 +138,7 @@ accepted-call : (file : List ℕ) (g : Given) (b b′ : Rooms) (r : Outcome) (z 
     → judged file g .answer ≡ finished z
     → (start : Start) (placed adjusted named low : ℕ)
     → r ≡ Accepted start placed adjusted named low
-    → AcceptedCall file g b b′ placed adjusted named low
+    → AcceptedCall file g b b′ start placed adjusted named low
 accepted-call file g b b′ r z d bytes a f start placed adjusted named low e =
     let l = call-leaves file g b b′ r d a z f in
     let s : Accepted start placed adjusted named low ≡ report (b .memory) (finished z) (judged file g .events) = sym e ∙ l .outcome in
@@ -142,28 +149,33 @@ accepted-call file g b b′ r z d bytes a f start placed adjusted named low e =
       end = z;
       follows = f;
       leaves = rw (l .memory, l .map, ep, ea) (demand2 file g z (b .memory) (asked-top file g b a) bytes (asked-memory file g b a) f);
+      start-is = rw (l .memory, l .map) (ap startOf s);
       new-names = l .names;
       new-addresses = l .addresses;
       named-count = ap namedOf s;
       low-after = ap lowOf s;
     }
 
--- Demand 2, of every accepted call
-pub call-demand2 : (file : List ℕ) (g : Given) (b b′ : Rooms) (r : Outcome) → Loaded file g (sized g b) b r b′ → Bytes file → (start : Start)
+-- an accepted call
+call-accepted : (file : List ℕ) (g : Given) (b b′ : Rooms) (r : Outcome) → Loaded file g (sized g b) b r b′ → Bytes file → (start : Start)
     (placed adjusted named low : ℕ)
     → r ≡ Accepted start placed adjusted named low
-    → AcceptedCall file g b b′ placed adjusted named low
-call-demand2 file g b b′ r d bytes start placed adjusted named low e =
+    → AcceptedCall file g b b′ start placed adjusted named low
+call-accepted file g b b′ r d bytes start placed adjusted named low e =
     let o = call file g (sized g b) in
     let x = reported-finished (b .memory) (o .answer) (o .events) (ap isRefused (sym (d .outcome) ∙ e)) in
     let a = finished-asked file g b (x .0) (x .1) in
     let f = ap (λ (k : Ran Verdict). k .answer) (sym (asked-judged file g b a)) ∙ x .1 in
     accepted-call file g b b′ r (x .0) d bytes a f start placed adjusted named low e
 
--- a call as asked accepts every file that the rules accept: with the start that map and memory show, the counts of its events, the number of
--- new names and low afterwards
-pub call-accepts : (file : List ℕ) (g : Given) (b b′ : Rooms) (r : Outcome) (z : Progress) → Asked file g b → judged file g .answer ≡ finished z
-    → Loaded file g (sized g b) b r b′
+-- a call as asked accepts every file that the rules accept
+call-accepts : (file : List ℕ) (g : Given) (b b′ : Rooms) (r : Outcome) → Loaded file g (sized g b) b r b′ → Asked file g b → (z : Progress)
+    → judged file g .answer ≡ finished z
     → r ≡ Accepted (startIn (b′ .map) (b′ .memory)) (placedIn (judged file g .events)) (adjustedIn (judged file g .events)) (length (z .addresses))
     (z .cursor .low)
-call-accepts file g b b′ r z a f d = let l = call-leaves file g b b′ r d a z f in rw (l .memory, l .map) (l .outcome)
+call-accepts file g b b′ r d a z f = let l = call-leaves file g b b′ r d a z f in rw (l .memory, l .map) (l .outcome)
+
+-- Demand 2, of every call
+pub call-demand2 : Claim
+call-demand2 file bytes g b b′ r d =
+    record { accepted = call-accepted file g b b′ r d bytes; accepts = call-accepts file g b b′ r d }

@@ -36,7 +36,7 @@ use Rattle.sdx.proofs.Calling.{judged-holds}
 use Rattle.sdx.proofs.Lawful.{Lawful, lawful-append}
 use Rattle.sdx.proofs.Passing.{Granted, read-granted, body-lawful}
 use Rattle.sdx.specs.Call.{judged}
-use Rattle.sdx.specs.Demand2.{AdjustsBy, ByRule, eventsOf, namesOf, addressesOf}
+use Rattle.sdx.specs.Demand2.{AdjustsBy, ByRule, Came, at-start, after-block, eventsOf, namesOf, addressesOf}
 
 -- ---- progress that only grows
 
@@ -283,3 +283,13 @@ module _ (file : List ℕ) (g : Given) (top : g .high ≤ 65535) (bytes : Bytes 
   -- so it holds of every file that is accepted
   pub judged-keeps : (z : Progress) → judged file g .answer ≡ finished z → Keeps file g z (judged file g .events)
   judged-keeps = judged-holds file g top (Keeps file g) (keeps-first file g) keeps-on
+
+  -- and it came there block by block
+  came-on : (y z : Progress) (es : List Event) → Came file g y es → turn file g y (marks es blank) .answer ≡ leads z
+      → Came file g z (es ++ turn file g y (marks es blank) .events)
+  came-on y z es h e =
+      let l = turn-led file g y (marks es blank) z e in
+      rw (l .events) (after-block h (record { end = l .next; carried-out = l .done-at; leads-to = sym (l .leads-to) }))
+
+  pub judged-came : (z : Progress) → judged file g .answer ≡ finished z → Came file g z (judged file g .events)
+  judged-came = judged-holds file g top (Came file g) at-start came-on
