@@ -3,7 +3,7 @@
 use mathlib.Core.Bool.{Bool, true, not}
 use mathlib.Core.List.{List}
 use mathlib.Core.Path.{_≡_, refl}
-use Prim.Native.Nat.{ℕ, _+_, _-_, _*_, _/_, _≤_, _<_}
+use Prim.Native.Nat.{ℕ, _+_, _*_, _/_, _≤_, _<_}
 use native.Mathlib.Omega.{arith}
 use borrow.Author.Tests.{leb-true, ltb-true}
 use lib.Dec.{ltb}
@@ -14,11 +14,11 @@ use Rattle.answer.specs.declared.Fault.{Fault}
 use Rattle.names.proofs.Searching.{own-inside, lent-inside}
 use Rattle.names.specs.Names.{lookUp}
 use Rattle.names.specs.declared.Definition.{Definition}
-use Rattle.names.specs.declared.Definition.the-variants.{Missing, New, Lent}
+use Rattle.names.specs.declared.Definition.the-variants.{Missing, Own, Lent}
 use Rattle.updates.specs.Items.{slotAt}
 use Rattle.words.specs.Numbers.{value}
 use Rattle.words.specs.Runs.{part}
-use Rattle.blocks.specs.Blocks.{readPlain, mostBlocks, readRoom, readRelocatable, readUpdate, byDefinition, readNames, readAddress, readNewName, Marker, plain, names, newName, update, relocatable, firstMarker, markers, readAs, read}
+use Rattle.blocks.specs.Blocks.{readPlain, mostBlocks, readRoom, readRelocatable, readUpdate, byDefinition, readNames, readAddress, readNewName, read}
 use Rattle.blocks.specs.Bounds.{Fits}
 use Rattle.blocks.specs.declared.Block.{Block}
 use Rattle.blocks.specs.declared.Block.the-variants.{Faulty}
@@ -68,7 +68,7 @@ module _ (file : List ℕ) (high : ℕ) (lent own : List ℕ) (c : Cursor) where
     where
       by : (d : Definition) → lookUp own lent (part file (c .at + 2) 8) ≡ d → c .at + 12 ≤ length file → Lain (byDefinition (c .at + 12) d)
       by Missing e l = record { lies = tt }
-      by (New i) e l = record { lies = (omega arith, l, listed i (length own) (own-inside own lent _ i e)) }
+      by (Own i) e l = record { lies = (omega arith, l, listed i (length own) (own-inside own lent _ i e)) }
       by (Lent i) e l = record { lies = (omega arith, l, listed i (length lent) (lent-inside own lent _ i e)) }
 
   new-name-lies : Lain (readNewName file c)
@@ -81,16 +81,12 @@ module _ (file : List ℕ) (high : ℕ) (lent own : List ℕ) (c : Cursor) where
       (λ k. checked _ _ _
       (λ l. let header : c .at + 13 ≤ length file = leb-true _ _ h in record { lies = (omega arith, omega arith, ltb-true _ _ l) })))))
 
-  marked-lies : high ≤ 65535 → (m : Marker) → Lain (readAs file high lent own c m)
-  marked-lies h plain = plain-lies (c .at + 2) (omega arith)
-  marked-lies h names = names-lies
-  marked-lies h newName = new-name-lies
-  marked-lies h update = update-lies
-  marked-lies h relocatable = relocatable-lies h
-
   pub read-lies : high ≤ 65535 → Fits (length file) c (length lent / 8) (length own / 8) (read file high lent own c)
   unfolding read
   read-lies h =
       checked _ _ _
       (λ i. on-pick Lain _ _ _ (λ j. plain-lies (c .at) (omega arith))
-      (λ j. marked-lies h (getD markers (value 2 file (c .at) - firstMarker) plain)))
+      (λ j. on-pick Lain _ _ _ (λ k. names-lies)
+      (λ k. on-pick Lain _ _ _ (λ l. new-name-lies)
+      (λ l. on-pick Lain _ _ _ (λ m. update-lies)
+      (λ m. on-pick Lain _ _ _ (λ n. relocatable-lies h) (λ n. plain-lies (c .at + 2) (omega arith)))))))

@@ -3,7 +3,7 @@
 use mathlib.Core.Bool.{Bool, true, false}
 use mathlib.Core.List.{List}
 use mathlib.Core.Path.{_≡_, refl, sym, ap, _∙_}
-use Prim.Native.Nat.{ℕ, zero, suc, _+_, _-_, _%_, _<_, _≤_}
+use Prim.Native.Nat.{ℕ, _+_, _-_, _%_, _<_, _≤_}
 use native.Mathlib.Omega.{arith}
 use borrow.Author.Tests.{lt-leb, le-leb, lt-ltb, le-ltb, ne-eqb}
 use lib.ListN.{length, getD}
@@ -13,13 +13,13 @@ use Rattle.answer.specs.declared.Fault.{Fault}
 use Rattle.answer.specs.declared.Fault.the-variants.{CutShort, NotKnown, BlockTaken, BlockMissing, LengthNotAllowed, DoesNotFit, TooManyNames, NameOutsideBlock}
 use Rattle.names.specs.Names.{lookUp}
 use Rattle.names.specs.declared.Definition.{Definition}
-use Rattle.names.specs.declared.Definition.the-variants.{Missing, New, Lent}
+use Rattle.names.specs.declared.Definition.the-variants.{Missing, Own, Lent}
 use Rattle.updates.specs.Items.{slotAt}
 use Rattle.updates.specs.declared.Slot.{Slot}
 use Rattle.words.proofs.Numbers.{off-is}
 use Rattle.words.specs.Numbers.{value}
 use Rattle.words.specs.Runs.{part}
-use Rattle.blocks.specs.Blocks.{readPlain, dataSize, readRoom, readRelocatable, readUpdate, byDefinition, readNames, readAddress, readNewName, plain, markers, readAs, read, amountOf}
+use Rattle.blocks.specs.Blocks.{readPlain, dataSize, readRoom, readRelocatable, readUpdate, byDefinition, readNames, readAddress, readNewName, read, amountOf}
 use Rattle.blocks.specs.Bounds.{Listed, InMemory}
 use Rattle.blocks.specs.declared.Block.{Block}
 use Rattle.blocks.specs.declared.Block.the-variants.{Plain, Relocatable, Update, NewName, Faulty}
@@ -62,7 +62,7 @@ names-in-memory file lent own c = in-need _ _ _ (by (lookUp own lent _))
   where
     by : (d : Definition) → InMemory (byDefinition (c .at + 12) d)
     by Missing = in-memory _ (omega arith)
-    by (New i) = in-memory _ (omega arith)
+    by (Own i) = in-memory _ (omega arith)
     by (Lent i) = in-memory _ (omega arith)
 
 pub new-name-in-memory : (file : List ℕ) (c : Cursor) → InMemory (readNewName file c)
@@ -250,32 +250,29 @@ module _ (file : List ℕ) (high : ℕ) (lent own : List ℕ) (c : Cursor) where
     unfolding read need pick
     read-unmarked h e = rw (le-leb _ _ header, ← ew, lt-ltb _ _ h) e
 
-    marked : (w : ℕ) → word ≡ w → 65530 ≤ w → r ≡ readAs file high lent own c (getD markers (w - 65530) plain) → r ≡ read file high lent own c
-    unfolding read need pick
-    marked w e h i = let f : value 2 file (c .at) ≡ w = sym ew ∙ e in rw (le-leb _ _ header, f, le-ltb _ _ h) i
+    -- its first word is a marker
+    here : (w : ℕ) → word ≡ w → value 2 file (c .at) ≡ w
+    here w e = sym ew ∙ e
 
     pub read-names : word ≡ 65531 → r ≡ readNames file lent own c → r ≡ read file high lent own c
-    read-names e i = marked 65531 e (omega arith) i
+    unfolding read need pick
+    read-names e i = rw (le-leb _ _ header, here 65531 e) i
 
     pub read-new-name : word ≡ 65532 → r ≡ readNewName file c → r ≡ read file high lent own c
-    read-new-name e i = marked 65532 e (omega arith) i
+    unfolding read need pick
+    read-new-name e i = rw (le-leb _ _ header, here 65532 e) i
 
     pub read-update : word ≡ 65533 → r ≡ readUpdate file c → r ≡ read file high lent own c
-    read-update e i = marked 65533 e (omega arith) i
+    unfolding read need pick
+    read-update e i = rw (le-leb _ _ header, here 65533 e) i
 
     pub read-relocatable : word ≡ 65534 → r ≡ readRelocatable file high c → r ≡ read file high lent own c
-    read-relocatable e i = marked 65534 e (omega arith) i
+    unfolding read need pick
+    read-relocatable e i = rw (le-leb _ _ header, here 65534 e) i
 
     -- (FFFA and FFFF are what is left)
-    pub read-marked : word < 65536 → 65530 ≤ word → (word ≡ 65531 → ⊥) → (word ≡ 65532 → ⊥) → (word ≡ 65533 → ⊥) → (word ≡ 65534 → ⊥)
+    pub read-marked : 65530 ≤ word → (word ≡ 65531 → ⊥) → (word ≡ 65532 → ⊥) → (word ≡ 65533 → ⊥) → (word ≡ 65534 → ⊥)
         → r ≡ readPlain file (c .at + 2) → r ≡ read file high lent own c
-    read-marked below above h i j k e = by (word - 65530) (omega arith)
-      where
-        by : (n : ℕ) → word ≡ n + 65530 → r ≡ read file high lent own c
-        by zero f = marked 65530 f (omega arith) e
-        by (suc zero) f = absurd (h f)
-        by (suc (suc zero)) f = absurd (i f)
-        by (suc (suc (suc zero))) f = absurd (j f)
-        by (suc (suc (suc (suc zero)))) f = absurd (k f)
-        by (suc (suc (suc (suc (suc zero))))) f = marked 65535 f (omega arith) e
-        by (suc (suc (suc (suc (suc (suc n)))))) f = absurd (omega arith)
+    unfolding read need pick
+    read-marked above h i j k e =
+        rw (le-leb _ _ header, ← ew, le-ltb _ _ above, ne-eqb _ _ h, ne-eqb _ _ i, ne-eqb _ _ j, ne-eqb _ _ k) e

@@ -2,7 +2,7 @@
 -- Cited by `blocks::read`; what is left to check, in the bodies and against the map, stands in `updates`.
 -- Assumes nothing.
 use mathlib.Core.Bool.{Bool, true, false, not, _&&_, _||_}
-use mathlib.Core.List.{List, [], _∷_}
+use mathlib.Core.List.{List}
 use Prim.Native.Nat.{ℕ, _+_, _-_}
 use lib.Dec.{ltb, leb, eqb}
 use lib.ListN.{length, getD}
@@ -10,8 +10,8 @@ use Rattle.answer.specs.Checks.{need, pick}
 use Rattle.answer.specs.declared.Fault.the-variants.{CutShort, NotKnown, BlockTaken, BlockMissing, LengthNotAllowed, DoesNotFit, NameUnknown, TooManyNames, NameOutsideBlock}
 use Rattle.names.specs.Names.{nameSize, lookUp}
 use Rattle.names.specs.declared.Definition.{Definition}
-use Rattle.names.specs.declared.Definition.the-variants.{Missing, New, Lent}
-use Rattle.updates.specs.Items.{slotAt}
+use Rattle.names.specs.declared.Definition.the-variants.{Missing, Own, Lent}
+use Rattle.updates.specs.Items.{slotAt, lastNumber}
 use Rattle.updates.specs.declared.Slot.{Slot}
 use Rattle.words.specs.Numbers.{value, off}
 use Rattle.words.specs.Runs.{part}
@@ -41,12 +41,9 @@ dataSize false size = size
 abbrev pub isId : ℕ → Bool
 isId id = eqb id 0 || eqb id 0x80
 
+-- "80 for reserve only"
 abbrev pub reserveOnly : ℕ → Bool
 reserveOnly id = eqb id 0x80
-
--- "number ≤ 7"
-abbrev pub lastNumber : ℕ
-lastNumber = 7
 
 -- "fewer than seven blocks so far"
 abbrev pub mostBlocks : ℕ
@@ -80,9 +77,10 @@ readUpdate file c =
     (need Faulty (slotAt (c .table) number .taken) BlockMissing
     (Update (Number number) (c .at + 5))))
 
+-- a body whose words grow by the address of a name, by the definition that holds: "name known (14)"
 abbrev pub byDefinition : ℕ → Definition → Block
 byDefinition next Missing = Faulty NameUnknown
-byDefinition next (New i) = Update (OwnName i) next
+byDefinition next (Own i) = Update (OwnName i) next
 byDefinition next (Lent i) = Update (LentName i) next
 
 -- "FFFB: names. Eight-byte name and length word present (5); name known (14)."
@@ -116,36 +114,22 @@ readNewName file c =
     (need Faulty (slotAt (c .table) number .taken) BlockMissing
     (readAddress file c (slotAt (c .table) number))))
 
--- what a marker says
-pub data Marker : Type 0 where
-  plain : Marker
-  names : Marker
-  newName : Marker
-  update : Marker
-  relocatable : Marker
-
 -- "Later, a word below FFFA is the start address of a plain block without marker; from FFFA it is a marker"
 abbrev pub firstMarker : ℕ
 firstMarker = 0xFFFA
 
--- the markers FFFA to FFFF
-abbrev pub markers : List Marker
-markers = plain ∷ names ∷ newName ∷ update ∷ relocatable ∷ plain ∷ []
-
-abbrev pub readAs : List ℕ → ℕ → List ℕ → List ℕ → Cursor → Marker → Block
-readAs file high lent own c plain = readPlain file (c .at + 2)
-readAs file high lent own c names = readNames file lent own c
-readAs file high lent own c newName = readNewName file c
-readAs file high lent own c update = readUpdate file c
-readAs file high lent own c relocatable = readRelocatable file high c
-
--- the block at the cursor, with the lent names and the file's own so far: "One leftover byte .. is 5", and then as its first word says
+-- the block at the cursor, with the lent names and the file's own so far: "One leftover byte .. is 5", and then as its first word says (FFFA and
+-- FFFF come last: a plain block after its marker)
 unfoldable pub read : List ℕ → ℕ → List ℕ → List ℕ → Cursor → Block
 read file high lent own c =
     let word = value 2 file (c .at) in
     need Faulty (leb (c .at + 2) (length file)) CutShort
     (pick (ltb word firstMarker) (readPlain file (c .at))
-    (readAs file high lent own c (getD markers (word - firstMarker) plain)))
+    (pick (eqb word 0xFFFB) (readNames file lent own c)
+    (pick (eqb word 0xFFFC) (readNewName file c)
+    (pick (eqb word 0xFFFD) (readUpdate file c)
+    (pick (eqb word 0xFFFE) (readRelocatable file high c)
+    (readPlain file (c .at + 2)))))))
 
 -- what each listed word grows by: "by block address − block offset, modulo 65,536"; "by its address" for a name
 abbrev pub amountOf : List Slot → List ℕ → List ℕ → Source → ℕ

@@ -8,20 +8,14 @@ ghost use lib.ListN.{length};
 ghost use Rattle.blocks.specs.Blocks.{readPlain, dataSize, readRoom, readRelocatable, readUpdate, readNames, readAddress, readNewName, read as readOf, amountOf};
 ghost use Rattle.blocks.specs.Bounds.{Packed, Listed, InMemory};
 
-// The highest block number.
-const LAST_NUMBER: usize = 7;
-
 // The most relocatable blocks of a file.
 const BLOCKS: usize = 7;
 
 // The most new names of a file.
 const NEW_NAMES: usize = 32;
 
-// The bytes of a name.
-const NAME: usize = 8;
-
 // The lowest marker.
-const FIRST_MARKER: u16 = 0xFFFA;
+pub const FIRST_MARKER: u16 = 0xFFFA;
 
 // Where a walk through the blocks stands: the next block's offset, low, the relocatable blocks and the new names so far, and the blocks by
 // their numbers.
@@ -139,7 +133,7 @@ fn read_relocatable(file: &[u8], high: u16, cursor: Cursor) -> Block
         return Block::Faulty(Fault::CutShort);
     }
     let number = words::wide(file[at + 2]);
-    if LAST_NUMBER < number {
+    if updates::LAST_NUMBER < number {
         return Block::Faulty(Fault::NotKnown);
     }
     let id = file[at + 3];
@@ -190,7 +184,7 @@ fn read_update(file: &[u8], cursor: Cursor) -> Block
         return Block::Faulty(Fault::CutShort);
     }
     let number = words::wide(file[cursor.at + 2]);
-    if LAST_NUMBER < number {
+    if updates::LAST_NUMBER < number {
         return Block::Faulty(Fault::NotKnown);
     }
     let table = cursor.table;
@@ -214,11 +208,11 @@ fn read_names(file: &[u8], lent: &[u8], own: &[u8], cursor: Cursor) -> Block
         return Block::Faulty(Fault::CutShort);
     }
     let start = cursor.at + 2;
-    let end = start + NAME;
+    let end = start + names::NAME;
     let definition = names::look_up(own, lent, &file[start..end]);
     match definition {
         Definition::Missing => Block::Faulty(Fault::NameUnknown),
-        Definition::New(index) => Block::Update {
+        Definition::Own(index) => Block::Update {
             source: Source::OwnName(index),
             from,
         },
@@ -238,7 +232,7 @@ fn read_new_name(file: &[u8], cursor: Cursor) -> Block
         return Block::Faulty(Fault::CutShort);
     }
     let number = words::wide(file[cursor.at + 2]);
-    if LAST_NUMBER < number {
+    if updates::LAST_NUMBER < number {
         return Block::Faulty(Fault::NotKnown);
     }
     let table = cursor.table;

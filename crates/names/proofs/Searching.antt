@@ -12,7 +12,7 @@ use lib.Dec.{eqb}
 use lib.ListN.{length}
 use Rattle.answer.proofs.Checks.{on-pick}
 use Rattle.names.specs.Names.{same, nameAt, newestOf, newest, orLent, lookUp}
-use Rattle.names.specs.declared.Definition.the-variants.{New, Lent}
+use Rattle.names.specs.declared.Definition.the-variants.{Own, Lent}
 use Rattle.names.specs.declared.Found.{Found}
 use Rattle.names.specs.declared.Found.the-variants.{Nowhere, At}
 
@@ -111,11 +111,11 @@ found-inside names name i e = whole (length names) i (newest-of (length names / 
 -- ---- two lists
 
 -- a new one is this file's newest
-pub own-found : (own lent name : List ℕ) (i : ℕ) → lookUp own lent name ≡ New i → newest own name ≡ At i
+pub own-found : (own lent name : List ℕ) (i : ℕ) → lookUp own lent name ≡ Own i → newest own name ≡ At i
 unfolding lookUp
 own-found own lent name i e = by (newest own name) (newest lent name) e
   where
-    by : (f g : Found) → orLent f g ≡ New i → f ≡ At i
+    by : (f g : Found) → orLent f g ≡ Own i → f ≡ At i
     by (At k) g h = cc
     by Nowhere (At k) h = cc
     by Nowhere Nowhere h = cc
@@ -131,7 +131,7 @@ lent-found own lent name i e = by (newest own name) (newest lent name) e
     by Nowhere Nowhere h = (refl, cc)
 
 -- either is a whole name of its list
-pub own-inside : (own lent name : List ℕ) (i : ℕ) → lookUp own lent name ≡ New i → 8 * i + 8 ≤ length own
+pub own-inside : (own lent name : List ℕ) (i : ℕ) → lookUp own lent name ≡ Own i → 8 * i + 8 ≤ length own
 own-inside own lent name i e = found-inside own name i (own-found own lent name i e)
 
 pub lent-inside : (own lent name : List ℕ) (i : ℕ) → lookUp own lent name ≡ Lent i → 8 * i + 8 ≤ length lent

@@ -12,7 +12,7 @@ use lib.Seq.{drop-length, drop-cons}
 use Rattle.answer.specs.Checks.{pick}
 use Rattle.words.proofs.Lent.{lent-is}
 use Rattle.names.specs.Names.{same, nameAt, newestOf, newest, lookUp}
-use Rattle.names.specs.declared.Definition.the-variants.{Missing, New, Lent}
+use Rattle.names.specs.declared.Definition.the-variants.{Missing, Own, Lent}
 use Rattle.names.specs.declared.Found.{Found}
 use Rattle.names.specs.declared.Found.the-variants.{Nowhere, At}
 
@@ -56,7 +56,7 @@ newest-found names name i k r e is f = rw (e, compared names name k r true is f)
 -- ---- which definition holds
 
 -- this file's, where it has one
-pub own-holds : (own lent name : List ℕ) (f : Found) (i : ℕ) → f ≡ newest own name → f ≡ At i → New i ≡ lookUp own lent name
+pub own-holds : (own lent name : List ℕ) (f : Found) (i : ℕ) → f ≡ newest own name → f ≡ At i → Own i ≡ lookUp own lent name
 unfolding lookUp
 own-holds own lent name f i is e = rw (← is, e)
 

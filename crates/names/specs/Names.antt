@@ -8,7 +8,7 @@ use lib.ListN.{length}
 use Rattle.answer.specs.Checks.{pick}
 use Rattle.words.specs.Runs.{part}
 use Rattle.names.specs.declared.Definition.{Definition}
-use Rattle.names.specs.declared.Definition.the-variants.{Missing, New, Lent}
+use Rattle.names.specs.declared.Definition.the-variants.{Missing, Own, Lent}
 use Rattle.names.specs.declared.Found.{Found}
 use Rattle.names.specs.declared.Found.the-variants.{Nowhere, At}
 
@@ -36,8 +36,9 @@ newestOf (suc k) names name = pick (same (nameAt names k) name) (At k) (newestOf
 unfoldable pub newest : List ℕ → List ℕ → Found
 newest names name = newestOf (length names / nameSize) names name
 
+-- what was found among this file's own names holds, else what was found in the lent list
 abbrev pub orLent : Found → Found → Definition
-orLent (At i) lent = New i
+orLent (At i) lent = Own i
 orLent Nowhere (At i) = Lent i
 orLent Nowhere Nowhere = Missing
 

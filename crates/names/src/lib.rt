@@ -4,7 +4,7 @@ ghost use lib.ListN.{length};
 ghost use Rattle.names.specs.Names.{same as sameOf, nameSize, newest, lookUp};
 
 // The bytes of a name.
-const NAME: usize = 8;
+pub const NAME: usize = 8;
 
 // Where a name stands in a list.
 pub enum Found {
@@ -12,10 +12,10 @@ pub enum Found {
     At(usize),
 }
 
-// Which definition of a name holds: none, this file's, or one of the lent list, by its index there.
+// Which definition of a name holds: none, one of this file's own, or one of the lent list, by its index there.
 pub enum Definition {
     Missing,
-    New(usize),
+    Own(usize),
     Lent(usize),
 }
 
@@ -26,7 +26,7 @@ pub fn look_up(own: &[u8], lent: &[u8], name: &[u8]) -> Definition
 {
     let defined = find(own, name);
     if let Found::At(index) = defined {
-        return Definition::New(index);
+        return Definition::Own(index);
     }
     let known = find(lent, name);
     match known {

@@ -14,14 +14,15 @@ use Rattle.answer.specs.declared.Outcome.the-variants.{Accepted, Refused}
 use Rattle.answer.specs.declared.Start.{Start}
 use Rattle.events.specs.Events.{Event, play, marks, blank, placedIn, adjustedIn, Ran}
 use Rattle.words.specs.Runs.{Bytes}
+use Rattle.passes.specs.Rooms.{Rooms}
+use Rattle.passes.specs.Walk.{Given, Progress, Verdict, finished, refused}
 use Rattle.sdx.proofs.Demand2.{finished-asked, asked-judged, asked-memory, asked-top, Left, call-leaves}
 use Rattle.sdx.proofs.Keeping.{judged-keeps}
 use Rattle.sdx.proofs.Lawful.{Lawful}
 use Rattle.sdx.proofs.Same.{loaded-same, placed-same, start-same}
 use Rattle.sdx.specs.Benches.{RefusedCall, SameProgram}
-use Rattle.sdx.specs.Call.{load, call, report, memoryAfter, mapAfter, namesAfter, addressesAfter, Rooms, right, Loaded}
+use Rattle.sdx.specs.Call.{load, call, report, memoryAfter, mapAfter, namesAfter, addressesAfter, sized, Loaded, atOnce, judged}
 use Rattle.sdx.specs.Demand2.{Places, Among, Asked}
-use Rattle.sdx.specs.Walk.{Given, Progress, Verdict, finished, refused, atOnce, judged}
 
 -- ---- refused
 
@@ -37,14 +38,14 @@ refused-untouched (finished z) es m ns ads e = absurd (false≢true e)
 refused-untouched (refused fault z) es m ns ads e = record { memory = refl; map = refl; names = refl; addresses = refl }
 
 -- a refused call
-pub call-refused : (file : List ℕ) (g : Given) (b b′ : Rooms) (r : Outcome) → Loaded file g b r b′ → (fault : Fault) (offset side : ℕ)
+pub call-refused : (file : List ℕ) (g : Given) (b b′ : Rooms) (r : Outcome) → Loaded file g (sized g b) b r b′ → (fault : Fault) (offset side : ℕ)
     → r ≡ Refused fault offset side
     → RefusedCall g fault b b′
 unfolding call need pick
 call-refused file g b b′ r d fault offset side e =
-    let o = call file g (right g b) in
+    let o = call file g (sized g b) in
     let u = refused-untouched (o .answer) (o .events) (b .memory) (b .names) (b .addresses) (ap isRefused (sym (d .outcome) ∙ e)) in
-    let map : (t : Bool) → right g b ≡ t → b′ .map ≡ pick t (mapAfter (o .answer) (o .events)) (b .map) =
+    let map : (t : Bool) → sized g b ≡ t → b′ .map ≡ pick t (mapAfter (o .answer) (o .events)) (b .map) =
     λ t h. d .map ∙ ap (λ (s : Bool). pick s (mapAfter (o .answer) (o .events)) (b .map)) h in
     record {
       memory = d .memory ∙ u .memory;
@@ -61,20 +62,20 @@ call-refused file g b b′ r d fault offset side e =
 -- ---- two benches
 
 -- with the right buffers a call is a load
-call-load : (file : List ℕ) (g : Given) (b : Rooms) → right g b ≡ true → call file g (right g b) ≡ load file g
+call-load : (file : List ℕ) (g : Given) (b : Rooms) → sized g b ≡ true → call file g (sized g b) ≡ load file g
 unfolding call need
 call-load file g b h = ap (λ (t : Bool). need (atOnce g) t WrongBuffer (load file g)) h
 
 -- and a load that finished is of a call as asked
-load-asked : (file : List ℕ) (g : Given) (b : Rooms) (z : Progress) → right g b ≡ true → load file g .answer ≡ finished z → Asked file g b
+load-asked : (file : List ℕ) (g : Given) (b : Rooms) (z : Progress) → sized g b ≡ true → load file g .answer ≡ finished z → Asked file g b
 load-asked file g b z h e = finished-asked file g b z (ap (λ (o : Ran Verdict). o .answer) (call-load file g b h) ∙ e)
 
 -- and comes to what the file comes to
-load-judged : (file : List ℕ) (g : Given) (b : Rooms) → right g b ≡ true → Asked file g b → load file g ≡ judged file g
+load-judged : (file : List ℕ) (g : Given) (b : Rooms) → sized g b ≡ true → Asked file g b → load file g ≡ judged file g
 load-judged file g b h a = sym (call-load file g b h) ∙ asked-judged file g b a
 
-module _ (file : List ℕ) (g : Given) (b₁ b₂ b d : Rooms) (r t : Outcome) (first : Loaded file g b₁ r b) (second : Loaded file g b₂ t d)
-    (right₁ : right g b₁ ≡ true) (right₂ : right g b₂ ≡ true) (bytes : Bytes file) where
+module _ (file : List ℕ) (g : Given) (b₁ b₂ b d : Rooms) (r t : Outcome) (first : Loaded file g (sized g b₁) b₁ r b) (second : Loaded file g (sized g b₂) b₂ t d)
+    (right₁ : sized g b₁ ≡ true) (right₂ : sized g b₂ ≡ true) (bytes : Bytes file) where
   -- two calls of a file that is accepted
   record Both (z : Progress) : Type 0 where
     judged-so : load file g ≡ judged file g
@@ -128,7 +129,7 @@ module _ (file : List ℕ) (g : Given) (b₁ b₂ b d : Rooms) (r t : Outcome) (
         ∙ ap (λ (m : List ℕ). getD m x 0) (sym (k .left₂ .memory))
 
 -- what a call with the right buffers reports of a file that is refused hangs on no memory
-refused-outcome : (file : List ℕ) (g : Given) (b b′ : Rooms) (r : Outcome) → Loaded file g b r b′ → right g b ≡ true
+refused-outcome : (file : List ℕ) (g : Given) (b b′ : Rooms) (r : Outcome) → Loaded file g (sized g b) b r b′ → sized g b ≡ true
     → (fault : Fault) (z : Progress)
     → load file g .answer ≡ refused fault z
     → r ≡ Refused fault (z .cursor .at) 0
@@ -138,18 +139,18 @@ refused-outcome file g b b′ r d h fault z e =
     ∙ ap (λ (v : Verdict). report (b .memory) v (load file g .events)) e
 
 -- nor does its map
-the-map : (file : List ℕ) (g : Given) (b b′ : Rooms) (r : Outcome) → Loaded file g b r b′ → right g b ≡ true
+the-map : (file : List ℕ) (g : Given) (b b′ : Rooms) (r : Outcome) → Loaded file g (sized g b) b r b′ → sized g b ≡ true
     → b′ .map ≡ mapAfter (load file g .answer) (load file g .events)
 unfolding pick
 the-map file g b b′ r d h =
-    let o = call file g (right g b) in
+    let o = call file g (sized g b) in
     d .map
     ∙ ap (λ (t : Bool). pick t (mapAfter (o .answer) (o .events)) (b .map)) h
     ∙ ap (λ (k : Ran Verdict). mapAfter (k .answer) (k .events)) (call-load file g b h)
 
 -- two calls with the right buffers
-pub same-program : (file : List ℕ) (g : Given) (b₁ b₂ b d : Rooms) (r t : Outcome) → Loaded file g b₁ r b → Loaded file g b₂ t d → right g b₁ ≡ true
-    → right g b₂ ≡ true
+pub same-program : (file : List ℕ) (g : Given) (b₁ b₂ b d : Rooms) (r t : Outcome) → Loaded file g (sized g b₁) b₁ r b → Loaded file g (sized g b₂) b₂ t d → sized g b₁ ≡ true
+    → sized g b₂ ≡ true
     → Bytes file
     → SameProgram file g r t b d
 same-program file g b₁ b₂ b d r t f s h i bytes =

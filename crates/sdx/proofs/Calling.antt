@@ -1,20 +1,18 @@
 -- A load as a whole, over plain values: the two walks, the acceptance, the settings and the lengths.
 -- Assumes nothing.
 use mathlib.Core.Bool.{Bool, true, false}
-use mathlib.Core.List.{List, [], _++_, append-nil}
+use mathlib.Core.List.{List, [], _++_}
 use mathlib.Core.Path.{_≡_, refl, sym, ap, _∙_}
-use Prim.Native.Nat.{ℕ, _+_, _-_, _*_, _≤_, _<_}
+use Prim.Native.Nat.{ℕ, _+_, _*_, _≤_, _<_}
 use native.Mathlib.Omega.{arith}
 use borrow.Author.Tests.{le-leb, lt-leb, leb-true, eqb-true}
-use borrow.Rule.Slice.PartMut.{midOf, putMid}
 use lib.Dec.{leb, eqb}
-use lib.ListN.{length, replicate, take, drop, length-replicate, drop-of-length-le}
-use lib.Seq.{sets-eq}
-use Rattle.answer.proofs.Checks.{on-need, and-true}
+use lib.ListN.{length}
+use Rattle.answer.proofs.Checks.{and-true}
 use Rattle.answer.specs.Checks.{need, pick}
 use Rattle.answer.specs.Report.{placedOf, adjustedOf}
 use Rattle.answer.specs.declared.Fault.{Fault}
-use Rattle.answer.specs.declared.Fault.the-variants.{WrongBuffer, SettingOutOfRange, FileTooLong}
+use Rattle.answer.specs.declared.Fault.the-variants.{WrongBuffer, SettingOutOfRange, FileTooLong, CutShort, WrongOpening}
 use Rattle.answer.specs.declared.Outcome.{Outcome}
 use Rattle.answer.specs.declared.Outcome.the-variants.{Accepted, Refused}
 use Rattle.answer.specs.declared.Start.{Start}
@@ -22,54 +20,92 @@ use Rattle.answer.specs.declared.Start.the-variants.{Absent}
 use Rattle.events.specs.Events.{Event, play, marks, blank, placedIn, adjustedIn, Ran}
 use Rattle.events.specs.Walk.{leads}
 use Rattle.events.specs.declared.Check.the-variants.{Passed, Failed}
-use Rattle.words.proofs.Lent.{lent-is, back-is}
-use Rattle.words.proofs.Runs.{front-holds, length-part}
+use Rattle.updates.proofs.Going.{failed-passed}
+use Rattle.words.proofs.Runs.{front-holds}
 use Rattle.words.specs.Runs.{part, put}
-use Rattle.sdx.proofs.Going.{stopped-finished, totalsIn}
-use Rattle.sdx.proofs.Turning.{refused-finished, Behind, behind-first, behind-on, led-ends, judged-holds}
-use Rattle.sdx.specs.Call.{ranged, inRange, listed, load, call, startIn, report, filledUp, Rooms, rooms, Carried, right, Loaded}
-use Rattle.sdx.specs.Parts.{walked, progressOf, Went, Checked, Reported}
-use Rattle.sdx.specs.Walk.{Given, Progress, Verdict, finished, refused, turn, blocksOf, atOnce, opening, judged}
-use Rattle.sdx.specs.declared.Totals.{Totals}
-use Rattle.sdx.specs.declared.Walked.{Walked}
-use Rattle.sdx.specs.declared.Walked.the-variants.{Stopped, Finished}
+use Rattle.words.specs.Numbers.{value}
+use Rattle.events.specs.declared.Check.{Check}
+use Rattle.deeds.proofs.Ending.{Behind, behind-first, behind-on}
+use Rattle.passes.proofs.Going.{stopped-finished, totalsIn}
+use Rattle.passes.proofs.Turning.{refused-finished, led-ends, blocks-hold}
+use Rattle.passes.specs.Parts.{walked, progressOf, Went, Checked, Reported}
+use Rattle.passes.specs.Rooms.{startIn, filledUp, Rooms, rooms}
+use Rattle.passes.specs.Walk.{Given, given, Progress, Verdict, finished, refused, turn, blocksOf, begun}
+use Rattle.passes.specs.declared.Totals.{Totals}
+use Rattle.passes.specs.declared.Walked.{Walked}
+use Rattle.passes.specs.declared.Walked.the-variants.{Stopped, Finished}
+use Rattle.sdx.specs.Call.{inRange, listed, sized, atOnce, opening, opened, judged, admitting, load, call, report, memoryAfter, mapAfter, namesAfter, addressesAfter, Loaded}
 
--- ---- the rest of a room is cleared
+-- ---- before the first block
 
--- a room whose end from k on was filled with zeros
-pub rest-cleared : (n k : ℕ) (l w : List ℕ) → k ≤ n → length l ≡ n → w ≡ replicate (length (midOf k (n - k) l)) 0
-    → putMid k (n - k) l w ≡ filledUp n (part l 0 k)
-unfolding put part
-rest-cleared n k l w h e f =
-    let size : n - k ≡ k + (n - k) - k = omega arith in
-    let inside : k + (n - k) ≤ length l = omega (arith, e) in
-    let lent : length (midOf k (n - k) l) ≡ n - k =
-    ap (λ (i : ℕ). length (midOf k i l)) size ∙ ap length (lent-is k (n - k) l) ∙ length-part l k (n - k) inside in
-    let is : w ≡ replicate (n - k) 0 = f ∙ ap (λ (i : ℕ). replicate i 0) lent in
-    let long : length w ≡ n - k = ap length is ∙ length-replicate (n - k) 0 in
-    let front : length (take k (drop 0 l)) ≡ k = length-part l 0 k (omega (arith, e)) in
-    let past : length l ≤ k + length w = omega (arith, e, long) in
-    let none : drop (k + length w) l ≡ [] = drop-of-length-le l past in
-    ap (λ (i : ℕ). putMid k i l w) size
-    ∙ back-is k (n - k) l w inside long
-    ∙ sets-eq w l k (omega (arith, e, long))
-    ∙ ap (λ (r : List ℕ). take k l ++ w ++ r) none
-    ∙ append-nil (take k l ++ w)
-    ∙ ap (λ (r : List ℕ). take k l ++ r) is
-    ∙ ap (λ (i : ℕ). take k l ++ replicate (n - i) 0) (sym front)
+pub range-not : (low high : ℕ) → high < low → false ≡ inRange (given [] [] low high)
+range-not low high h = rw (lt-leb _ _ h) refl
 
--- an acceptance, with both rooms
-pub reported-as : {t : Totals} {m p ns ads ns′ ads′ : List ℕ} {start : Start} → start ≡ startIn p m
-    → ns′ ≡ filledUp 256 (part ns 0 (8 * t .named)) → ads′ ≡ filledUp 32 (part ads 0 (t .named))
-    → Reported t (rooms m p ns ads) (Accepted start (t .placed) (t .adjusted) (t .named) (t .low)) ns′ ads′
-reported-as e f g = record { outcome = rw e refl; names = f; addresses = g }
+module _ (file : List ℕ) where
+  pub opening-cut : length file < 2 → Failed CutShort ≡ opening file
+  unfolding opening need
+  opening-cut h = rw (lt-leb _ _ h) refl
+
+  pub opening-wrong : (word : ℕ) → word ≡ value 2 file 0 → 2 ≤ length file → word < 65530 → Failed WrongOpening ≡ opening file
+  unfolding opening need
+  opening-wrong word e h i = rw (le-leb _ _ h, ← e, lt-leb _ _ i) refl
+
+  pub opening-right : (word : ℕ) → word ≡ value 2 file 0 → 2 ≤ length file → 65530 ≤ word → Passed ≡ opening file
+  unfolding opening need
+  opening-right word e h i = rw (le-leb _ _ h, ← e, le-leb _ _ i) refl
+
+-- the checks before the first block, in their order
+module _ (file : List ℕ) (g : Given) where
+  pub admit-range : inRange g ≡ false → Failed SettingOutOfRange ≡ admitting file g
+  unfolding admitting need
+  admit-range h = rw h refl
+
+  pub admit-long : inRange g ≡ true → 65536 < length file → Failed FileTooLong ≡ admitting file g
+  unfolding admitting need
+  admit-long h i = rw (h, lt-leb _ _ i) refl
+
+  pub admit-opening : (r : Check) → inRange g ≡ true → length file ≤ 65536 → r ≡ opening file → r ≡ admitting file g
+  unfolding admitting need
+  admit-opening r h i e = rw (h, le-leb _ _ i) e
+
+-- (they ask of the settings alone)
+pub admit-settings : (file names addresses : List ℕ) (low high : ℕ)
+    → admitting file (given [] [] low high) ≡ admitting file (given names addresses low high)
+unfolding admitting
+admit-settings file names addresses low high = refl
+
+-- a check that was passed
+need-passed : (c : Bool) (fault : Fault) (rest : Check) → need Failed c fault rest ≡ Passed → (c ≡ true) × (rest ≡ Passed)
+unfolding need
+need-passed true fault rest e = (refl, e)
+need-passed false fault rest e = absurd (failed-passed fault e)
+
+-- where all have passed
+pub record Admitted (file : List ℕ) (g : Given) : Type 0 where
+  pub settings : inRange g ≡ true
+  pub fits : length file ≤ 65536
+  pub opens : opening file ≡ Passed
+
+pub admitted : (file : List ℕ) (g : Given) → admitting file g ≡ Passed → Admitted file g
+unfolding admitting
+admitted file g e =
+    let x = need-passed _ _ _ e in
+    let y = need-passed _ _ _ (x .1) in
+    record { settings = x .0; fits = leb-true _ _ (y .0); opens = y .1 }
+
+-- settings in range
+pub range-bounds : (g : Given) → inRange g ≡ true → (g .low ≤ g .high) × (g .high ≤ 65535)
+range-bounds g e = let x = and-true (leb (g .low) (g .high)) (leb (g .high) 65535) e in (leb-true _ _ (x .0), leb-true _ _ (x .1))
 
 -- ---- first checked, then carried out
 
--- a walk that only checks has written no memory
-pub checked-as : {o : Ran Verdict} {m p ns ads m′ p′ ns′ ads′ p″ : List ℕ} {r : Walked}
-    → Went o false (rooms m p ns ads) r (rooms m′ p′ ns′ ads′) → p″ ≡ blank → Checked o m r m′ p″
-checked-as h clear = record { answer = h .did .answer; memory = h .did .memory; map = clear; bounded = h .bounded }
+-- What a load does whose blocks come to o: it found b, and answers r and leaves b′.
+record Carried (o : Ran Verdict) (b : Rooms) (r : Outcome) (b′ : Rooms) : Type 0 where
+  outcome : r ≡ report (b .memory) (o .answer) (o .events)
+  memory : b′ .memory ≡ memoryAfter (o .answer) (o .events) (b .memory)
+  map : b′ .map ≡ mapAfter (o .answer) (o .events)
+  names : b′ .names ≡ namesAfter (o .answer) (b .names)
+  addresses : b′ .addresses ≡ addressesAfter (o .answer) (b .addresses)
 
 -- what a stopped walk is reported as
 abbrev refusal : Walked → Outcome
@@ -80,7 +116,7 @@ accepted-same : {start t : Start} {a b i j k l n q : ℕ} → start ≡ t → a 
 accepted-same e f g h i = rw (e, f, g, h, i) refl
 
 module _ {o : Ran Verdict} {m p ns ads m₁ p₁ : List ℕ} {r₁ : Walked} (first : Checked o m r₁ m₁ p₁) where
-  pub carried-refused : {fault : Fault} {offset : ℕ} → r₁ ≡ Stopped fault offset
+  carried-refused : {fault : Fault} {offset : ℕ} → r₁ ≡ Stopped fault offset
       → Carried o (rooms m p ns ads) (Refused fault offset 0) (rooms m₁ p₁ ns ads)
   carried-refused {fault} {offset} e = by (o .answer) refl
     where
@@ -96,7 +132,7 @@ module _ {o : Ran Verdict} {m p ns ads m₁ p₁ : List ℕ} {r₁ : Walked} (fi
           }
 
   -- the second walk does what the first one found, and the acceptance reports it
-  pub carried-accepted : {t : Totals} {m₂ p₂ ns₂ ads₂ ns₃ ads₃ : List ℕ} {r₂ : Walked} {r : Outcome} → r₁ ≡ Finished t → length ns ≡ 256
+  carried-accepted : {t : Totals} {m₂ p₂ ns₂ ads₂ ns₃ ads₃ : List ℕ} {r₂ : Walked} {r : Outcome} → r₁ ≡ Finished t → length ns ≡ 256
       → length ads ≡ 32 → Went o true (rooms m₁ p₁ ns ads) r₂ (rooms m₂ p₂ ns₂ ads₂) → Reported t (rooms m₂ p₂ ns₂ ads₂) r ns₃ ads₃
       → Carried o (rooms m p ns ads) r (rooms m₂ p₂ ns₃ ads₃)
   carried-accepted {t} {m₂} {p₂} {ns₂} {ads₂} {ns₃} {ads₃} {r₂} {r} e room spots second told = by (o .answer) refl
@@ -130,40 +166,17 @@ module _ {o : Ran Verdict} {m p ns ads m₁ p₁ : List ℕ} {r₁ : Walked} (fi
             addresses = rw f (told .addresses ∙ ap (λ (l : List ℕ). filledUp 32 l) addresses);
           }
 
--- ---- the settings, the file's length and its opening
-
-module _ (file : List ℕ) (g : Given) where
-  pub load-range : inRange g ≡ false → load file g ≡ atOnce g SettingOutOfRange
-  unfolding load need
-  load-range h = rw h refl
-
-  pub load-long : inRange g ≡ true → 65536 < length file → load file g ≡ atOnce g FileTooLong
-  unfolding load need
-  load-long h i = rw (h, lt-leb _ _ i) refl
-
-  pub load-opening : inRange g ≡ true → length file ≤ 65536 → (fault : Fault) → opening file ≡ Failed fault → load file g ≡ atOnce g fault
-  unfolding load need judged
-  load-opening h i fault e = rw (h, le-leb _ _ i, e) refl
-
-  pub load-blocks : inRange g ≡ true → length file ≤ 65536 → opening file ≡ Passed → load file g ≡ blocksOf file g
-  unfolding load need judged
-  load-blocks h i e = rw (h, le-leb _ _ i, e) refl
-
-  module _ {m p ns ads : List ℕ} where
-    pub sized-refused : {fault : Fault} {r : Outcome} {p′ : List ℕ} → load file g ≡ atOnce g fault → r ≡ Refused fault 0 0 → p′ ≡ blank
-        → Carried (load file g) (rooms m p ns ads) r (rooms m p′ ns ads)
-    sized-refused e f clear = rw e (record { outcome = f; memory = refl; map = clear; names = refl; addresses = refl })
-
-    pub sized-carried : {r : Outcome} {p₀ : List ℕ} {b′ : Rooms} → load file g ≡ blocksOf file g
-        → Carried (blocksOf file g) (rooms m p₀ ns ads) r b′
-        → Carried (load file g) (rooms m p ns ads) r b′
-    sized-carried e h =
-        rw e
-        (record { outcome = h .outcome; memory = h .memory; map = h .map; names = h .names; addresses = h .addresses })
-
--- settings in range
-pub range-bounds : (low high : ℕ) → ranged low high ≡ true → (low ≤ high) × (high ≤ 65535)
-range-bounds low high e = let x = and-true (leb low high) (leb high 65535) e in (leb-true _ _ (x .0), leb-true _ _ (x .1))
+-- what every turn keeps holds of every file that is accepted
+module _ (file : List ℕ) (g : Given) (top : g .high ≤ 65535) (P : Progress → List Event → Type 0) (first : P (begun g) [])
+    (keeps : (y z : Progress) (es : List Event) → P y es → turn file g y (marks es blank) .answer ≡ leads z
+    → P z (es ++ turn file g y (marks es blank) .events)) where
+  pub judged-holds : (z : Progress) → judged file g .answer ≡ finished z → P z (judged file g .events)
+  unfolding judged
+  judged-holds z e = by (opening file) e
+    where
+      by : (c : Check) → opened g c (blocksOf file g) .answer ≡ finished z → P z (opened g c (blocksOf file g) .events)
+      by Passed f = blocks-hold file g top P first keeps z f
+      by (Failed fault) f = absurd (refused-finished f)
 
 -- ---- the counts
 
@@ -171,9 +184,9 @@ range-bounds low high e = let x = and-true (leb low high) (leb high 65535) e in 
 pub record Few (n : ℕ) (o : Ran Verdict) : Type 0 where
   pub counts : (z : Progress) → o .answer ≡ finished z → placedIn (o .events) + adjustedIn (o .events) ≤ n
 
-judged-few : (file : List ℕ) (g : Given) → g .high ≤ 65535 → Few (length file) (judged file g)
-judged-few file g top =
-    let h = judged-holds file g top (λ y es. Behind (length file) (y .cursor) es) (behind-first (length file) (g .low)) keeps in
+blocks-few : (file : List ℕ) (g : Given) → g .high ≤ 65535 → Few (length file) (blocksOf file g)
+blocks-few file g top =
+    let h = blocks-hold file g top (λ y es. Behind (length file) (y .cursor) es) (behind-first (length file) (g .low)) keeps in
     record { counts = λ z e. omega (arith, h z e .counts, h z e .inside) }
   where
     keeps : (y z : Progress) (es : List Event) → Behind (length file) (y .cursor) es → turn file g y (marks es blank) .answer ≡ leads z
@@ -183,13 +196,13 @@ judged-few file g top =
 few-at-once : (n : ℕ) (g : Given) (fault : Fault) → Few n (atOnce g fault)
 few-at-once n g fault = record { counts = λ z e. absurd (refused-finished e) }
 
-few-need : (n : ℕ) (g : Given) (c : Bool) (fault : Fault) (o : Ran Verdict) → (c ≡ true → Few n o) → Few n (need (atOnce g) c fault o)
-few-need n g = on-need (atOnce g) (Few n) (few-at-once n g)
-
-pub load-few : (file : List ℕ) (g : Given) → Few (length file) (load file g)
+load-few : (file : List ℕ) (g : Given) → Few (length file) (load file g)
 unfolding load
-load-few file g =
-    few-need _ g _ _ _ (λ h. few-need _ g _ _ _ (λ i. judged-few file g (range-bounds (g .low) (g .high) h .1)))
+load-few file g = by (admitting file g) refl
+  where
+    by : (c : Check) → admitting file g ≡ c → Few (length file) (opened g c (blocksOf file g))
+    by Passed e = blocks-few file g (range-bounds g (admitted file g e .settings) .1)
+    by (Failed fault) e = few-at-once (length file) g fault
 
 -- ---- whatever the buffers
 
@@ -201,10 +214,15 @@ reported-few n m o h = by (o .answer) refl
     by (finished z) e = let k = h .counts z e in (omega (arith, k), omega (arith, k))
     by (refused fault z) e = (omega arith, omega arith)
 
-module _ (file : List ℕ) (g : Given) (b : Rooms) where
-  pub loaded-wrong : (r : Outcome) → right g b ≡ false → r ≡ Refused WrongBuffer 0 0 → Loaded file g b r b
+at-once-carried : (file : List ℕ) (g : Given) {m p ns ads p′ : List ℕ} {fault : Fault} {r : Outcome} → admitting file g ≡ Failed fault
+    → r ≡ Refused fault 0 0 → p′ ≡ blank → Carried (load file g) (rooms m p ns ads) r (rooms m p′ ns ads)
+unfolding load
+at-once-carried file g e f clear = rw e (record { outcome = f; memory = refl; map = clear; names = refl; addresses = refl })
+
+module _ (file : List ℕ) (g : Given) where
+  pub loaded-wrong : (right : Bool) (b : Rooms) (r : Outcome) → right ≡ false → r ≡ Refused WrongBuffer 0 0 → Loaded file g right b r b
   unfolding call need pick
-  loaded-wrong r h e =
+  loaded-wrong right b r h e =
       record {
         outcome = rw (h, e) refl;
         memory = rw h refl;
@@ -215,19 +233,58 @@ module _ (file : List ℕ) (g : Given) (b : Rooms) where
         adjusted-fits = rw e (omega arith);
       }
 
-  pub loaded-right : (r : Outcome) (b′ : Rooms) → right g b ≡ true → Carried (load file g) b r b′ → Loaded file g b r b′
+  -- a load with the right buffers
+  loaded-right : (b : Rooms) (r : Outcome) (b′ : Rooms) → Carried (load file g) b r b′ → Loaded file g true b r b′
   unfolding call need pick
-  loaded-right r b′ h d =
+  loaded-right b r b′ d =
       let few = reported-few (length file) (b .memory) (load file g) (load-few file g) in
       record {
-        outcome = rw h (d .outcome);
-        memory = rw h (d .memory);
-        map = rw h (d .map);
-        names = rw h (d .names);
-        addresses = rw h (d .addresses);
+        outcome = d .outcome;
+        memory = d .memory;
+        map = d .map;
+        names = d .names;
+        addresses = d .addresses;
         placed-fits = rw (d .outcome) (few .0);
         adjusted-fits = rw (d .outcome) (few .1);
       }
+
+  -- (it clears the map before anything else, so what the map held does not matter)
+  pub loaded-sized : {right : Bool} {m p p₀ ns ads : List ℕ} {r : Outcome} {b′ : Rooms} → right ≡ true → Loaded file g true (rooms m p₀ ns ads) r b′
+      → Loaded file g right (rooms m p ns ads) r b′
+  unfolding pick
+  loaded-sized e d =
+      rw e
+      (record {
+        outcome = d .outcome;
+        memory = d .memory;
+        map = d .map;
+        names = d .names;
+        addresses = d .addresses;
+        placed-fits = d .placed-fits;
+        adjusted-fits = d .adjusted-fits;
+      })
+
+  -- refused before the first block
+  pub loaded-at-once : {right : Bool} {m p ns ads p′ : List ℕ} {fault : Fault} {r : Outcome} → right ≡ true → admitting file g ≡ Failed fault
+      → r ≡ Refused fault 0 0 → p′ ≡ blank → Loaded file g right (rooms m p ns ads) r (rooms m p′ ns ads)
+  loaded-at-once {m = m} {p = p} {ns = ns} {ads = ads} {p′ = p′} {r = r} h e f clear =
+      loaded-sized h (loaded-right (rooms m p ns ads) r (rooms m p′ ns ads) (at-once-carried file g e f clear))
+
+  -- the blocks decide
+  module _ (entered : admitting file g ≡ Passed) where
+    load-blocks : load file g ≡ blocksOf file g
+    unfolding load
+    load-blocks = rw entered refl
+
+    pub blocks-refused : {m p ns ads m₁ p₁ : List ℕ} {r₁ : Walked} → Checked (blocksOf file g) m r₁ m₁ p₁ → {fault : Fault} {offset : ℕ}
+        → r₁ ≡ Stopped fault offset → Loaded file g true (rooms m p ns ads) (Refused fault offset 0) (rooms m₁ p₁ ns ads)
+    blocks-refused first e = loaded-right _ _ _ (rw load-blocks (carried-refused first e))
+
+    pub blocks-accepted : {m p ns ads m₁ p₁ : List ℕ} {r₁ : Walked} → Checked (blocksOf file g) m r₁ m₁ p₁
+        → {t : Totals} {m₂ p₂ ns₂ ads₂ ns₃ ads₃ : List ℕ} {r₂ : Walked} {r : Outcome} → r₁ ≡ Finished t → length ns ≡ 256 → length ads ≡ 32
+        → Went (blocksOf file g) true (rooms m₁ p₁ ns ads) r₂ (rooms m₂ p₂ ns₂ ads₂) → Reported t (rooms m₂ p₂ ns₂ ads₂) r ns₃ ads₃
+        → Loaded file g true (rooms m p ns ads) r (rooms m₂ p₂ ns₃ ads₃)
+    blocks-accepted first e room spots second told = loaded-right _ _ _ (rw load-blocks (carried-accepted first e room spots second told))
 
 -- all that is lent has its length
 pub record Sizes (g : Given) (b : Rooms) : Type 0 where
@@ -237,7 +294,7 @@ pub record Sizes (g : Given) (b : Rooms) : Type 0 where
   pub addresses : length (b .addresses) ≡ 32
   pub known : length (g .names) ≡ 8 * length (g .addresses)
 
-pub right-sizes : (g : Given) (b : Rooms) → right g b ≡ true → Sizes g b
+pub right-sizes : (g : Given) (b : Rooms) → sized g b ≡ true → Sizes g b
 right-sizes g b e =
     let h = and-true (eqb (length (b .memory)) 65536) _ e in
     let i = and-true (eqb (length (b .map)) 65536) _ (h .1) in

@@ -5,34 +5,40 @@ use mathlib.Core.List.{List, _∷_, _++_}
 use mathlib.Core.Path.{_≡_, refl, sym, ap, _∙_}
 use Prim.Native.Nat.{ℕ, _≤_}
 use native.Mathlib.Omega.{arith}
-use borrow.Author.Tests.{le-leb, leb-true}
+use borrow.Author.Tests.{le-leb}
 use lib.ListN.{length, getD}
 use Rattle.answer.proofs.Outcomes.{isRefused}
 use Rattle.answer.specs.Checks.{need, pick}
 use Rattle.answer.specs.Report.{placedOf, adjustedOf}
-use Rattle.answer.specs.declared.Fault.{Fault}
+use Rattle.answer.specs.declared.Fault.the-variants.{WrongBuffer}
 use Rattle.answer.specs.declared.Outcome.{Outcome}
 use Rattle.answer.specs.declared.Outcome.the-variants.{Accepted, Refused}
 use Rattle.answer.specs.declared.Start.{Start}
+use Rattle.answer.specs.declared.Start.the-variants.{Absent}
 use Rattle.events.proofs.Events.{length-blank, blank-at}
 use Rattle.events.proofs.Lists.{each-map}
 use Rattle.events.specs.Events.{Event, adjust, play, marks, blank, placedIn, adjustedIn, Ran}
+use Rattle.events.specs.declared.Check.{Check}
+use Rattle.events.specs.declared.Check.the-variants.{Passed, Failed}
 use Rattle.words.specs.Runs.{Bytes}
-use Rattle.sdx.proofs.Calling.{range-bounds, right-sizes}
-use Rattle.sdx.proofs.Keeping.{Keeps, judged-keeps}
+use Rattle.passes.proofs.Turning.{refused-finished}
+use Rattle.passes.specs.Rooms.{namesRoom, addressesRoom, startIn, filledUp, Rooms}
+use Rattle.passes.specs.Walk.{Given, Progress, Verdict, finished, refused, blocksOf}
+use Rattle.sdx.proofs.Calling.{admitted, range-bounds, right-sizes}
+use Rattle.sdx.proofs.Keeping.{Keeps, judged-keeps, judged-came}
 use Rattle.sdx.proofs.Lawful.{Lawful, marks-untouched, marks-last, play-others, put-held, play-fields}
-use Rattle.sdx.proofs.Turning.{refused-finished}
-use Rattle.sdx.specs.Call.{namesRoom, addressesRoom, load, call, startIn, report, memoryAfter, mapAfter, filledUp, namesAfter, addressesAfter, Rooms, right, Loaded}
-use Rattle.sdx.specs.Demand2.{Among, Demand2, Asked, AcceptedCall}
-use Rattle.sdx.specs.Walk.{Given, Progress, Verdict, finished, refused, atOnce, judged}
+use Rattle.sdx.specs.Call.{atOnce, opened, admitting, load, call, report, memoryAfter, mapAfter, namesAfter, addressesAfter, sized, Loaded, judged}
+use Rattle.sdx.specs.Demand2.{Among, Came, Demand2, Asked, AcceptedCall, Claim}
 
 -- what the events of a file leave that kept to the rules
-kept-demand2 : (file : List ℕ) (g : Given) (z : Progress) (es : List Event) (m : List ℕ) → Keeps file g z es → length m ≡ 65536
+kept-demand2 : (file : List ℕ) (g : Given) (z : Progress) (es : List Event) (m : List ℕ) → Came file g z es → Keeps file g z es
+    → length m ≡ 65536
     → Demand2 file g z es m (play es m) (marks es blank) (placedIn es) (adjustedIn es)
-kept-demand2 file g z es m k n =
+kept-demand2 file g z es m c k n =
     let split : (before : List Event) (e : Event) (after : List Event) → Among es before e after → Lawful blank (before ++ (e ∷ after)) =
     λ before e after h. rw (h .order) at (k .lawful) in
     record {
+      came = c;
       deeds = k .deeds;
       by-rule = each-map (λ d h. h .by-rule) (z .deeds) (k .ruled);
       names = k .names;
@@ -54,29 +60,25 @@ pub demand2 : (file : List ℕ) (g : Given) (z : Progress) (m : List ℕ) → g 
     → judged file g .answer ≡ finished z
     → Demand2 file g z (judged file g .events) m (play (judged file g .events) m) (marks (judged file g .events) blank)
     (placedIn (judged file g .events)) (adjustedIn (judged file g .events))
-demand2 file g z m top bytes n e = kept-demand2 file g z (judged file g .events) m (judged-keeps file g top bytes z e) n
+demand2 file g z m top bytes n e = kept-demand2 file g z (judged file g .events) m (judged-came file g top bytes z e) (judged-keeps file g top bytes z e) n
 
 -- ---- of every call
 
--- a check that was passed
-need-finished : (g : Given) (c : Bool) (fault : Fault) (o : Ran Verdict) (z : Progress) → need (atOnce g) c fault o .answer ≡ finished z
-    → (c ≡ true) × (need (atOnce g) c fault o ≡ o)
-unfolding need
-need-finished g true fault o z e = (refl, refl)
-need-finished g false fault o z e = absurd (refused-finished e)
-
 -- an acceptance is of a call as asked
-pub finished-asked : (file : List ℕ) (g : Given) (b : Rooms) (z : Progress) → call file g (right g b) .answer ≡ finished z → Asked file g b
-unfolding call load
-finished-asked file g b z e =
-    let x = need-finished g _ _ _ z e in
-    let y = need-finished g _ _ _ z (sym (ap (λ (o : Ran Verdict). o .answer) (x .1)) ∙ e) in
-    let w = need-finished g _ _ _ z (sym (ap (λ (o : Ran Verdict). o .answer) (x .1 ∙ y .1)) ∙ e) in
-    record { buffers = x .0; settings = y .0; fits = leb-true _ _ (w .0) }
+pub finished-asked : (file : List ℕ) (g : Given) (b : Rooms) (z : Progress) → call file g (sized g b) .answer ≡ finished z → Asked file g b
+unfolding call load need
+finished-asked file g b z e = by (sized g b) (admitting file g) refl refl e
+  where
+    by : (t : Bool) (c : Check) → sized g b ≡ t → admitting file g ≡ c
+        → need (atOnce g) t WrongBuffer (opened g c (blocksOf file g)) .answer ≡ finished z
+        → Asked file g b
+    by true Passed h i f = let a = admitted file g i in record { buffers = h; settings = a .settings; fits = a .fits }
+    by true (Failed fault) h i f = absurd (refused-finished f)
+    by false c h i f = absurd (refused-finished f)
 
 -- and comes to what the file comes to
-pub asked-judged : (file : List ℕ) (g : Given) (b : Rooms) → Asked file g b → call file g (right g b) ≡ judged file g
-unfolding call load need
+pub asked-judged : (file : List ℕ) (g : Given) (b : Rooms) → Asked file g b → call file g (sized g b) ≡ judged file g
+unfolding call load judged admitting need
 asked-judged file g b a = rw (a .buffers, a .settings, le-leb _ _ (a .fits)) refl
 
 -- what was asked of memory and of the settings
@@ -84,7 +86,7 @@ pub asked-memory : (file : List ℕ) (g : Given) (b : Rooms) → Asked file g b 
 asked-memory file g b a = right-sizes g b (a .buffers) .memory
 
 pub asked-top : (file : List ℕ) (g : Given) (b : Rooms) → Asked file g b → g .high ≤ 65535
-asked-top file g b a = range-bounds (g .low) (g .high) (a .settings) .1
+asked-top file g b a = range-bounds g (a .settings) .1
 
 -- What a call as asked answers and leaves, of a file that the rules accept.
 pub record Left (file : List ℕ) (g : Given) (z : Progress) (b : Rooms) (r : Outcome) (b′ : Rooms) : Type 0 where
@@ -95,13 +97,13 @@ pub record Left (file : List ℕ) (g : Given) (z : Progress) (b : Rooms) (r : Ou
   pub addresses : b′ .addresses ≡ filledUp addressesRoom (z .addresses)
 
 -- such a call leaves what its events make
-pub call-leaves : (file : List ℕ) (g : Given) (b b′ : Rooms) (r : Outcome) → Loaded file g b r b′ → Asked file g b → (z : Progress)
+pub call-leaves : (file : List ℕ) (g : Given) (b b′ : Rooms) (r : Outcome) → Loaded file g (sized g b) b r b′ → Asked file g b → (z : Progress)
     → judged file g .answer ≡ finished z
     → Left file g z b r b′
 unfolding pick
 call-leaves file g b b′ r d a z e =
     let c = asked-judged file g b a in
-    let o = call file g (right g b) in
+    let o = call file g (sized g b) in
     let es = judged file g .events in
     let j : (A : Type 0) (f : Verdict → List Event → A) → f (o .answer) (o .events) ≡ f (finished z) es =
     λ A f. ap (λ (o : Ran Verdict). f (o .answer) (o .events)) c ∙ ap (λ (v : Verdict). f v es) e in
@@ -113,10 +115,14 @@ call-leaves file g b b′ r d a z e =
       addresses = d .addresses ∙ j (List ℕ) (λ v fs. addressesAfter v (b .addresses));
     }
 
--- the number of new names, and low, of an outcome
+-- the number of new names, the start and low of an outcome
 abbrev namedOf : Outcome → ℕ
 namedOf (Accepted start placed adjusted named low) = named
 namedOf (Refused fault offset side) = 0
+
+abbrev startOf : Outcome → Start
+startOf (Accepted start placed adjusted named low) = start
+startOf (Refused fault offset side) = Absent
 
 abbrev lowOf : Outcome → ℕ
 lowOf (Accepted start placed adjusted named low) = low
@@ -128,11 +134,11 @@ reported-finished m (finished z) es e = (z, refl)
 reported-finished m (refused fault z) es e = absurd (false≢true (sym e))
 
 -- a call as asked of a file that the rules accept
-accepted-call : (file : List ℕ) (g : Given) (b b′ : Rooms) (r : Outcome) (z : Progress) → Loaded file g b r b′ → Bytes file → Asked file g b
+accepted-call : (file : List ℕ) (g : Given) (b b′ : Rooms) (r : Outcome) (z : Progress) → Loaded file g (sized g b) b r b′ → Bytes file → Asked file g b
     → judged file g .answer ≡ finished z
     → (start : Start) (placed adjusted named low : ℕ)
     → r ≡ Accepted start placed adjusted named low
-    → AcceptedCall file g b b′ placed adjusted named low
+    → AcceptedCall file g b b′ start placed adjusted named low
 accepted-call file g b b′ r z d bytes a f start placed adjusted named low e =
     let l = call-leaves file g b b′ r d a z f in
     let s : Accepted start placed adjusted named low ≡ report (b .memory) (finished z) (judged file g .events) = sym e ∙ l .outcome in
@@ -143,28 +149,33 @@ accepted-call file g b b′ r z d bytes a f start placed adjusted named low e =
       end = z;
       follows = f;
       leaves = rw (l .memory, l .map, ep, ea) (demand2 file g z (b .memory) (asked-top file g b a) bytes (asked-memory file g b a) f);
+      start-is = rw (l .memory, l .map) (ap startOf s);
       new-names = l .names;
       new-addresses = l .addresses;
       named-count = ap namedOf s;
       low-after = ap lowOf s;
     }
 
--- Demand 2, of every accepted call
-pub call-demand2 : (file : List ℕ) (g : Given) (b b′ : Rooms) (r : Outcome) → Loaded file g b r b′ → Bytes file → (start : Start)
+-- an accepted call
+call-accepted : (file : List ℕ) (g : Given) (b b′ : Rooms) (r : Outcome) → Loaded file g (sized g b) b r b′ → Bytes file → (start : Start)
     (placed adjusted named low : ℕ)
     → r ≡ Accepted start placed adjusted named low
-    → AcceptedCall file g b b′ placed adjusted named low
-call-demand2 file g b b′ r d bytes start placed adjusted named low e =
-    let o = call file g (right g b) in
+    → AcceptedCall file g b b′ start placed adjusted named low
+call-accepted file g b b′ r d bytes start placed adjusted named low e =
+    let o = call file g (sized g b) in
     let x = reported-finished (b .memory) (o .answer) (o .events) (ap isRefused (sym (d .outcome) ∙ e)) in
     let a = finished-asked file g b (x .0) (x .1) in
     let f = ap (λ (k : Ran Verdict). k .answer) (sym (asked-judged file g b a)) ∙ x .1 in
     accepted-call file g b b′ r (x .0) d bytes a f start placed adjusted named low e
 
--- a call as asked accepts every file that the rules accept: with the start that map and memory show, the counts of its events, the number of
--- new names and low afterwards
-pub call-accepts : (file : List ℕ) (g : Given) (b b′ : Rooms) (r : Outcome) (z : Progress) → Asked file g b → judged file g .answer ≡ finished z
-    → Loaded file g b r b′
+-- a call as asked accepts every file that the rules accept
+call-accepts : (file : List ℕ) (g : Given) (b b′ : Rooms) (r : Outcome) → Loaded file g (sized g b) b r b′ → Asked file g b → (z : Progress)
+    → judged file g .answer ≡ finished z
     → r ≡ Accepted (startIn (b′ .map) (b′ .memory)) (placedIn (judged file g .events)) (adjustedIn (judged file g .events)) (length (z .addresses))
     (z .cursor .low)
-call-accepts file g b b′ r z a f d = let l = call-leaves file g b b′ r d a z f in rw (l .memory, l .map) (l .outcome)
+call-accepts file g b b′ r d a z f = let l = call-leaves file g b b′ r d a z f in rw (l .memory, l .map) (l .outcome)
+
+-- Demand 2, of every call
+pub call-demand2 : Claim
+call-demand2 file bytes g b b′ r d =
+    record { accepted = call-accepted file g b b′ r d bytes; accepts = call-accepts file g b b′ r d }

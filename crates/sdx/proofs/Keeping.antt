@@ -27,12 +27,16 @@ use Rattle.updates.specs.Items.{emptySlot, slotAt}
 use Rattle.updates.specs.declared.Slot.{Slot}
 use Rattle.words.proofs.Runs.{length-part}
 use Rattle.words.specs.Runs.{Bytes, part}
+use Rattle.deeds.proofs.Ending.{carried-ends, advanced-at, Behind, behind-first, behind-on}
+use Rattle.deeds.proofs.Rooms.{Counted, counted-first, counted-on, Tabled, tabled-first, tabled-on}
+use Rattle.deeds.specs.Deeds.{carried, advanced, nameIn, addressIn}
+use Rattle.passes.proofs.Turning.{turn-led, block-fits}
+use Rattle.passes.specs.Walk.{stepped, Given, Deed, Progress, finished, blockAt, carriedAt, turn, begun}
+use Rattle.sdx.proofs.Calling.{judged-holds}
 use Rattle.sdx.proofs.Lawful.{Lawful, lawful-append}
 use Rattle.sdx.proofs.Passing.{Granted, read-granted, body-lawful}
-use Rattle.sdx.proofs.Rooms.{Counted, counted-first, counted-on, Tabled, tabled-first, tabled-on}
-use Rattle.sdx.proofs.Turning.{carried-ends, advanced-at, Behind, behind-first, behind-on, stepped, turn-led, block-fits, judged-holds}
-use Rattle.sdx.specs.Demand2.{AdjustsBy, ByRule, eventsOf, namesOf, addressesOf}
-use Rattle.sdx.specs.Walk.{Given, carried, advanced, nameIn, addressIn, Deed, Progress, finished, blockAt, outcomeAt, turn, begun, judged}
+use Rattle.sdx.specs.Call.{judged}
+use Rattle.sdx.specs.Demand2.{AdjustsBy, ByRule, Came, at-start, after-block, eventsOf, namesOf, addressesOf}
 
 -- ---- progress that only grows
 
@@ -270,7 +274,7 @@ module _ (file : List ℕ) (g : Given) (top : g .high ≤ 65535) (bytes : Bytes 
   -- every turn that leads on keeps it
   keeps-on : (y z : Progress) (es : List Event) → Keeps file g y es → turn file g y (marks es blank) .answer ≡ leads z
       → Keeps file g z (es ++ turn file g y (marks es blank) .events)
-  unfolding outcomeAt
+  unfolding carriedAt
   keeps-on y z es h e =
       let l = turn-led file g y (marks es blank) z e in
       let p = read-granted file (g .high) (g .names) (y .names) (y .cursor) bytes in
@@ -279,3 +283,13 @@ module _ (file : List ℕ) (g : Given) (top : g .high ≤ 65535) (bytes : Bytes 
   -- so it holds of every file that is accepted
   pub judged-keeps : (z : Progress) → judged file g .answer ≡ finished z → Keeps file g z (judged file g .events)
   judged-keeps = judged-holds file g top (Keeps file g) (keeps-first file g) keeps-on
+
+  -- and it came there block by block
+  came-on : (y z : Progress) (es : List Event) → Came file g y es → turn file g y (marks es blank) .answer ≡ leads z
+      → Came file g z (es ++ turn file g y (marks es blank) .events)
+  came-on y z es h e =
+      let l = turn-led file g y (marks es blank) z e in
+      rw (l .events) (after-block h (record { end = l .next; carried-out = l .done-at; leads-to = sym (l .leads-to) }))
+
+  pub judged-came : (z : Progress) → judged file g .answer ≡ finished z → Came file g z (judged file g .events)
+  judged-came = judged-holds file g top (Came file g) at-start came-on

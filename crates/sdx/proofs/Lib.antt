@@ -1,8 +1,4 @@
 -- Laws about the definitions of specs/. The loader keeps its contracts by:
-pub mod Parts
-pub mod Turning
-pub mod Rooms
-pub mod Going
 pub mod Calling
 -- Demand 2, and what else holds of every accepted file:
 pub mod Lawful

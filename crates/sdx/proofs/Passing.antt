@@ -3,7 +3,7 @@
 use mathlib.Core.Bool.{Bool, true, false, not, _||_, false≢true}
 use mathlib.Core.List.{List}
 use mathlib.Core.Path.{_≡_, refl, ap, _∙_}
-use Prim.Native.Nat.{ℕ, _+_, _-_, _≤_, _<_}
+use Prim.Native.Nat.{ℕ, _+_, _≤_, _<_}
 use native.Mathlib.Omega.{arith}
 use borrow.Author.Tests.{leb-true, eqb-true, not-true}
 use lib.Dec.{eqb, ltb}
@@ -12,7 +12,7 @@ use Rattle.answer.proofs.Checks.{on-need, on-pick, and-true}
 use Rattle.answer.specs.Checks.{need}
 use Rattle.answer.specs.declared.Fault.{Fault}
 use Rattle.answer.specs.declared.Fault.the-variants.{CutShort}
-use Rattle.blocks.specs.Blocks.{mostBlocks, readPlain, readRoom, readRelocatable, readUpdate, byDefinition, readNames, readAddress, readNewName, Marker, plain, names, newName, update, relocatable, firstMarker, markers, readAs, read}
+use Rattle.blocks.specs.Blocks.{mostBlocks, readPlain, readRoom, readRelocatable, readUpdate, byDefinition, readNames, readAddress, readNewName, read}
 use Rattle.blocks.specs.declared.Block.{Block}
 use Rattle.blocks.specs.declared.Block.the-variants.{Plain, Relocatable, Update, NewName, Faulty}
 use Rattle.blocks.specs.declared.Cursor.{Cursor}
@@ -22,13 +22,13 @@ use Rattle.events.proofs.Walks.{walk-keeps}
 use Rattle.events.specs.Events.{Event, marks, failed}
 use Rattle.names.specs.Names.{lookUp}
 use Rattle.names.specs.declared.Definition.{Definition}
-use Rattle.names.specs.declared.Definition.the-variants.{Missing, New, Lent}
+use Rattle.names.specs.declared.Definition.the-variants.{Missing, Own, Lent}
 use Rattle.updates.proofs.Reading.{Where, lies-as}
 use Rattle.updates.proofs.Turning.{turn-falls}
-use Rattle.updates.specs.Bodies.{isLoaded, wordLoaded, adjusting, applied, Place, broken, turn, bytesLeft, items, begun, body}
+use Rattle.updates.specs.Bodies.{isLoaded, wordLoaded, adjusting, applied, BodyState, broken, turn, bytesLeft, items, begun, body}
 use Rattle.updates.specs.Items.{slotAt, read as read-item}
 use Rattle.updates.specs.declared.Item.{Item}
-use Rattle.updates.specs.declared.Item.the-variants.{Wrong, End, Move, Adjust}
+use Rattle.updates.specs.declared.Item.the-variants.{Faulty as FaultyItem, End, Move, Adjust}
 use Rattle.updates.specs.declared.Slot.{Slot}
 use Rattle.words.proofs.Changes.{value-lt}
 use Rattle.words.proofs.Runs.{length-part, part-at, contains-not}
@@ -93,7 +93,7 @@ module _ (file : List ℕ) (high : ℕ) (lent own : List ℕ) (c : Cursor) where
     where
       by : (d : Definition) → Granted c (byDefinition (c .at + 12) d)
       by Missing = record { passes = tt }
-      by (New i) = record { passes = tt }
+      by (Own i) = record { passes = tt }
       by (Lent i) = record { passes = tt }
 
   -- (nor has a new name)
@@ -104,19 +104,15 @@ module _ (file : List ℕ) (high : ℕ) (lent own : List ℕ) (c : Cursor) where
       (λ h. checked _ _ _ (λ i. checked _ _ _ (λ j. checked _ _ _ (λ k. checked _ _ _ (λ l. record { passes = tt })))))
 
   -- so every block has passed that is read
-  marked-granted : Bytes file → (m : Marker) → Granted c (readAs file high lent own c m)
-  marked-granted bytes plain = plain-granted bytes (c .at + 2)
-  marked-granted bytes names = names-granted
-  marked-granted bytes newName = new-name-granted
-  marked-granted bytes update = update-granted
-  marked-granted bytes relocatable = relocatable-granted
-
   pub read-granted : Bytes file → Granted c (read file high lent own c)
   unfolding read
   read-granted bytes =
       checked _ _ _
       (λ h. on-pick (Granted c) _ _ _ (λ i. plain-granted bytes (c .at))
-      (λ i. marked-granted bytes (getD markers (value 2 file (c .at) - firstMarker) plain)))
+      (λ i. on-pick (Granted c) _ _ _ (λ j. names-granted)
+      (λ j. on-pick (Granted c) _ _ _ (λ k. new-name-granted)
+      (λ k. on-pick (Granted c) _ _ _ (λ l. update-granted)
+      (λ l. on-pick (Granted c) _ _ _ (λ m. relocatable-granted) (λ m. plain-granted bytes (c .at + 2)))))))
 
 -- ---- a body
 
@@ -152,12 +148,12 @@ adjusting-lawful amount a map l h =
 -- an item, and a turn
 applied-lawful : (len at amount : ℕ) (item : Item) (map : List ℕ) → length map ≡ 65536 → Where len at item
     → Lawful map (applied amount item map .events)
-applied-lawful len at amount (Wrong fault) map l w = tt
+applied-lawful len at amount (FaultyItem fault) map l w = tt
 applied-lawful len at amount (End next) map l w = tt
 applied-lawful len at amount (Move counter next) map l w = tt
 applied-lawful len at amount (Adjust counter next) map l w = adjusting-lawful amount counter map l (w .2)
 
-turn-lawful : (file : List ℕ) (table : List Slot) (amount : ℕ) (s : Place) (map : List ℕ) → length map ≡ 65536
+turn-lawful : (file : List ℕ) (table : List Slot) (amount : ℕ) (s : BodyState) (map : List ℕ) → length map ≡ 65536
     → Lawful map (turn file table amount s map .events)
 unfolding turn
 turn-lawful file table amount s map l =
@@ -168,8 +164,8 @@ pub body-lawful : (file : List ℕ) (table : List Slot) (amount at : ℕ) (map :
     → Lawful map (body file table amount at map .events)
 unfolding items
 body-lawful file table amount at map l =
-    let each : (s : Place) (es : List Event) → Lawful (marks es map) (turn file table amount s (marks es map) .events) =
+    let each : (s : BodyState) (es : List Event) → Lawful (marks es map) (turn file table amount s (marks es map) .events) =
     λ s es. turn-lawful file table amount s (marks es map) (length-marks es map ∙ l) in
-    let x = walk-keeps (turn file table amount) (λ z. broken CutShort) (bytesLeft file) (turn-falls file table amount) (λ s es. Lawful map es) map
+    let x = walk-keeps (turn file table amount) (λ z. broken CutShort) (λ s. bytesLeft file (s .at)) (turn-falls file table amount) (λ s es. Lawful map es) map
     (λ s z es h e. lawful-append map es _ h (each s es)) (begun at) tt in
     rw (x .events) (lawful-append map (x .before) _ (x .held) (each (x .state) (x .before)))

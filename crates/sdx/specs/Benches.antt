@@ -9,9 +9,10 @@ use Rattle.answer.specs.declared.Fault.{Fault}
 use Rattle.answer.specs.declared.Fault.the-variants.{WrongBuffer}
 use Rattle.answer.specs.declared.Outcome.{Outcome}
 use Rattle.events.specs.Events.{Event, blank}
-use Rattle.sdx.specs.Call.{load, Rooms, right}
+use Rattle.passes.specs.Rooms.{Rooms}
+use Rattle.passes.specs.Walk.{Given, Progress, finished}
+use Rattle.sdx.specs.Call.{load, sized}
 use Rattle.sdx.specs.Demand2.{Places, Among}
-use Rattle.sdx.specs.Walk.{Given, Progress, finished}
 
 -- "A refusal leaves program memory untouched, and the other buffers hold what document 01 names": a call that was refused found the buffers b,
 -- and left b′
@@ -20,9 +21,9 @@ pub record RefusedCall (g : Given) (fault : Fault) (b b′ : Rooms) : Type 0 whe
   pub names : b′ .names ≡ b .names
   pub addresses : b′ .addresses ≡ b .addresses
   -- "Refusal 1 changes nothing"
-  pub wrong-buffer : right g b ≡ false → (fault ≡ WrongBuffer) × (b′ .map ≡ b .map)
+  pub wrong-buffer : sized g b ≡ false → (fault ≡ WrongBuffer) × (b′ .map ≡ b .map)
   -- "Every other refusal leaves .. the map all zero"
-  pub other : right g b ≡ true → b′ .map ≡ blank
+  pub other : sized g b ≡ true → b′ .map ≡ blank
 
 -- "Two benches with the same settings must never hold two different programs from one file": two calls of a file, whatever their buffers held
 -- before, answer r and t, and leave the buffers b and d. (A file that is refused, for its settings or its length too, leaves no program.)

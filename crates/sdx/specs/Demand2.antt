@@ -1,21 +1,27 @@
 -- Demand 2 for SDX files, sentence by sentence: what a load leaves where it accepts. Proved in proofs/Demand2.antt of the definition
--- (`demand2`), of every file, all settings and every memory, and of every call that keeps the loader's contract (`call-demand2`).
+-- (`demand2`), of every file, all settings and every memory; the claim at the end, of every call, by `call-demand2`.
 -- Assumes nothing.
 use mathlib.Core.Bool.{true, false}
 use mathlib.Core.List.{List, [], _∷_, _++_}
 use mathlib.Core.Path.{_≡_}
 use Prim.Native.Nat.{ℕ, _+_, _*_, _≤_, _<_}
 use lib.ListN.{length, getD}
+use Rattle.answer.specs.declared.Outcome.{Outcome}
+use Rattle.answer.specs.declared.Outcome.the-variants.{Accepted}
+use Rattle.answer.specs.declared.Start.{Start}
 use Rattle.blocks.specs.Blocks.{amountOf}
 use Rattle.blocks.specs.declared.Block.{Block}
 use Rattle.blocks.specs.declared.Block.the-variants.{Plain, Relocatable, Update, NewName, Faulty}
-use Rattle.events.specs.Events.{Event, place, reserve, adjust, placedMark, reservedMark, adjustedMark, placedIn, adjustedIn}
+use Rattle.events.specs.Events.{Event, place, reserve, adjust, marks, blank, placedMark, reservedMark, adjustedMark, placedIn, adjustedIn}
 use Rattle.events.specs.Lists.{Each}
+use Rattle.updates.specs.Bodies.{done}
 use Rattle.updates.specs.Items.{slotAt}
 use Rattle.words.specs.Numbers.{value, digits, on}
-use Rattle.words.specs.Runs.{Within, part}
-use Rattle.sdx.specs.Call.{Rooms, filledUp, namesRoom, addressesRoom, inRange, right}
-use Rattle.sdx.specs.Walk.{Given, nameIn, addressIn, Deed, Progress, finished, judged}
+use Rattle.words.specs.Runs.{Bytes, Within, part}
+use Rattle.deeds.specs.Deeds.{nameIn, addressIn}
+use Rattle.passes.specs.Rooms.{Rooms, namesRoom, addressesRoom, filledUp, startIn}
+use Rattle.passes.specs.Walk.{Given, Deed, Progress, finished, stepped, blockAt, carriedAt, begun}
+use Rattle.sdx.specs.Call.{inRange, sized, judged, Loaded}
 
 -- ---- events at an address
 
@@ -60,7 +66,8 @@ pub record Put (es : List Event) (x byte : ℕ) : Type 0 where
   pub is : byte ≡ getD bytes index 0
   pub since : Each (λ e. ¬ Writes x e) after
 
--- The word at an address was adjusted: it had been put there by blocks and not adjusted since, and has not been adjusted after that.
+-- The word at an address was adjusted: it had been put there by blocks and not adjusted since, and is not adjusted again unless a block places
+-- it anew.
 pub record Adjusted (before after : List Event) (a amount : ℕ) (m′ : List ℕ) : Type 0 where
   pub low : ℕ
   pub high : ℕ
@@ -79,7 +86,8 @@ pub record AdjustsBy (amount : ℕ) (e : Event) : Type 0 where
   pub address : ℕ
   pub is : e ≡ adjust 2 address amount
 
--- the events of a block are those of the rules; z is where the file ended, with the table and the names of all its blocks
+-- the events of a block are those of the rules; z is where the file ended, with the table and the names of all its blocks (of a body: each event
+-- adjusts a word by the rules' amount; which words it lists, `body` says, by `Came` below)
 abbrev pub ByRule : List ℕ → Given → Progress → Block → List Event → Type 0
 ByRule file g z (Plain address from size) es = es ≡ place address (part file from size) ∷ []
 ByRule file g z (Relocatable true number offset from size) es = es ≡ reserve (slotAt (z .cursor .table) number .address) size ∷ []
@@ -89,11 +97,26 @@ ByRule file g z (Update source from) es = Each (AdjustsBy (amountOf (z .cursor .
 ByRule file g z (NewName from address) es = es ≡ []
 ByRule file g z (Faulty fault) es = ⊥
 
+-- The block at which a load stands at y, by the events es, is carried out over the map as these left it, and leads on to z.
+pub record NextBlock (file : List ℕ) (g : Given) (y : Progress) (es : List Event) (z : Progress) : Type 0 where
+  pub end : ℕ
+  pub carried-out : carriedAt file g y (marks es blank) .answer ≡ done end
+  pub leads-to : z ≡ stepped file y (blockAt file g y) (carriedAt file g y (marks es blank) .events) end
+
+-- How a load came to z, by the events es: from the first block on, each read where the one before it ended, with the table and the names as those
+-- before it left them. So each deed of z is the block that stands at its offset, and its events are all that this block does: of a body, one for
+-- each word that it lists.
+pub data Came (file : List ℕ) (g : Given) : Progress → List Event → Type 0 where
+  at-start : Came file g (begun g) []
+  after-block : {y z : Progress} {es : List Event} → Came file g y es → NextBlock file g y es z
+      → Came file g z (es ++ carriedAt file g y (marks es blank) .events)
+
 -- what all blocks did, in file order (the latest deed stands first)
 unfoldable pub eventsOf : List Deed → List Event
 eventsOf [] = []
 eventsOf (d ∷ ds) = eventsOf ds ++ d .events
 
+-- the names that they brought, and their addresses
 unfoldable pub namesOf : List ℕ → List Deed → List ℕ
 namesOf file [] = []
 namesOf file (d ∷ ds) = namesOf file ds ++ nameIn file (d .block)
@@ -104,7 +127,8 @@ addressesOf (d ∷ ds) = addressesOf ds ++ addressIn (d .block)
 
 -- What a load leaves that accepted a file, after the events es: it found memory m, left m′ and the map p′, and reported the two counts.
 pub record Demand2 (file : List ℕ) (g : Given) (z : Progress) (es : List Event) (m m′ p′ : List ℕ) (placed adjusted : ℕ) : Type 0 where
-  -- the events are those of its blocks, and those are the rules'
+  -- the events are those of its blocks, one after the other, and those are the rules'
+  pub came : Came file g z es
   pub deeds : es ≡ eventsOf (z .deeds)
   pub by-rule : Each (λ d. ByRule file g z (d .block) (d .events)) (z .deeds)
   -- "New names and addresses stand in file order"
@@ -129,19 +153,37 @@ pub record Demand2 (file : List ℕ) (g : Given) (z : Progress) (es : List Event
 
 -- "settings and buffers as document 01 asks"
 pub record Asked (file : List ℕ) (g : Given) (b : Rooms) : Type 0 where
-  pub buffers : right g b ≡ true
+  pub buffers : sized g b ≡ true
   pub settings : inRange g ≡ true
   pub fits : length file ≤ 65536
 
--- A call that was accepted: "a file is accepted exactly if it follows the SpartaDOS X .. rules of document 01 and fits". (`call-demand2`: an
--- acceptance is one of these; `call-accepts`: every file that is accepted by the rules is accepted by the call.)
-pub record AcceptedCall (file : List ℕ) (g : Given) (b b′ : Rooms) (placed adjusted named low : ℕ) : Type 0 where
+-- A call that was accepted: it was as asked, the file follows the rules, and this is what it left and reported.
+pub record AcceptedCall (file : List ℕ) (g : Given) (b b′ : Rooms) (start : Start) (placed adjusted named low : ℕ) : Type 0 where
   pub asked : Asked file g b
   pub end : Progress
   pub follows : judged file g .answer ≡ finished end
   pub leaves : Demand2 file g end (judged file g .events) (b .memory) (b′ .memory) (b′ .map) placed adjusted
+  -- "the start (present or not, address)": by the map and the memory that were left
+  pub start-is : start ≡ startIn (b′ .map) (b′ .memory)
   -- "and for SDX the number of new names and low afterwards"; "The unfilled rest of any room lent for output is zero"
   pub new-names : b′ .names ≡ filledUp namesRoom (end .names)
   pub new-addresses : b′ .addresses ≡ filledUp addressesRoom (end .addresses)
   pub named-count : named ≡ length (end .addresses)
   pub low-after : low ≡ end .cursor .low
+
+-- "With settings and buffers as document 01 asks, a file is accepted exactly if it follows the SpartaDOS X .. rules of document 01 and fits": of a
+-- call that found the buffers b, answered r and left b′
+pub record Exactly (file : List ℕ) (g : Given) (b : Rooms) (r : Outcome) (b′ : Rooms) : Type 0 where
+  -- only if: an acceptance is one of those above
+  pub accepted : (start : Start) (placed adjusted named low : ℕ) → r ≡ Accepted start placed adjusted named low
+      → AcceptedCall file g b b′ start placed adjusted named low
+  -- if: a call as asked accepts every file that the rules accept, with the start that map and memory show, the counts of its events, the number
+  -- of its new names and low
+  pub accepts : Asked file g b → (z : Progress) → judged file g .answer ≡ finished z
+      → r
+      ≡ Accepted (startIn (b′ .map) (b′ .memory)) (placedIn (judged file g .events)) (adjustedIn (judged file g .events)) (length (z .addresses))
+      (z .cursor .low)
+
+-- The claim: of every file, whatever is given and lent, and of every call that keeps the loader's contract.
+abbrev pub Claim : Type 0
+Claim = (file : List ℕ) → Bytes file → (g : Given) (b b′ : Rooms) (r : Outcome) → Loaded file g (sized g b) b r b′ → Exactly file g b r b′

@@ -1,6 +1,4 @@
--- What the contracts of `sdx` cite, in the order in which to read it; then what that comes to, in the user's words.
-pub mod Walk
+-- What the contracts of `sdx` cite; then what that comes to, in the user's words.
 pub mod Call
-pub mod Parts
 pub mod Demand2
 pub mod Benches

@@ -16,7 +16,7 @@ use Rattle.words.proofs.Lent.{lent-is}
 use Rattle.words.specs.Runs.{part, contains}
 use Rattle.updates.specs.Bodies.{wordLoaded, adjusting, applied}
 use Rattle.updates.specs.declared.Item.{Item}
-use Rattle.updates.specs.declared.Item.the-variants.{Wrong, End, Move, Adjust}
+use Rattle.updates.specs.declared.Item.the-variants.{Faulty, End, Move, Adjust}
 
 -- ---- a word adjusted
 
@@ -46,7 +46,7 @@ module _ (amount a : ℕ) (write : Bool) (m p : List ℕ) where
 -- ---- an item carried out
 
 module _ (amount : ℕ) (item : Item) (write : Bool) (m p : List ℕ) where
-  pub applied-wrong : (fault : Fault) → item ≡ Wrong fault → Did Check (applied amount item p) write m p (Failed fault) m p
+  pub applied-wrong : (fault : Fault) → item ≡ Faulty fault → Did Check (applied amount item p) write m p (Failed fault) m p
   applied-wrong fault e = rw e (did-none _ write m p)
 
   pub applied-end : (next : ℕ) → item ≡ End next → Did Check (applied amount item p) write m p Passed m p

@@ -19,39 +19,39 @@ use Rattle.events.specs.declared.Check.the-variants.{Passed, Failed}
 use Rattle.updates.proofs.Item.{the-type}
 use Rattle.updates.proofs.Reading.{lies-as}
 use Rattle.updates.proofs.Turning.{Onward, adjusts, applied-counts, turn-falls, turn-further}
-use Rattle.updates.specs.Bodies.{applied, Place, Stop, broken, done, judge, turn, bytesLeft, items, body, ended}
-use Rattle.updates.specs.Cursor.{begun, advanced}
+use Rattle.updates.specs.Bodies.{applied, BodyState, Stop, broken, done, judge, turn, bytesLeft, items, body, ended}
+use Rattle.updates.specs.Cursor.{cursorAt, advanced}
 use Rattle.updates.specs.Items.{read}
 use Rattle.updates.specs.declared.Counter.{Counter}
 use Rattle.updates.specs.declared.Cursor.{Cursor}
 use Rattle.updates.specs.declared.Ended.{Ended}
 use Rattle.updates.specs.declared.Ended.the-variants.{Broken, Done}
 use Rattle.updates.specs.declared.Item.{Item}
-use Rattle.updates.specs.declared.Item.the-variants.{Wrong, End, Move, Adjust}
+use Rattle.updates.specs.declared.Item.the-variants.{Faulty, End, Move, Adjust}
 use Rattle.updates.specs.declared.Slot.{Slot}
 
 -- ---- the cursor
 
 -- the definition's place at a cursor
-abbrev pub placeOf : Cursor → Place
-placeOf c = record { at = c .at; counter = c .counter }
+abbrev pub stateOf : Cursor → BodyState
+stateOf c = record { at = c .at; counter = c .counter }
 
 -- an item that passed leads to the cursor after it, which counts the words that it adjusted
-judge-on : (c : Cursor) (item : Item) → Onward item → judge Passed item ≡ leads (placeOf (advanced c item))
-judge-on c (Wrong fault) o = absurd o
+judge-on : (c : Cursor) (item : Item) → Onward item → judge Passed item ≡ leads (stateOf (advanced c item))
+judge-on c (Faulty fault) o = absurd o
 judge-on c (End next) o = absurd o
 judge-on c (Move counter next) o = refl
 judge-on c (Adjust counter next) o = refl
 
 advanced-counts : (c : Cursor) (item : Item) → advanced c item .adjusted ≡ c .adjusted + adjusts item
-advanced-counts c (Wrong fault) = omega arith
+advanced-counts c (Faulty fault) = omega arith
 advanced-counts c (End next) = omega arith
 advanced-counts c (Move counter next) = omega arith
 advanced-counts c (Adjust counter next) = refl
 
 -- an item that is not the end (whose tag is 1), nor a fault, leads on
-onward-by-tag : (item : Item) → OneOf (0 ∷ 2 ∷ 3 ∷ []) (tagOf the-type item) → ((fault : Fault) → item ≡ Wrong fault → ⊥) → Onward item
-onward-by-tag (Wrong fault) t h = h fault refl
+onward-by-tag : (item : Item) → OneOf (0 ∷ 2 ∷ 3 ∷ []) (tagOf the-type item) → ((fault : Fault) → item ≡ Faulty fault → ⊥) → Onward item
+onward-by-tag (Faulty fault) t h = h fault refl
 onward-by-tag (End next) t h = miss (0 ∷ 2 ∷ 3 ∷ []) 1 tt t
 onward-by-tag (Move counter next) t h = tt
 onward-by-tag (Adjust counter next) t h = tt
@@ -60,7 +60,7 @@ abbrev isPassed : Check → Bool
 isPassed Passed = true
 isPassed (Failed fault) = false
 
-failed-passed : (fault : Fault) → Failed fault ≡ Passed → ⊥
+pub failed-passed : (fault : Fault) → Failed fault ≡ Passed → ⊥
 failed-passed fault e = false≢true (ap isPassed e)
 
 -- a word that an item adjusts lies in memory
@@ -73,19 +73,19 @@ item-fits file table at from item is counter next e = lies-as file table at from
 -- the body began at an offset with memory m₀ and the map p₀, and stands at the cursor c with m and p
 pub record Going (file : List ℕ) (table : List Slot) (amount first : ℕ) (write : Bool) (m₀ p₀ : List ℕ) (c : Cursor) (m p : List ℕ) : Type 0 where
   pub events : List Event
-  pub came : body file table amount first p₀ ≡ after events (items file table amount (placeOf c) (marks events p₀))
+  pub came : body file table amount first p₀ ≡ after events (items file table amount (stateOf c) (marks events p₀))
   pub reached : Reached events write m₀ p₀ m p
   pub counted : c .adjusted ≡ adjustedIn events
   pub behind : first + c .adjusted ≤ c .at
   pub inside : c .at ≤ length file
 
 module _ {file : List ℕ} {table : List Slot} {amount first : ℕ} {write : Bool} {m₀ p₀ : List ℕ} where
-  pub going-first : first ≤ length file → Going file table amount first write m₀ p₀ (begun first) m₀ p₀
+  pub going-first : first ≤ length file → Going file table amount first write m₀ p₀ (cursorAt first) m₀ p₀
   unfolding items adjustedIn
   going-first l =
       record {
         events = [];
-        came = came-none (turn file table amount) (λ z. broken CutShort) (bytesLeft file) (turn-falls file table amount) _ p₀;
+        came = came-none (turn file table amount) (λ z. broken CutShort) (λ s. bytesLeft file (s .at)) (turn-falls file table amount) _ p₀;
         reached = reached-none write m₀ p₀;
         counted = refl;
         behind = omega arith;
@@ -96,8 +96,8 @@ module _ {file : List ℕ} {table : List Slot} {amount first : ℕ} {write : Boo
     module _ {item : Item} {r : Check} {m′ p′ : List ℕ} (is : item ≡ read file table (c .at) (c .counter))
         (d : Did Check (applied amount item p) write m p r m′ p′) where
       -- the definition's turn
-      here : Ran (Turn Place Stop)
-      here = turn file table amount (placeOf c) (marks (x .events) p₀)
+      here : Ran (Turn BodyState Stop)
+      here = turn file table amount (stateOf c) (marks (x .events) p₀)
 
       here-is : here ≡ record { answer = judge r item; events = applied amount item p .events }
       unfolding here turn
@@ -110,9 +110,9 @@ module _ {file : List ℕ} {table : List Slot} {amount first : ℕ} {write : Boo
       ended-is : (a : Stop) → judge r item ≡ ends a → body file table amount first p₀ ≡ record { answer = a; events = x .events ++ here .events }
       unfolding here items
       ended-is a e =
-          came-end (turn file table amount) (λ z. broken CutShort) (bytesLeft file) (turn-falls file table amount) _ (x .events) (placeOf c) p₀
+          came-end (turn file table amount) (λ z. broken CutShort) (λ s. bytesLeft file (s .at)) (turn-falls file table amount) _ (x .events) (stateOf c) p₀
           (x .came)
-          a (ap (λ (o : Ran (Turn Place Stop)). o .answer) here-is ∙ e)
+          a (ap (λ (o : Ran (Turn BodyState Stop)). o .answer) here-is ∙ e)
 
       pub going-fails : {fault : Fault} → r ≡ Failed fault
           → Did Ended (ended (body file table amount first p₀)) write m₀ p₀ (Broken fault) m′ p′
@@ -124,7 +124,7 @@ module _ {file : List ℕ} {table : List Slot} {amount first : ℕ} {write : Boo
       now-counts : r ≡ Passed → adjustedIn (x .events ++ here .events) ≡ c .adjusted + adjusts item
       now-counts e =
           let f : adjustedIn (here .events) ≡ adjusts item =
-          ap (λ (o : Ran (Turn Place Stop)). adjustedIn (o .events)) here-is ∙ applied-counts amount item p (sym (d .answer) ∙ e) in
+          ap (λ (o : Ran (Turn BodyState Stop)). adjustedIn (o .events)) here-is ∙ applied-counts amount item p (sym (d .answer) ∙ e) in
           omega (arith, adjusted-append (x .events) (here .events), x .counted, f)
 
       pub going-ends : {next : ℕ} → r ≡ Passed → item ≡ End next
@@ -142,25 +142,25 @@ module _ {file : List ℕ} {table : List Slot} {amount first : ℕ} {write : Boo
           onward-by-tag item t
           (λ fault f. failed-passed fault (sym (ap (λ (i : Item). applied amount i p .answer) f) ∙ sym (d .answer) ∙ e))
 
-      here-leads : r ≡ Passed → Onward item → here .answer ≡ leads (placeOf (advanced c item))
+      here-leads : r ≡ Passed → Onward item → here .answer ≡ leads (stateOf (advanced c item))
       here-leads e o =
-          ap (λ (t : Ran (Turn Place Stop)). t .answer) here-is ∙ ap (λ (k : Check). judge k item) e ∙ judge-on c item o
+          ap (λ (t : Ran (Turn BodyState Stop)). t .answer) here-is ∙ ap (λ (k : Check). judge k item) e ∙ judge-on c item o
 
       pub going-further : r ≡ Passed → Onward item → c .at < advanced c item .at
       unfolding here
-      going-further e o = turn-further file table amount (placeOf c) (placeOf (advanced c item)) (marks (x .events) p₀) (here-leads e o) .0
+      going-further e o = turn-further file table amount (stateOf c) (stateOf (advanced c item)) (marks (x .events) p₀) (here-leads e o) .0
 
       pub going-on : r ≡ Passed → Onward item → Going file table amount first write m₀ p₀ (advanced c item) m′ p′
       unfolding here items
       going-on e o =
-          let z = placeOf (advanced c item) in
-          let t = turn-further file table amount (placeOf c) z (marks (x .events) p₀) (here-leads e o) in
+          let z = stateOf (advanced c item) in
+          let t = turn-further file table amount (stateOf c) z (marks (x .events) p₀) (here-leads e o) in
           let n = now-counts e in
           let k = advanced-counts c item in
           record {
             events = x .events ++ here .events;
-            came = came-on (turn file table amount) (λ z. broken CutShort) (bytesLeft file) (turn-falls file table amount) _ (x .events)
-                (placeOf c) p₀
+            came = came-on (turn file table amount) (λ z. broken CutShort) (λ s. bytesLeft file (s .at)) (turn-falls file table amount) _ (x .events)
+                (stateOf c) p₀
                 (x .came) z (here-leads e o);
             reached = now;
             counted = k ∙ sym n;

@@ -16,18 +16,18 @@ use Rattle.updates.specs.Items.{slotAt, adding, setting, aiming, skipped
 use Rattle.updates.specs.declared.Counter.{Counter}
 use Rattle.updates.specs.declared.Counter.the-variants.{Unset, Set}
 use Rattle.updates.specs.declared.Item.{Item}
-use Rattle.updates.specs.declared.Item.the-variants.{Wrong, End, Move, Adjust}
+use Rattle.updates.specs.declared.Item.the-variants.{Faulty, End, Move, Adjust}
 use Rattle.updates.specs.declared.Slot.{Slot}
 
 -- ---- 00 to FB
 
 module _ (amount next : ℕ) (counter : Counter) where
   -- nothing to add to
-  pub adding-unset : counter ≡ Unset → Wrong CounterUnusable ≡ adding amount next counter
+  pub adding-unset : counter ≡ Unset → Faulty CounterUnusable ≡ adding amount next counter
   adding-unset e = rw e refl
 
   -- a sum where no word lies
-  pub adding-high : (from : ℕ) → counter ≡ Set from → 65534 < from + amount → Wrong CounterUnusable ≡ adding amount next counter
+  pub adding-high : (from : ℕ) → counter ≡ Set from → 65534 < from + amount → Faulty CounterUnusable ≡ adding amount next counter
   unfolding need
   adding-high from e h = rw (e, lt-leb _ _ h) refl
 
@@ -40,12 +40,12 @@ module _ (amount next : ℕ) (counter : Counter) where
 
 module _ (file : List ℕ) (at : ℕ) where
   -- no word left
-  pub setting-cut : length file < at + 3 → Wrong CutShort ≡ setting file at
+  pub setting-cut : length file < at + 3 → Faulty CutShort ≡ setting file at
   unfolding setting need
   setting-cut h = rw (lt-leb _ _ h) refl
 
   -- a counter where no word lies
-  pub setting-high : (word : ℕ) → at + 3 ≤ length file → word ≡ value 2 file (at + 1) → 65534 < word → Wrong CounterUnusable ≡ setting file at
+  pub setting-high : (word : ℕ) → at + 3 ≤ length file → word ≡ value 2 file (at + 1) → 65534 < word → Faulty CounterUnusable ≡ setting file at
   unfolding setting need
   setting-high word h e i = rw (le-leb _ _ h, ← e, lt-leb _ _ i) refl
 
@@ -58,18 +58,18 @@ module _ (file : List ℕ) (at : ℕ) where
 
 module _ (file : List ℕ) (table : List Slot) (at : ℕ) where
   -- no number left
-  pub aiming-cut : length file < at + 2 → Wrong CutShort ≡ aiming file table at
+  pub aiming-cut : length file < at + 2 → Faulty CutShort ≡ aiming file table at
   unfolding aiming need
   aiming-cut h = rw (lt-leb _ _ h) refl
 
   module _ (number : ℕ) (h : at + 2 ≤ length file) (e : number ≡ getD file (at + 1) 0) where
     -- no number of a block
-    pub aiming-unknown : 7 < number → Wrong NotKnown ≡ aiming file table at
+    pub aiming-unknown : 7 < number → Faulty NotKnown ≡ aiming file table at
     unfolding aiming need
     aiming-unknown i = rw (le-leb _ _ h, ← e, lt-leb _ _ i) refl
 
     -- a block that is not there
-    pub aiming-missing : number ≤ 7 → slotAt table number .taken ≡ false → Wrong BlockMissing ≡ aiming file table at
+    pub aiming-missing : number ≤ 7 → slotAt table number .taken ≡ false → Faulty BlockMissing ≡ aiming file table at
     unfolding aiming need
     aiming-missing i t = rw (le-leb _ _ h, ← e, le-leb _ _ i, t) refl
 
@@ -82,11 +82,11 @@ module _ (file : List ℕ) (table : List Slot) (at : ℕ) where
 
 module _ (next : ℕ) (counter : Counter) where
   -- nothing to add to
-  pub skipping-unset : counter ≡ Unset → Wrong CounterUnusable ≡ skipping next counter
+  pub skipping-unset : counter ≡ Unset → Faulty CounterUnusable ≡ skipping next counter
   skipping-unset e = rw e refl
 
   -- a sum past the last address
-  pub skipping-high : (from : ℕ) → counter ≡ Set from → 65535 < from + skipped → Wrong CounterUnusable ≡ skipping next counter
+  pub skipping-high : (from : ℕ) → counter ≡ Set from → 65535 < from + skipped → Faulty CounterUnusable ≡ skipping next counter
   unfolding need
   skipping-high from e h = rw (e, lt-leb _ _ h) refl
 
@@ -99,7 +99,7 @@ module _ (next : ℕ) (counter : Counter) where
 
 module _ (file : List ℕ) (table : List Slot) (at : ℕ) (counter : Counter) where
   -- none left
-  pub reading-cut : length file ≤ at → Wrong CutShort ≡ read file table at counter
+  pub reading-cut : length file ≤ at → Faulty CutShort ≡ read file table at counter
   unfolding read need
   reading-cut h = rw (le-ltb _ _ h) refl
 
@@ -128,7 +128,7 @@ module _ (file : List ℕ) (table : List Slot) (at : ℕ) (counter : Counter) wh
 
 -- where an item that begins at `at` ends, in a file of `len` bytes, and the counter of a word to adjust
 abbrev pub Where : ℕ → ℕ → Item → Type 0
-Where len at (Wrong fault) = Unit {0}
+Where len at (Faulty fault) = Unit {0}
 Where len at (End next) = (at < next) × (next ≤ len)
 Where len at (Move counter next) = (at < next) × (next ≤ len)
 Where len at (Adjust counter next) = (at < next) × (next ≤ len) × (counter ≤ 65534)
@@ -138,22 +138,22 @@ pub record Lies (len at : ℕ) (item : Item) : Type 0 where
   pub lies : Where len at item
 
 -- a fault lies nowhere
-bad : (len at : ℕ) (fault : Fault) → Lies len at (Wrong fault)
+bad : (len at : ℕ) (fault : Fault) → Lies len at (Faulty fault)
 bad len at fault = record { lies = tt }
 
 -- 00 to FB
 adding-lies : (len at amount : ℕ) (counter : Counter) → at < len → Lies len at (adding amount (at + 1) counter)
 adding-lies len at amount Unset h = bad len at _
 adding-lies len at amount (Set from) h =
-    on-need Wrong (Lies len at) (bad _ _) _ _ _ (λ i. record { lies = (omega arith, omega arith, leb-true _ _ i) })
+    on-need Faulty (Lies len at) (bad _ _) _ _ _ (λ i. record { lies = (omega arith, omega arith, leb-true _ _ i) })
 
 -- FD
 setting-lies : (file : List ℕ) (at : ℕ) → Lies (length file) at (setting file at)
 unfolding setting
 setting-lies file at =
     let P = Lies (length file) at in
-    on-need Wrong P (bad _ _) _ _ _
-    (λ h. on-need Wrong P (bad _ _) _ _ _
+    on-need Faulty P (bad _ _) _ _ _
+    (λ h. on-need Faulty P (bad _ _) _ _ _
     (λ i. record { lies = (omega arith, leb-true _ _ h, leb-true _ _ i) }))
 
 -- FE
@@ -161,22 +161,22 @@ aiming-lies : (file : List ℕ) (table : List Slot) (at : ℕ) → Lies (length 
 unfolding aiming
 aiming-lies file table at =
     let P = Lies (length file) at in
-    on-need Wrong P (bad _ _) _ _ _
-    (λ h. on-need Wrong P (bad _ _) _ _ _
-    (λ _. on-need Wrong P (bad _ _) _ _ _
+    on-need Faulty P (bad _ _) _ _ _
+    (λ h. on-need Faulty P (bad _ _) _ _ _
+    (λ _. on-need Faulty P (bad _ _) _ _ _
     (λ _. record { lies = (omega arith, leb-true _ _ h) })))
 
 -- FF
 skipping-lies : (len at : ℕ) (counter : Counter) → at < len → Lies len at (skipping (at + 1) counter)
 skipping-lies len at Unset h = bad len at _
-skipping-lies len at (Set from) h = on-need Wrong (Lies len at) (bad _ _) _ _ _ (λ _. record { lies = (omega arith, omega arith) })
+skipping-lies len at (Set from) h = on-need Faulty (Lies len at) (bad _ _) _ _ _ (λ _. record { lies = (omega arith, omega arith) })
 
 -- the item at an offset lies in the file, whatever its byte
 pub read-lies : (file : List ℕ) (table : List Slot) (at : ℕ) (counter : Counter) → Lies (length file) at (read file table at counter)
 unfolding read
 read-lies file table at counter =
     let P = Lies (length file) at in
-    on-need Wrong P (bad _ _) _ _ _
+    on-need Faulty P (bad _ _) _ _ _
     (λ h. on-pick P _ _ _ (λ _. adding-lies (length file) at _ counter (ltb-true _ _ h))
     (λ _. on-pick P _ _ _ (λ _. end-lies (ltb-true _ _ h))
     (λ _. on-pick P _ _ _ (λ _. setting-lies file at)

@@ -14,10 +14,10 @@ use Rattle.events.specs.Walk.{ends, leads}
 use Rattle.events.specs.declared.Check.{Check}
 use Rattle.events.specs.declared.Check.the-variants.{Passed, Failed}
 use Rattle.updates.proofs.Reading.{Where, lies-as}
-use Rattle.updates.specs.Bodies.{adjusting, applied, Place, Stop, broken, done, judge, turn, bytesLeft}
+use Rattle.updates.specs.Bodies.{adjusting, applied, BodyState, Stop, broken, done, judge, turn, bytesLeft}
 use Rattle.updates.specs.Items.{read}
 use Rattle.updates.specs.declared.Item.{Item}
-use Rattle.updates.specs.declared.Item.the-variants.{Wrong, End, Move, Adjust}
+use Rattle.updates.specs.declared.Item.the-variants.{Faulty, End, Move, Adjust}
 use Rattle.updates.specs.declared.Slot.{Slot}
 
 -- ---- what is adjusted
@@ -53,14 +53,14 @@ adjusting-word amount a map =
 
 -- it leads on
 abbrev pub Onward : Item → Type 0
-Onward (Wrong fault) = ⊥
+Onward (Faulty fault) = ⊥
 Onward (End next) = ⊥
 Onward (Move counter next) = Unit {0}
 Onward (Adjust counter next) = Unit {0}
 
 -- the words that it adjusts
 abbrev pub adjusts : Item → ℕ
-adjusts (Wrong fault) = 0
+adjusts (Faulty fault) = 0
 adjusts (End next) = 0
 adjusts (Move counter next) = 0
 adjusts (Adjust counter next) = 1
@@ -68,7 +68,7 @@ adjusts (Adjust counter next) = 1
 pub applied-counts : (amount : ℕ) (item : Item) (map : List ℕ) → applied amount item map .answer ≡ Passed
     → adjustedIn (applied amount item map .events) ≡ adjusts item
 unfolding adjustedIn
-applied-counts amount (Wrong fault) map e = refl
+applied-counts amount (Faulty fault) map e = refl
 applied-counts amount (End next) map e = refl
 applied-counts amount (Move counter next) map e = refl
 applied-counts amount (Adjust counter next) map e =
@@ -76,7 +76,7 @@ applied-counts amount (Adjust counter next) map e =
     h
 
 applied-each : (len at amount : ℕ) (item : Item) (map : List ℕ) → Where len at item → Each (Adjusts amount) (applied amount item map .events)
-applied-each len at amount (Wrong fault) map w = tt
+applied-each len at amount (Faulty fault) map w = tt
 applied-each len at amount (End next) map w = tt
 applied-each len at amount (Move counter next) map w = tt
 applied-each len at amount (Adjust counter next) map w = adjusting-word amount counter map .each (w .2)
@@ -84,32 +84,32 @@ applied-each len at amount (Adjust counter next) map w = adjusting-word amount c
 -- ---- where a turn leads
 
 -- a turn that leads on passed, and moved on inside the file
-pub record Leads (len : ℕ) (s z : Place) (check : Check) (item : Item) : Type 0 where
+pub record Leads (len : ℕ) (s z : BodyState) (check : Check) (item : Item) : Type 0 where
   pub passed : check ≡ Passed
   pub further : s .at < z .at
   pub inside : z .at ≤ len
   pub counts : s .at + adjusts item ≤ z .at
 
-judge-leads : (len : ℕ) (s z : Place) (check : Check) (item : Item) → Where len (s .at) item → judge check item ≡ leads z → Leads len s z check item
+judge-leads : (len : ℕ) (s z : BodyState) (check : Check) (item : Item) → Where len (s .at) item → judge check item ≡ leads z → Leads len s z check item
 judge-leads len s z (Failed fault) item w e = absurd (ends-leads e)
-judge-leads len s z Passed (Wrong fault) w e = absurd (ends-leads e)
+judge-leads len s z Passed (Faulty fault) w e = absurd (ends-leads e)
 judge-leads len s z Passed (End next) w e = absurd (ends-leads e)
 judge-leads len s z Passed (Move counter next) w e =
-    let f : next ≡ z .at = ap (λ (t : Place). t .at) (leads-same e) in
+    let f : next ≡ z .at = ap (λ (t : BodyState). t .at) (leads-same e) in
     record { passed = refl; further = omega arith; inside = omega arith; counts = omega arith }
 judge-leads len s z Passed (Adjust counter next) w e =
-    let f : next ≡ z .at = ap (λ (t : Place). t .at) (leads-same e) in
+    let f : next ≡ z .at = ap (λ (t : BodyState). t .at) (leads-same e) in
     record { passed = refl; further = omega arith; inside = omega arith; counts = omega arith }
 
 module _ (file : List ℕ) (table : List Slot) (amount : ℕ) where
-  turn-leads : (s z : Place) (map : List ℕ) → turn file table amount s map .answer ≡ leads z
+  turn-leads : (s z : BodyState) (map : List ℕ) → turn file table amount s map .answer ≡ leads z
       → Leads (length file) s z (applied amount (read file table (s .at) (s .counter)) map .answer) (read file table (s .at) (s .counter))
   unfolding turn
   turn-leads s z map e =
       judge-leads (length file) s z _ (read file table (s .at) (s .counter)) (lies-as file table (s .at) (s .counter) _ refl) e
 
   -- each turn that leads on brings the bytes left down
-  pub turn-falls : (s z : Place) (map : List ℕ) → turn file table amount s map .answer ≡ leads z → bytesLeft file z < bytesLeft file s
+  pub turn-falls : (s z : BodyState) (map : List ℕ) → turn file table amount s map .answer ≡ leads z → bytesLeft file (z .at) < bytesLeft file (s .at)
   turn-falls s z map e =
       let h = turn-leads s z map e in
       let i : s .at < z .at = h .further in
@@ -117,7 +117,7 @@ module _ (file : List ℕ) (table : List Slot) (amount : ℕ) where
       omega arith
 
   -- it stays in the file, and moves on by as many bytes at least as it adjusts words
-  pub turn-further : (s z : Place) (map : List ℕ) → turn file table amount s map .answer ≡ leads z
+  pub turn-further : (s z : BodyState) (map : List ℕ) → turn file table amount s map .answer ≡ leads z
       → (s .at < z .at) × (z .at ≤ length file) × (s .at + adjustedIn (turn file table amount s map .events) ≤ z .at)
   unfolding turn
   turn-further s z map e =
@@ -126,7 +126,7 @@ module _ (file : List ℕ) (table : List Slot) (amount : ℕ) where
       (h .further, h .inside, rw k (h .counts))
 
   -- every event of a turn adjusts a word by the amount
-  pub turn-each : (s : Place) (map : List ℕ) → Each (Adjusts amount) (turn file table amount s map .events)
+  pub turn-each : (s : BodyState) (map : List ℕ) → Each (Adjusts amount) (turn file table amount s map .events)
   unfolding turn
   turn-each s map =
       applied-each (length file) (s .at) amount (read file table (s .at) (s .counter)) map
@@ -147,7 +147,7 @@ done-same {n} {k} e = let z : suc n ≡ suc k = ap nextOf e in omega arith
 judge-done : (len at next : ℕ) (check : Check) (item : Item) → Where len at item → judge check item ≡ ends (done next)
     → (at < next) × (next ≤ len) × (check ≡ Passed) × (adjusts item ≡ 0)
 judge-done len at next (Failed fault) item w e = absurd (broken-done (ends-same e))
-judge-done len at next Passed (Wrong fault) w e = absurd (broken-done (ends-same e))
+judge-done len at next Passed (Faulty fault) w e = absurd (broken-done (ends-same e))
 judge-done len at next Passed (End end) w e =
     let f : end ≡ next = done-same (ends-same e) in
     (omega arith, omega arith, refl, refl)
@@ -155,7 +155,7 @@ judge-done len at next Passed (Move counter end) w e = absurd (ends-leads (sym e
 judge-done len at next Passed (Adjust counter end) w e = absurd (ends-leads (sym e))
 
 -- a turn that ends a body moved on inside the file, and adjusted nothing
-pub turn-done : (file : List ℕ) (table : List Slot) (amount : ℕ) (s : Place) (map : List ℕ) (next : ℕ)
+pub turn-done : (file : List ℕ) (table : List Slot) (amount : ℕ) (s : BodyState) (map : List ℕ) (next : ℕ)
     → turn file table amount s map .answer ≡ ends (done next)
     → (s .at < next) × (next ≤ length file) × (adjustedIn (turn file table amount s map .events) ≡ 0)
 unfolding turn

@@ -19,7 +19,7 @@ use Rattle.updates.specs.declared.Counter.the-variants.{Unset, Set}
 use Rattle.updates.specs.declared.Ended.{Ended}
 use Rattle.updates.specs.declared.Ended.the-variants.{Broken, Done}
 use Rattle.updates.specs.declared.Item.{Item}
-use Rattle.updates.specs.declared.Item.the-variants.{Wrong, End, Move, Adjust}
+use Rattle.updates.specs.declared.Item.the-variants.{Faulty, End, Move, Adjust}
 use Rattle.updates.specs.declared.Slot.{Slot}
 
 -- "marked 1 or 3"
@@ -39,13 +39,13 @@ adjusting amount a map =
 
 -- an item carried out: each listed word grows by one amount
 abbrev pub applied : ℕ → Item → List ℕ → Ran Check
-applied amount (Wrong fault) map = failed fault
+applied amount (Faulty fault) map = failed fault
 applied amount (End next) map = passed []
 applied amount (Move counter next) map = passed []
 applied amount (Adjust counter next) map = adjusting amount counter map
 
 -- where a body stands: the next item's offset, and the counter
-pub record Place : Type 0 where
+pub record BodyState : Type 0 where
   pub at : ℕ
   pub counter : Counter
 
@@ -54,39 +54,41 @@ pub data Stop : Type 0 where
   broken : Fault → Stop
   done : ℕ → Stop
 
-abbrev pub judge : Check → Item → Turn Place Stop
+-- where an item leads: on, after its FC to the end, or there at its fault
+abbrev pub judge : Check → Item → Turn BodyState Stop
 judge (Failed fault) item = ends (broken fault)
-judge Passed (Wrong fault) = ends (broken fault)
+judge Passed (Faulty fault) = ends (broken fault)
 judge Passed (End next) = ends (done next)
 judge Passed (Move counter next) = leads (record { at = next; counter = Set counter })
 judge Passed (Adjust counter next) = leads (record { at = next; counter = Set counter })
 
 -- one item: read, carried out, and where that leads
-unfoldable pub turn : List ℕ → List Slot → ℕ → Place → List ℕ → Ran (Turn Place Stop)
+unfoldable pub turn : List ℕ → List Slot → ℕ → BodyState → List ℕ → Ran (Turn BodyState Stop)
 turn file table amount s map =
     let item = read file table (s .at) (s .counter) in
     record { answer = judge (applied amount item map .answer) item; events = applied amount item map .events }
 
--- (there is no item past the file's end)
-abbrev pub bytesLeft : List ℕ → Place → ℕ
-bytesLeft file s = length file - s .at
+-- the bytes of a file from an offset on, by which the turns of a walk are counted down (there is no item and no block past the file's end)
+abbrev pub bytesLeft : List ℕ → ℕ → ℕ
+bytesLeft file at = length file - at
 
--- the items from a place on
-unfoldable pub items : List ℕ → List Slot → ℕ → Place → List ℕ → Ran Stop
-items file table amount s map = from (turn file table amount) (λ z. broken CutShort) (bytesLeft file) s map
+-- the items from some state on
+unfoldable pub items : List ℕ → List Slot → ℕ → BodyState → List ℕ → Ran Stop
+items file table amount s map = from (turn file table amount) (λ z. broken CutShort) (λ z. bytesLeft file (z .at)) s map
 
 -- "the counter is unset at each body's start"
-abbrev pub begun : ℕ → Place
+abbrev pub begun : ℕ → BodyState
 begun at = record { at = at; counter = Unset }
 
 -- a body from its first item
 abbrev pub body : List ℕ → List Slot → ℕ → ℕ → List ℕ → Ran Stop
 body file table amount at map = items file table amount (begun at) map
 
--- with the number of fields adjusted
+-- how it ends in the program's terms, with the number of fields adjusted
 abbrev pub counted : Stop → List Event → Ended
 counted (broken fault) es = Broken fault
 counted (done next) es = Done next (adjustedIn es)
 
+-- and all that it comes to
 abbrev pub ended : Ran Stop → Ran Ended
 ended o = record { answer = counted (o .answer) (o .events); events = o .events }

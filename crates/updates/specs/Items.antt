@@ -12,7 +12,7 @@ use Rattle.words.specs.Numbers.{value}
 use Rattle.updates.specs.declared.Counter.{Counter}
 use Rattle.updates.specs.declared.Counter.the-variants.{Unset, Set}
 use Rattle.updates.specs.declared.Item.{Item}
-use Rattle.updates.specs.declared.Item.the-variants.{Wrong, End, Move, Adjust}
+use Rattle.updates.specs.declared.Item.the-variants.{Faulty, End, Move, Adjust}
 use Rattle.updates.specs.declared.Slot.{Slot}
 
 -- the relocatable blocks so far stand in a table of eight slots, by their numbers; an empty slot:
@@ -22,40 +22,45 @@ emptySlot = record { taken = false; address = 0; offset = 0; size = 0 }
 abbrev pub slotAt : List Slot → ℕ → Slot
 slotAt table number = getD table number emptySlot
 
+-- "number ≤ 7"
+abbrev pub lastNumber : ℕ
+lastNumber = 7
+
 -- 00 to FB: "counter set where one is added (11); counter at most .. 65,534 to adjust (11)"
 abbrev pub adding : ℕ → ℕ → Counter → Item
-adding amount next Unset = Wrong CounterUnusable
-adding amount next (Set counter) = need Wrong (leb (counter + amount) 65534) CounterUnusable (Adjust (counter + amount) next)
+adding amount next Unset = Faulty CounterUnusable
+adding amount next (Set counter) = need Faulty (leb (counter + amount) 65534) CounterUnusable (Adjust (counter + amount) next)
 
 -- FD: "present (5)", then "at most .. 65,534 to adjust (11)"
 unfoldable pub setting : List ℕ → ℕ → Item
 setting file at =
-    need Wrong (leb (at + 3) (length file)) CutShort
-    (need Wrong (leb (value 2 file (at + 1)) 65534) CounterUnusable
+    need Faulty (leb (at + 3) (length file)) CutShort
+    (need Faulty (leb (value 2 file (at + 1)) 65534) CounterUnusable
     (Adjust (value 2 file (at + 1)) (at + 3)))
 
 -- FE: "present (5); for FE, number (6), block there (8)"
 unfoldable pub aiming : List ℕ → List Slot → ℕ → Item
 aiming file table at =
     let slot = slotAt table (getD file (at + 1) 0) in
-    need Wrong (leb (at + 2) (length file)) CutShort
-    (need Wrong (leb (getD file (at + 1) 0) 7) NotKnown
-    (need Wrong (slot .taken) BlockMissing
+    need Faulty (leb (at + 2) (length file)) CutShort
+    (need Faulty (leb (getD file (at + 1) 0) lastNumber) NotKnown
+    (need Faulty (slot .taken) BlockMissing
     (Move (slot .address) (at + 2))))
 
--- "FF adds 250": "counter set where one is added (11); counter at most 65,535"
+-- "FF adds 250"
 abbrev pub skipped : ℕ
 skipped = 250
 
+-- FF: "counter set where one is added (11); counter at most 65,535"
 abbrev pub skipping : ℕ → Counter → Item
-skipping next Unset = Wrong CounterUnusable
-skipping next (Set counter) = need Wrong (leb (counter + skipped) 65535) CounterUnusable (Move (counter + skipped) next)
+skipping next Unset = Faulty CounterUnusable
+skipping next (Set counter) = need Faulty (leb (counter + skipped) 65535) CounterUnusable (Move (counter + skipped) next)
 
 -- the item at an offset, with the counter as the items before it left it: "Each item: present (5)", and then as its byte says
 unfoldable pub read : List ℕ → List Slot → ℕ → Counter → Item
 read file table at counter =
     let byte = getD file at 0 in
-    need Wrong (ltb at (length file)) CutShort
+    need Faulty (ltb at (length file)) CutShort
     (pick (leb byte 0xFB) (adding byte (at + 1) counter)
     (pick (eqb byte 0xFC) (End (at + 1))
     (pick (eqb byte 0xFD) (setting file at)

@@ -7,11 +7,14 @@ ghost use lib.ListN.{length};
 ghost use Rattle.events.specs.Events.{Did};
 ghost use Rattle.updates.specs.Items.{adding, setting, aiming, skipping, read as readOf};
 ghost use Rattle.updates.specs.Bodies.{isLoaded, wordLoaded, adjusting, applied, body as bodyOf, ended};
-ghost use Rattle.updates.specs.Cursor.{begun, advanced};
+ghost use Rattle.updates.specs.Cursor.{cursorAt, advanced};
 ghost use Rattle.updates.specs.declared.Item.the-variants.{Adjust};
 
 // The mark of an adjusted byte.
 const ADJUSTED: u8 = 3;
+
+// The highest block number.
+pub const LAST_NUMBER: usize = 7;
 
 // What FF adds to the counter.
 const SKIP: usize = 250;
@@ -32,7 +35,7 @@ pub enum Counter {
 
 // What an item says: the body's end, a counter that only moves, or one where a word is adjusted; and where the next item begins.
 pub enum Item {
-    Wrong(Fault),
+    Faulty(Fault),
     End(usize),
     Move { counter: u16, next: usize },
     Adjust { counter: u16, next: usize },
@@ -51,7 +54,7 @@ pub struct Cursor {
     pub adjusted: usize,
 }
 
-// A body from its first item, which begins at `at`: each word that it lists grows by the amount.
+// Carries out a body from its first item, which begins at `at`: each word that it lists grows by the amount.
 pub fn body(
     file: &[u8],
     table: [Slot; 8],
@@ -111,7 +114,7 @@ fn read(file: &[u8], table: [Slot; 8], at: usize, counter: Counter) -> Item
     ensures { λ r. ⌜ r ≡ readOf (now (file .entry)) table at counter ⌝ }
 {
     if file.len() <= at {
-        return Item::Wrong(Fault::CutShort);
+        return Item::Faulty(Fault::CutShort);
     }
     let byte = file[at];
     match byte {
@@ -128,11 +131,11 @@ fn add(amount: u8, next: usize, counter: Counter) -> Item
     ensures { λ r. ⌜ r ≡ adding amount next counter ⌝ }
 {
     match counter {
-        Counter::Unset => Item::Wrong(Fault::CounterUnusable),
+        Counter::Unset => Item::Faulty(Fault::CounterUnusable),
         Counter::Set(from) => {
             let to = from as usize + amount as usize;
             if 65534 < to {
-                return Item::Wrong(Fault::CounterUnusable);
+                return Item::Faulty(Fault::CounterUnusable);
             }
             Item::Adjust {
                 counter: to as u16,
@@ -149,11 +152,11 @@ fn set(file: &[u8], at: usize) -> Item
 {
     let next = at + 3;
     if file.len() < next {
-        return Item::Wrong(Fault::CutShort);
+        return Item::Faulty(Fault::CutShort);
     }
     let counter = words::word_at(file, at + 1);
     if 65534 < counter {
-        return Item::Wrong(Fault::CounterUnusable);
+        return Item::Faulty(Fault::CounterUnusable);
     }
     Item::Adjust { counter, next }
 }
@@ -165,15 +168,15 @@ fn aim(file: &[u8], table: [Slot; 8], at: usize) -> Item
 {
     let next = at + 2;
     if file.len() < next {
-        return Item::Wrong(Fault::CutShort);
+        return Item::Faulty(Fault::CutShort);
     }
     let number = words::wide(file[at + 1]);
-    if 7 < number {
-        return Item::Wrong(Fault::NotKnown);
+    if LAST_NUMBER < number {
+        return Item::Faulty(Fault::NotKnown);
     }
     let slot = table[number];
     if !slot.taken {
-        return Item::Wrong(Fault::BlockMissing);
+        return Item::Faulty(Fault::BlockMissing);
     }
     Item::Move {
         counter: slot.address,
@@ -186,11 +189,11 @@ fn skip(next: usize, counter: Counter) -> Item
     ensures { λ r. ⌜ r ≡ skipping next counter ⌝ }
 {
     match counter {
-        Counter::Unset => Item::Wrong(Fault::CounterUnusable),
+        Counter::Unset => Item::Faulty(Fault::CounterUnusable),
         Counter::Set(from) => {
             let to = from as usize + SKIP;
             if 65535 < to {
-                return Item::Wrong(Fault::CounterUnusable);
+                return Item::Faulty(Fault::CounterUnusable);
             }
             Item::Move {
                 counter: to as u16,
@@ -200,20 +203,20 @@ fn skip(next: usize, counter: Counter) -> Item
     }
 }
 
-// The item carried out.
+// Carries out an item.
 fn apply(item: Item, amount: u16, write: bool, memory: &mut [u8], map: &mut [u8]) -> Check
     requires { ⌜ ((counter next : ℕ) → item ≡ Adjust counter next → counter ≤ 65534) × (length (now memory) ≡ 65536) × (length (now map) ≡ 65536) ⌝ }
     ensures { λ r. ⌜ Did Check (applied amount item (now (map .entry))) write (now (memory .entry)) (now (map .entry)) r (now (memory .exit)) (now (map .exit)) ⌝ }
 {
     match item {
-        Item::Wrong(fault) => Check::Failed(fault),
+        Item::Faulty(fault) => Check::Failed(fault),
         Item::End(next) => Check::Passed,
         Item::Move { counter, next } => Check::Passed,
         Item::Adjust { counter, next } => adjust(counter as usize, amount, write, memory, map),
     }
 }
 
-// The word at `at`, loaded and not adjusted since.
+// Adjusts the word at `at`, if it is loaded (12) and not adjusted since (13).
 fn adjust(at: usize, amount: u16, write: bool, memory: &mut [u8], map: &mut [u8]) -> Check
     requires { ⌜ (at ≤ 65534) × (length (now memory) ≡ 65536) × (length (now map) ≡ 65536) ⌝ }
     ensures { λ r. ⌜ Did Check (adjusting amount at (now (map .entry))) write (now (memory .entry)) (now (map .entry)) r (now (memory .exit)) (now (map .exit)) ⌝ }
@@ -233,7 +236,7 @@ fn adjust(at: usize, amount: u16, write: bool, memory: &mut [u8], map: &mut [u8]
 
 // The cursor of a body that begins at `at`.
 fn begin(at: usize) -> Cursor
-    ensures { λ r. ⌜ r ≡ begun at ⌝ }
+    ensures { λ r. ⌜ r ≡ cursorAt at ⌝ }
 {
     Cursor {
         at,
@@ -248,7 +251,7 @@ fn advance(cursor: Cursor, item: Item) -> Cursor
     ensures { λ r. ⌜ r ≡ advanced cursor item ⌝ }
 {
     match item {
-        Item::Wrong(fault) => cursor,
+        Item::Faulty(fault) => cursor,
         Item::End(next) => cursor,
         Item::Move { counter, next } => Cursor {
             at: next,

@@ -2,7 +2,7 @@
 -- Assumes nothing.
 use mathlib.Core.Path.{refl}
 use borrow.Author.Tests.{le-leb}
-use Rattle.sdx.proofs.Parts.{range-not}
+use Rattle.sdx.proofs.Calling.{range-not}
 use Rattle.sdx.proofs.in_range.Statement.{statement}
 use Rattle.sdx.proofs.in_range.Tie as tie
 

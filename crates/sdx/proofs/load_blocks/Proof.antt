@@ -4,7 +4,7 @@
 use mathlib.Core.Path.{_∙_}
 use native.Mathlib.Omega.{arith}
 use borrow.Author.Needs.{needs}
-use Rattle.sdx.proofs.Calling.{carried-refused, carried-accepted}
+use Rattle.sdx.proofs.Calling.{blocks-refused, blocks-accepted}
 use Rattle.sdx.proofs.load_blocks.Statement.{statement}
 use Rattle.sdx.proofs.load_blocks.Tie as tie
 
@@ -61,7 +61,10 @@ same-length-2 : tie.Need-same-length-2
 same-length-2 c = search needs
 
 returns : tie.Need-returns
-returns c = carried-refused (c .before .before .before .before .before .before .before .check .ensures) (c .before .checked .given .1)
+returns c =
+    let c7 = c .before .before .before .before .before .before .before in
+    let s = c7 .before .before .before .before .before .before .before .before .before .before in
+    blocks-refused _ _ (s .pre .7) (c7 .check .ensures) (c .before .checked .given .1)
 
 same-length-3 : tie.Need-same-length-3
 same-length-3 c = search needs
@@ -82,7 +85,7 @@ returns-2 c =
     let c23 = c17 .before .before .before .before .before .before in
     let c29 = c23 .before .before .before .before .before .before in
     let s = c29 .before .before .before .before .before .before .before .before .before .before in
-    carried-accepted (c29 .check .ensures) (c23 .checked2 .given .1) (s .pre .4) (s .pre .5) (c17 .walk .ensures) (c4 .finish .ensures)
+    blocks-accepted _ _ (s .pre .7) (c29 .check .ensures) (c23 .checked2 .given .1) (s .pre .4) (s .pre .5) (c17 .walk .ensures) (c4 .finish .ensures)
 
 pub load-blocks-spec : {M : Type 1} → statement M
 load-blocks-spec =

@@ -1,0 +1,130 @@
+-- One turn of a walk: what it comes to where it leads on or finishes, and that what every such turn keeps holds of every file that finishes.
+-- Assumes nothing.
+use mathlib.Core.Bool.{Bool, true, false}
+use mathlib.Core.List.{List, [], _++_, append-nil}
+use mathlib.Core.Path.{_≡_, refl, sym, ap, _∙_}
+use Prim.Native.Nat.{ℕ, _/_, _≤_, _<_}
+use native.Mathlib.Omega.{arith}
+use borrow.Author.Tests.{eqb-true, eqb-false, eq-eqb, ne-eqb}
+use lib.Dec.{eqb}
+use lib.ListN.{length}
+use Rattle.answer.specs.Checks.{pick}
+use Rattle.answer.specs.declared.Fault.{Fault}
+use Rattle.answer.specs.declared.Fault.the-variants.{CutShort}
+use Rattle.blocks.proofs.Lying.{read-lies}
+use Rattle.blocks.specs.Bounds.{Fits}
+use Rattle.events.proofs.Walks.{ends-leads, leads-same, ends-same, walk-keeps}
+use Rattle.events.specs.Events.{Event, marks, blank, Ran}
+use Rattle.events.specs.Walk.{Turn, ends, leads}
+use Rattle.updates.specs.Bodies.{Stop, broken, done, bytesLeft}
+use Rattle.deeds.proofs.Ending.{Ends, carried-ends, advanced-at}
+use Rattle.passes.specs.Parts.{progressOf}
+use Rattle.passes.specs.Walk.{Given, Progress, Verdict, finished, refused, judge, blockAt, carriedAt, turn, blocksFrom, begun, blocksOf, stepped}
+
+-- a refusal is no end of a file
+abbrev isFinished : Verdict → ℕ
+isFinished (finished z) = 1
+isFinished (refused fault z) = 0
+
+pub refused-finished : {fault : Fault} {y z : Progress} → refused fault y ≡ finished z → ⊥
+refused-finished e = let n : _≡_ {A = ℕ} 0 1 = ap isFinished e in omega arith
+
+-- ---- where a turn leads
+
+-- a turn that leads on is a block that is carried out
+pub record Led (file : List ℕ) (g : Given) (y z : Progress) (map : List ℕ) : Type 0 where
+  pub next : ℕ
+  pub more : y .cursor .at ≡ length file → ⊥
+  pub done-at : carriedAt file g y map .answer ≡ done next
+  pub leads-to : stepped file y (blockAt file g y) (carriedAt file g y map .events) next ≡ z
+  pub events : turn file g y map .events ≡ carriedAt file g y map .events
+
+module _ (file : List ℕ) (g : Given) (y : Progress) (map : List ℕ) where
+  pub turn-end : y .cursor .at ≡ length file → turn file g y map ≡ record { answer = ends (finished y); events = [] }
+  unfolding turn pick
+  turn-end e = rw (eq-eqb _ _ e) refl
+
+  -- before the file's end the next block decides
+  pub turn-block : (y .cursor .at ≡ length file → ⊥)
+      → turn file g y map
+      ≡ record {
+        answer = judge file y (blockAt file g y) (carriedAt file g y map .events) (carriedAt file g y map .answer);
+        events = carriedAt file g y map .events;
+      }
+  unfolding turn pick
+  turn-block h = rw (ne-eqb _ _ h) refl
+
+  pub turn-led : (z : Progress) → turn file g y map .answer ≡ leads z → Led file g y z map
+  turn-led z e = by (eqb (y .cursor .at) (length file)) refl
+    where
+      stops : (s : Stop) → carriedAt file g y map .answer ≡ s → (y .cursor .at ≡ length file → ⊥)
+          → judge file y (blockAt file g y) (carriedAt file g y map .events) s ≡ leads z
+          → Led file g y z map
+      stops (broken fault) o h f = absurd (ends-leads f)
+      stops (done next) o h f =
+          record {
+            next = next;
+            more = h;
+            done-at = o;
+            leads-to = leads-same f;
+            events = ap (λ (r : Ran (Turn Progress Verdict)). r .events) (turn-block h);
+          }
+
+      by : (b : Bool) → eqb (y .cursor .at) (length file) ≡ b → Led file g y z map
+      by true h =
+          absurd (ends-leads (sym (ap (λ (r : Ran (Turn Progress Verdict)). r .answer) (turn-end (eqb-true _ _ h))) ∙ e))
+      by false h =
+          let more = eqb-false _ _ h in
+          stops (carriedAt file g y map .answer) refl more
+          (sym (ap (λ (r : Ran (Turn Progress Verdict)). r .answer) (turn-block more)) ∙ e)
+
+  -- a turn finishes a file at its end alone, and does nothing there
+  pub turn-finished : (z : Progress) → turn file g y map .answer ≡ ends (finished z) → (y ≡ z) × (turn file g y map .events ≡ [])
+  turn-finished z e = by (eqb (y .cursor .at) (length file)) refl
+    where
+      stops : (es : List Event) (s : Stop) → judge file y (blockAt file g y) es s ≡ ends (finished z) → ⊥
+      stops es (broken fault) f = refused-finished (ends-same f)
+      stops es (done next) f = ends-leads (sym f)
+
+      by : (t : Bool) → eqb (y .cursor .at) (length file) ≡ t → (y ≡ z) × (turn file g y map .events ≡ [])
+      by true h =
+          let k = turn-end (eqb-true _ _ h) in (
+            ap progressOf (ends-same (sym (ap (λ (r : Ran (Turn Progress Verdict)). r .answer) k) ∙ e)),
+            ap (λ (r : Ran (Turn Progress Verdict)). r .events) k,
+          )
+      by false h =
+          absurd
+          (stops _ (carriedAt file g y map .answer)
+          (sym (ap (λ (r : Ran (Turn Progress Verdict)). r .answer) (turn-block (eqb-false _ _ h))) ∙ e))
+
+-- what a turn that leads on passes by, in a file whose high is an address
+module _ (file : List ℕ) (g : Given) (top : g .high ≤ 65535) where
+  pub block-fits : (y : Progress) → Fits (length file) (y .cursor) (length (g .names) / 8) (length (y .names) / 8) (blockAt file g y)
+  block-fits y = read-lies file (g .high) (g .names) (y .names) (y .cursor) top
+
+  pub led-ends : (y z : Progress) (map : List ℕ) → turn file g y map .answer ≡ leads z
+      → Ends (length file) (y .cursor .at) (z .cursor .at) (turn file g y map .events)
+  unfolding carriedAt
+  led-ends y z map e =
+      let l = turn-led file g y map z e in
+      let f = carried-ends file (g .addresses) (y .addresses) (y .cursor) (blockAt file g y) map _ _ (block-fits y) (l .next) (l .done-at) in
+      let a = ap (λ (p : Progress). p .cursor .at) (sym (l .leads-to))
+      ∙ advanced-at file (g .addresses) (y .addresses) (y .cursor) (blockAt file g y) map (l .next) (l .done-at) in
+      rw (a, l .events) f
+
+  pub turn-falls : (y z : Progress) (map : List ℕ) → turn file g y map .answer ≡ leads z → bytesLeft file (z .cursor .at) < bytesLeft file (y .cursor .at)
+  turn-falls y z map e = let l = led-ends y z map e in omega (arith, l .further, l .inside)
+
+  -- ---- what every turn keeps
+
+  -- it holds of every file that finishes
+  module _ (P : Progress → List Event → Type 0) (first : P (begun g) [])
+      (keeps : (y z : Progress) (es : List Event) → P y es → turn file g y (marks es blank) .answer ≡ leads z
+      → P z (es ++ turn file g y (marks es blank) .events)) where
+    pub blocks-hold : (z : Progress) → blocksOf file g .answer ≡ finished z → P z (blocksOf file g .events)
+    unfolding blocksFrom
+    blocks-hold z e =
+        let x = walk-keeps (turn file g) (λ y. refused CutShort y) (λ y. bytesLeft file (y .cursor .at)) turn-falls P blank keeps (begun g) first in
+        let t = turn-finished file g (x .state) (marks (x .before) blank) z (x .answer ∙ ap ends e) in
+        let es : blocksOf file g .events ≡ x .before = x .events ∙ ap (λ (fs : List Event). x .before ++ fs) (t .1) ∙ append-nil (x .before) in
+        rw (es, ← t .0) (x .held)

@@ -1,0 +1,167 @@
+// A pass over all blocks of an SDX file. The first only checks, with the map as its notebook and rooms of its own for new names; the second
+// also writes memory and the lent rooms. So a refusal has touched none of them.
+use answer::Fault;
+use answer::Outcome;
+use answer::Start;
+use blocks::Cursor;
+use updates::Ended;
+ghost use mathlib.Core.Path.{_≡_};
+ghost use Prim.Native.Nat.{_*_, _≤_};
+ghost use lib.ListN.{length, replicate};
+ghost use Rattle.events.specs.Events.{blank};
+ghost use Rattle.passes.specs.Walk.{given, blocksOf};
+ghost use Rattle.passes.specs.Rooms.{rooms, startIn};
+ghost use Rattle.passes.specs.Parts.{totals, Went, Checked, Reported};
+
+// The rooms for new names: their bytes, and their addresses.
+pub const NAMES: usize = 256;
+
+pub const ADDRESSES: usize = 32;
+
+// Where a program's start stands.
+const START: usize = 0x02E0;
+
+// What a walk to the file's end comes to: low, the number of new names, the bytes placed and the fields adjusted.
+pub struct Totals {
+    pub low: u16,
+    pub named: usize,
+    pub placed: usize,
+    pub adjusted: usize,
+}
+
+// How a walk ends: with the fault of the block at an offset, or at the file's end.
+pub enum Walked {
+    Stopped(Fault, usize),
+    Finished(Totals),
+}
+
+// Goes through all blocks and only checks them, with rooms of its own for new names. The map is clear again after it.
+pub fn check(
+    file: &[u8],
+    low: u16,
+    high: u16,
+    known_names: &[u8],
+    known_addresses: &[u16],
+    memory: &mut [u8],
+    map: &mut [u8],
+) -> Walked
+    requires { ⌜ (length (now file) ≤ 65536) × (length (now «known_names») ≡ 8 * length (now «known_addresses»)) × (length (now memory) ≡ 65536) × (length (now map) ≡ 65536) × (now map ≡ blank) ⌝ }
+    ensures { λ r. ⌜ Checked (blocksOf (now (file .entry)) (given (now («known_names» .entry)) (now («known_addresses» .entry)) low high)) (now (memory .entry)) r (now (memory .exit)) (now (map .exit)) ⌝ }
+{
+    let mut names = [0u8; NAMES];
+    let mut addresses = [0u16; ADDRESSES];
+    let walked = walk(
+        file,
+        low,
+        high,
+        known_names,
+        known_addresses,
+        false,
+        memory,
+        map,
+        &mut names,
+        &mut addresses,
+    );
+    words::fill(map, 0);
+    walked
+}
+
+// Goes through all blocks of a file, over a clear map. `write` decides whether memory is written too; new names go to the lent rooms, behind
+// those before them.
+pub fn walk(
+    file: &[u8],
+    low: u16,
+    high: u16,
+    lent_names: &[u8],
+    lent_addresses: &[u16],
+    write: bool,
+    memory: &mut [u8],
+    map: &mut [u8],
+    new_names: &mut [u8],
+    new_addresses: &mut [u16],
+) -> Walked
+    requires { ⌜ (length (now file) ≤ 65536) × (length (now «lent_names») ≡ 8 * length (now «lent_addresses»)) × (length (now memory) ≡ 65536) × (length (now map) ≡ 65536) × (length (now «new_names») ≡ 256) × (length (now «new_addresses») ≡ 32) × (now map ≡ blank) ⌝ }
+    ensures { λ r. ⌜ Went (blocksOf (now (file .entry)) (given (now («lent_names» .entry)) (now («lent_addresses» .entry)) low high)) write (rooms (now (memory .entry)) (now (map .entry)) (now («new_names» .entry)) (now («new_addresses» .entry))) r (rooms (now (memory .exit)) (now (map .exit)) (now («new_names» .exit)) (now («new_addresses» .exit))) ⌝ }
+{
+    let mut cursor = deeds::first(low);
+    let mut bytes = 0;
+    let mut fields = 0;
+    loop {
+        if cursor.at == file.len() {
+            return Walked::Finished(total(cursor, bytes, fields));
+        }
+        let named = cursor.named;
+        let size = names::NAME * named;
+        let found = blocks::read(file, high, lent_names, &new_names[0..size], cursor);
+        let own = &new_addresses[0..named];
+        let ended = deeds::carry_out(file, found, cursor, lent_addresses, own, write, memory, map);
+        match ended {
+            Ended::Broken(fault) => return Walked::Stopped(fault, cursor.at),
+            Ended::Done { next, adjusted } => {
+                deeds::note(file, found, named, new_names, new_addresses);
+                bytes += deeds::placed_by(found);
+                fields += adjusted;
+                cursor = deeds::advance(cursor, found, next);
+            }
+        }
+    }
+}
+
+// Reports the acceptance of a file whose blocks are carried out, and clears the rest of the rooms for new names.
+pub fn finish(
+    totals: Totals,
+    memory: &[u8],
+    map: &[u8],
+    new_names: &mut [u8],
+    new_addresses: &mut [u16],
+) -> Outcome
+    requires { ⌜ (totals .named ≤ 32) × (totals .placed ≤ 65536) × (totals .adjusted ≤ 65536) × (length (now memory) ≡ 65536) × (length (now map) ≡ 65536) × (length (now «new_names») ≡ 256) × (length (now «new_addresses») ≡ 32) ⌝ }
+    ensures { λ r. ⌜ Reported totals (rooms (now (memory .entry)) (now (map .entry)) (now («new_names» .entry)) (now («new_addresses» .entry))) r (now («new_names» .exit)) (now («new_addresses» .exit)) ⌝ }
+{
+    let named = totals.named;
+    let size = names::NAME * named;
+    words::fill(&mut new_names[size..NAMES], 0);
+    clear(&mut new_addresses[named..ADDRESSES]);
+    Outcome::Accepted {
+        start: start(memory, map),
+        placed: totals.placed as u32,
+        adjusted: totals.adjusted as u32,
+        new_names: named as u32,
+        low: totals.low as u32,
+    }
+}
+
+// What a walk comes to that has reached the file's end.
+fn total(cursor: Cursor, placed: usize, adjusted: usize) -> Totals
+    ensures { λ r. ⌜ r ≡ totals (cursor .low) (cursor .named) placed adjusted ⌝ }
+{
+    Totals {
+        low: cursor.low,
+        named: cursor.named,
+        placed,
+        adjusted,
+    }
+}
+
+// Puts zero in all addresses.
+fn clear(addresses: &mut [u16])
+    ensures { λ _. ⌜ now (addresses .exit) ≡ replicate (length (now (addresses .entry))) 0 ⌝ }
+{
+    let mut i = 0;
+    while i < addresses.len() {
+        addresses[i] = 0;
+        i += 1;
+    }
+}
+
+// Where the program starts: the word at its place, if it is loaded.
+fn start(memory: &[u8], map: &[u8]) -> Start
+    requires { ⌜ (length (now memory) ≡ 65536) × (length (now map) ≡ 65536) ⌝ }
+    ensures { λ r. ⌜ r ≡ startIn (now (map .entry)) (now (memory .entry)) ⌝ }
+{
+    let loaded = updates::word_loaded(map, START);
+    if !loaded {
+        return Start::Absent;
+    }
+    Start::At(words::word_at(memory, START))
+}
