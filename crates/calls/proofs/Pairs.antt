@@ -5,26 +5,28 @@ use mathlib.Core.List.{List}
 use mathlib.Core.Path.{_≡_, refl, sym, ap, _∙_}
 use Prim.Native.Nat.{ℕ, _/_, _%_, _≤_, _<_}
 use native.Mathlib.Omega.{arith}
-use borrow.Author.Tests.{eqb-true, ne-eqb, lt-leb}
+use borrow.Author.Tests.{eqb-true, eq-eqb, ne-eqb, lt-leb}
 use lib.Dec.{eqb}
 use lib.ListN.{length, replicate, take}
 use Rattle.answer.proofs.Outcomes.{isRefused}
 use Rattle.answer.specs.Checks.{need, pick}
+use Rattle.answer.specs.Report.{numberOf}
 use Rattle.answer.specs.declared.Fault.{Fault}
 use Rattle.answer.specs.declared.Fault.the-variants.{WrongBuffer}
 use Rattle.answer.specs.declared.Outcome.{Outcome}
 use Rattle.answer.specs.declared.Outcome.the-variants.{Accepted, Refused}
 use Rattle.answer.specs.declared.Start.{Start}
 use Rattle.events.specs.Events.{Ran}
-use Rattle.sdx.specs.Call.{given, sized, call, report, addressesAfter as wordsAfter, Rooms, rooms, right as rightWords, Loaded}
-use Rattle.sdx.specs.Walk.{Given, Verdict, finished, refused}
+use Rattle.passes.specs.Rooms.{Rooms, rooms}
+use Rattle.passes.specs.Walk.{Given, given, Verdict, finished, refused}
+use Rattle.sdx.specs.Call.{sized, call, report, addressesAfter, Loaded}
 use Rattle.words.proofs.Numbers.{length-decoded}
 use Rattle.words.proofs.Runs.{front-holds}
 use Rattle.words.specs.Numbers.{encoded}
 use Rattle.words.specs.Runs.{part, put}
-use Rattle.calls.proofs.Telling.{and-false}
-use Rattle.calls.specs.Answer.{paired, addressesIn}
-use Rattle.calls.specs.Sdx.{asWords, right, addressesAfter, Loads}
+use Rattle.calls.proofs.Telling.{and-false, untold}
+use Rattle.calls.specs.Answer.{Told, paired, addressesIn}
+use Rattle.calls.specs.Sdx.{asWords, withAddresses, inWords, bothPaired, pairsAfter, Loads, Called}
 
 -- ---- lengths that are wrong
 
@@ -32,55 +34,64 @@ length-addresses : (bytes : List ℕ) → length (addressesIn bytes) ≡ length 
 length-addresses bytes = length-decoded _ (length bytes / 2) bytes
 
 module _ (g : Given) (b : Rooms) where
-  odd-known : (length (g .addresses) % 2 ≡ 0 → ⊥) → right g b ≡ false
+  -- the lengths of all that is lent but the answer
+  abbrev pub right : Bool
+  right = bothPaired g b && sized (asWords g) (inWords b)
+
+  odd-known : (length (g .addresses) % 2 ≡ 0 → ⊥) → right ≡ false
   odd-known h = rw (ne-eqb _ _ h) refl
 
-  many-known : length (g .addresses) % 2 ≡ 0 → 512 < length (g .addresses) → right g b ≡ false
+  many-known : length (g .addresses) % 2 ≡ 0 → 512 < length (g .addresses) → right ≡ false
   many-known e h =
       let l = length-addresses (g .addresses) in
       let many : 256 < length (addressesIn (g .addresses)) = omega (arith, l, e) in
-      and-false (paired (g .addresses)) _
-      (and-false (paired (b .addresses)) _
+      and-false (bothPaired g b) _
       (and-false (eqb (length (b .memory)) 65536) _
       (and-false (eqb (length (b .map)) 65536) _
-      (and-false (eqb (length (b .names)) 256) _ (and-false (eqb (length (addressesIn (b .addresses))) 32) _ (rw (lt-leb _ _ many) refl))))))
+      (and-false (eqb (length (b .names)) 256) _ (and-false (eqb (length (addressesIn (b .addresses))) 32) _ (rw (lt-leb _ _ many) refl)))))
 
-  other-new : (length (b .addresses) ≡ 64 → ⊥) → right g b ≡ false
-  other-new h = and-false (paired (g .addresses)) _ (by (paired (b .addresses)) refl)
+  other-new : (length (b .addresses) ≡ 64 → ⊥) → right ≡ false
+  other-new h = by (paired (g .addresses)) (paired (b .addresses)) refl
     where
-      by : (c : Bool) → paired (b .addresses) ≡ c
-          → c && sized (asWords g) (b .memory) (b .map) (b .names) (addressesIn (b .addresses)) ≡ false
-      by false e = refl
-      by true e =
-          let even : length (b .addresses) % 2 ≡ 0 = eqb-true _ _ e in
+      by : (c e : Bool) → paired (b .addresses) ≡ e → (c && e) && sized (asWords g) (inWords b) ≡ false
+      by false e i = refl
+      by true false i = refl
+      by true true i =
+          let even : length (b .addresses) % 2 ≡ 0 = eqb-true _ _ i in
           let l = length-addresses (b .addresses) in
-          let other : length (addressesIn (b .addresses)) ≡ 32 → ⊥ = λ i. h (omega (arith, l, i, even)) in
+          let other : length (addressesIn (b .addresses)) ≡ 32 → ⊥ = λ j. h (omega (arith, l, j, even)) in
           and-false (eqb (length (b .memory)) 65536) _
           (and-false (eqb (length (b .map)) 65536) _ (and-false (eqb (length (b .names)) 256) _ (rw (ne-eqb _ _ other) refl)))
 
 module _ {file : List ℕ} {g : Given} {b : Rooms} {o : Outcome} (e : o ≡ Refused WrongBuffer 0 0) where
-  wrong : right g b ≡ false → Loads file g (right g b) b o b
+  -- where some length is wrong, nothing is done
+  pub loads-wrong : (answered : Bool) → (answered && bothPaired g b) && sized (asWords g) (inWords b) ≡ false → Loads file g answered b o b
   unfolding call need pick
-  wrong h =
-      rw (h, e)
+  loads-wrong answered h =
+      rw e
       (record {
-        outcome = refl;
-        memory = refl;
-        map = refl;
-        names = refl;
+        new = addressesIn (b .addresses);
+        loaded = rw h
+            (record {
+              outcome = refl;
+              memory = refl;
+              map = refl;
+              names = refl;
+              addresses = refl;
+              placed-fits = omega arith;
+              adjusted-fits = omega arith;
+            });
         addresses = refl;
-        placed-fits = omega arith;
-        adjusted-fits = omega arith;
       })
 
-  pub loads-odd : (length (g .addresses) % 2 ≡ 0 → ⊥) → Loads file g (right g b) b o b
-  loads-odd h = wrong (odd-known g b h)
+  pub loads-odd : (length (g .addresses) % 2 ≡ 0 → ⊥) → Loads file g true b o b
+  loads-odd h = loads-wrong true (odd-known g b h)
 
-  pub loads-many : length (g .addresses) % 2 ≡ 0 → 512 < length (g .addresses) → Loads file g (right g b) b o b
-  loads-many i h = wrong (many-known g b i h)
+  pub loads-many : length (g .addresses) % 2 ≡ 0 → 512 < length (g .addresses) → Loads file g true b o b
+  loads-many i h = loads-wrong true (many-known g b i h)
 
-  pub loads-other : (length (b .addresses) ≡ 64 → ⊥) → Loads file g (right g b) b o b
-  loads-other h = wrong (other-new g b h)
+  pub loads-other : (length (b .addresses) ≡ 64 → ⊥) → Loads file g true b o b
+  loads-other h = loads-wrong true (other-new g b h)
 
 -- ---- the words
 
@@ -96,51 +107,68 @@ newWords = replicate 32 0
 
 -- the lengths of pairs are right where those of the words are
 same-lengths : (g : Given) (b : Rooms) → paired (g .addresses) ≡ true → length (b .addresses) ≡ 64
-    → right g b ≡ rightWords (asWords g) (rooms (b .memory) (b .map) (b .names) newWords)
+    → (true && bothPaired g b) && sized (asWords g) (inWords b) ≡ sized (asWords g) (withAddresses b newWords)
 same-lengths g b e n =
     let l : length (addressesIn (b .addresses)) ≡ 32 = length-addresses (b .addresses) ∙ ap (λ (k : ℕ). k / 2) n in
     rw (e, l, n) refl
 
 module _ (file : List ℕ) (g : Given) (b b′ : Rooms) (o : Outcome) (known new : List ℕ) (even : paired (g .addresses) ≡ true)
     (n : length (b .addresses) ≡ 64) (words : known ≡ addressesIn (g .addresses))
-    (loaded : Loaded file (given (g .names) known (g .low) (g .high)) (rooms (b .memory) (b .map) (b .names) newWords) o
-    (rooms (b′ .memory) (b′ .map) (b′ .names) new)) where
-  d : Loaded file (asWords g) (rooms (b .memory) (b .map) (b .names) newWords) o (rooms (b′ .memory) (b′ .map) (b′ .names) new)
+    (loaded : Loaded file (given (g .names) known (g .low) (g .high))
+    (sized (given (g .names) known (g .low) (g .high)) (withAddresses b newWords)) (withAddresses b newWords) o (withAddresses b′ new)) where
+  d : Loaded file (asWords g) (sized (asWords g) (withAddresses b newWords)) (withAddresses b newWords) o (withAddresses b′ new)
   d = rw (← words) loaded
 
   -- the load over words
   abbrev ran : Ran Verdict
-  ran = call file (asWords g) (rightWords (asWords g) (rooms (b .memory) (b .map) (b .names) newWords))
+  ran = call file (asWords g) (sized (asWords g) (withAddresses b newWords))
 
-  loads : b′ .addresses ≡ addressesAfter (ran .answer) (b .addresses) → Loads file g (right g b) b o b′
-  loads e =
-      rw (same-lengths g b even n)
-      (record {
-        outcome = d .outcome;
-        memory = d .memory;
-        map = d .map;
-        names = d .names;
-        addresses = e;
-        placed-fits = d .placed-fits;
-        adjusted-fits = d .adjusted-fits;
-      })
+  loads : (w : List ℕ) → w ≡ addressesAfter (ran .answer) (addressesIn (b .addresses)) → b′ .addresses ≡ pairsAfter o w (b .addresses)
+      → Loads file g true b o b′
+  loads w e f =
+      record {
+        new = w;
+        loaded = rw (same-lengths g b even n)
+            (record {
+              outcome = d .outcome;
+              memory = d .memory;
+              map = d .map;
+              names = d .names;
+              addresses = e;
+              placed-fits = d .placed-fits;
+              adjusted-fits = d .adjusted-fits;
+            });
+        addresses = f;
+      }
 
   pub loads-accepted : (start : Start) (i j k l : ℕ) → o ≡ Accepted start i j k l → b′ .addresses ≡ encoded 2 new
-      → Loads file g (right g b) b (Accepted start i j k l) b′
+      → Loads file g true b (Accepted start i j k l) b′
   loads-accepted start i j k l e f = rw (← e) (by (ran .answer) refl)
     where
-      by : (v : Verdict) → ran .answer ≡ v → Loads file g (right g b) b o b′
+      by : (v : Verdict) → ran .answer ≡ v → Loads file g true b o b′
       by (finished z) h =
-          loads
-          (f ∙ ap (encoded 2) (d .addresses ∙ ap (λ (v : Verdict). wordsAfter v newWords) h)
-          ∙ sym (ap (λ (v : Verdict). addressesAfter v (b .addresses)) h))
+          loads new
+          (d .addresses ∙ ap (λ (v : Verdict). addressesAfter v newWords) h
+          ∙ sym (ap (λ (v : Verdict). addressesAfter v (addressesIn (b .addresses))) h))
+          (rw e f)
       by (refused fault z) h =
           absurd (false≢true (ap isRefused (sym e ∙ d .outcome ∙ ap (λ (v : Verdict). report (b .memory) v (ran .events)) h)))
 
-  pub loads-refused : (fault : Fault) (at side : ℕ) → o ≡ Refused fault at side → b′ .addresses ≡ b .addresses → Loads file g (right g b) b o b′
+  pub loads-refused : (fault : Fault) (at side : ℕ) → o ≡ Refused fault at side → b′ .addresses ≡ b .addresses → Loads file g true b o b′
   loads-refused fault at side e f = by (ran .answer) refl
     where
-      by : (v : Verdict) → ran .answer ≡ v → Loads file g (right g b) b o b′
+      by : (v : Verdict) → ran .answer ≡ v → Loads file g true b o b′
       by (finished z) h =
           absurd (false≢true (sym (ap isRefused (sym e ∙ d .outcome ∙ ap (λ (v : Verdict). report (b .memory) v (ran .events)) h))))
-      by (refused k z) h = loads (f ∙ sym (ap (λ (v : Verdict). addressesAfter v (b .addresses)) h))
+      by (refused k z) h =
+          loads (addressesIn (b .addresses)) (sym (ap (λ (v : Verdict). addressesAfter v (addressesIn (b .addresses))) h)) (rw e f)
+
+-- ---- the answer
+
+module _ {file : List ℕ} {g : Given} {b : Rooms} {a : List ℕ} {r : ℕ} where
+  pub sdx-untold : (length a ≡ 36 → ⊥) → r ≡ numberOf WrongBuffer → Called file g b a r b a
+  sdx-untold h e =
+      record { outcome = Refused WrongBuffer 0 0; loads = loads-wrong refl _ (rw (ne-eqb _ _ h) refl); told = untold a r h e }
+
+  pub sdx-told : {o : Outcome} {b′ : Rooms} {a′ : List ℕ} → length a ≡ 36 → Loads file g true b o b′ → Told o a r a′ → Called file g b a r b′ a′
+  sdx-told {o} h d t = record { outcome = o; loads = rw (eq-eqb _ _ h) d; told = t }

@@ -7,7 +7,7 @@ use Prim.Native.Nat.{ℕ, _/_, _%_}
 use lib.Dec.{eqb}
 use lib.ListN.{length}
 use Rattle.answer.specs.Checks.{pick}
-use Rattle.answer.specs.Report.{reported, answerLength, answerBytes}
+use Rattle.answer.specs.Report.{numberReturned, answerLength, answerBytes}
 use Rattle.answer.specs.declared.Outcome.{Outcome}
 use Rattle.words.specs.Numbers.{decoded}
 
@@ -18,7 +18,7 @@ answerSized answer = eqb (length answer) answerLength
 -- What a call tells of its outcome: it found the answer a, and returns r and leaves a′.
 pub record Told (outcome : Outcome) (a : List ℕ) (r : ℕ) (a′ : List ℕ) : Type 0 where
   -- "the number is also returned"
-  pub returned : r ≡ reported outcome
+  pub returned : r ≡ numberReturned outcome
   -- "It is written on every outcome unless its own length is wrong"
   pub answer : a′ ≡ pick (answerSized a) (answerBytes outcome) a
 

@@ -4,13 +4,12 @@
 use mathlib.Core.Bool.{Bool, _&&_}
 use mathlib.Core.List.{List}
 use mathlib.Core.Path.{_≡_}
-use Prim.Native.Nat.{ℕ, _≤_}
-use lib.ListN.{length}
-use Rattle.answer.specs.Checks.{pick}
-use Rattle.answer.specs.Report.{placedOf, adjustedOf}
+use Prim.Native.Nat.{ℕ}
 use Rattle.answer.specs.declared.Outcome.{Outcome}
-use Rattle.sdx.specs.Call.{given, sized, call, report, memoryAfter, mapAfter, filledUp, namesAfter, addressesRoom, Rooms}
-use Rattle.sdx.specs.Walk.{Given, Verdict, finished, refused}
+use Rattle.answer.specs.declared.Outcome.the-variants.{Accepted, Refused}
+use Rattle.passes.specs.Rooms.{Rooms, rooms}
+use Rattle.passes.specs.Walk.{Given, given}
+use Rattle.sdx.specs.Call.{sized, Loaded}
 use Rattle.words.specs.Numbers.{encoded}
 use Rattle.calls.specs.Answer.{answerSized, Told, paired, addressesIn}
 
@@ -18,31 +17,33 @@ use Rattle.calls.specs.Answer.{answerSized, Told, paired, addressesIn}
 abbrev pub asWords : Given → Given
 asWords g = given (g .names) (addressesIn (g .addresses)) (g .low) (g .high)
 
--- the lengths of all that is lent but the answer: those of a load, with both address lists in pairs
-abbrev pub right : Given → Rooms → Bool
-right g b =
-    paired (g .addresses)
-    && (paired (b .addresses) && sized (asWords g) (b .memory) (b .map) (b .names) (addressesIn (b .addresses)))
+-- rooms with other addresses
+abbrev pub withAddresses : Rooms → List ℕ → Rooms
+withAddresses b addresses = rooms (b .memory) (b .map) (b .names) addresses
 
--- the room for new addresses after a load: "Every other refusal leaves .. new-name buffers .. as they were"
-abbrev pub addressesAfter : Verdict → List ℕ → List ℕ
-addressesAfter (finished z) bytes = encoded 2 (filledUp addressesRoom (z .addresses))
-addressesAfter (refused fault z) bytes = bytes
+-- the rooms, with the new addresses as words
+abbrev pub inWords : Rooms → Rooms
+inWords b = withAddresses b (addressesIn (b .addresses))
 
--- What a load does, where the lengths are right or not: it found the rooms b, comes to the outcome o, and leaves b′.
-pub record Loads (file : List ℕ) (g : Given) (right : Bool) (b : Rooms) (o : Outcome) (b′ : Rooms) : Type 0 where
-  pub outcome : o ≡ report (b .memory) (call file (asWords g) right .answer) (call file (asWords g) right .events)
-  pub memory : b′ .memory ≡ memoryAfter (call file (asWords g) right .answer) (call file (asWords g) right .events) (b .memory)
-  -- ("Refusal 1 changes nothing")
-  pub map : b′ .map ≡ pick right (mapAfter (call file (asWords g) right .answer) (call file (asWords g) right .events)) (b .map)
-  pub names : b′ .names ≡ namesAfter (call file (asWords g) right .answer) (b .names)
-  pub addresses : b′ .addresses ≡ addressesAfter (call file (asWords g) right .answer) (b .addresses)
-  -- "neither exceeds the file's length"
-  pub placed-fits : placedOf o ≤ length file
-  pub adjusted-fits : adjustedOf o ≤ length file
+-- "(an odd length is 1)": both address lists are pairs
+abbrev pub bothPaired : Given → Rooms → Bool
+bothPaired g b = paired (g .addresses) && paired (b .addresses)
 
--- What a call promises: it found the rooms b and the answer a, and returns r and leaves b′ and a′.
+-- the room for new addresses after a load that left these words: pairs on an acceptance, and "as they were" on a refusal
+abbrev pub pairsAfter : Outcome → List ℕ → List ℕ → List ℕ
+pairsAfter (Accepted start placed adjusted named low) new bytes = encoded 2 new
+pairsAfter (Refused fault offset side) new bytes = bytes
+
+-- What a load over pairs does: it found the rooms b, comes to the outcome o, and leaves b′, as the loader does over the words. `answered` says
+-- whether the answer has its length.
+pub record Loads (file : List ℕ) (g : Given) (answered : Bool) (b : Rooms) (o : Outcome) (b′ : Rooms) : Type 0 where
+  pub new : List ℕ
+  pub loaded : Loaded file (asWords g) ((answered && bothPaired g b) && sized (asWords g) (inWords b)) (inWords b) o (withAddresses b′ new)
+  pub addresses : b′ .addresses ≡ pairsAfter o new (b .addresses)
+
+-- What a call promises: it found the rooms b and the answer a, and returns r and leaves b′ and a′. (`Loaded` is what the claims of `sdx` are
+-- about: demand 2, refused calls and two benches hold of calls from C.)
 pub record Called (file : List ℕ) (g : Given) (b : Rooms) (a : List ℕ) (r : ℕ) (b′ : Rooms) (a′ : List ℕ) : Type 0 where
   pub outcome : Outcome
-  pub loads : Loads file g (answerSized a && right g b) b outcome b′
+  pub loads : Loads file g (answerSized a) b outcome b′
   pub told : Told outcome a r a′

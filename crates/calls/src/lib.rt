@@ -7,13 +7,17 @@ ghost use mathlib.Core.Bool.{Bool};
 ghost use mathlib.Core.Path.{_≡_};
 ghost use Prim.Native.Nat.{_≤_};
 ghost use lib.ListN.{length};
-ghost use Rattle.acx.specs.Call.{settings, usual as usualBases};
+ghost use Rattle.acx.specs.Call.{usual as usualBases};
+ghost use Rattle.pieces.specs.Pieces.{basesAt};
+ghost use Rattle.moves.specs.Call.{callOf};
 ghost use Rattle.answer.specs.Report.{answerLength};
-ghost use Rattle.sdx.specs.Call.{given, usual, rooms};
-ghost use Rattle.calls.specs.Answer.{Told, paired};
+ghost use Rattle.passes.specs.Rooms.{rooms};
+ghost use Rattle.passes.specs.Walk.{given};
+ghost use Rattle.sdx.specs.Call.{usual};
+ghost use Rattle.calls.specs.Answer.{answerSized, Told, paired};
 ghost use Rattle.calls.specs.Acx.{Called as AcxCalled};
-ghost use Rattle.calls.specs.Move.{basesAt, call, Called as MoveCalled};
-ghost use Rattle.calls.specs.Sdx.{right, Loads, Called as SdxCalled};
+ghost use Rattle.calls.specs.Move.{Called as MoveCalled};
+ghost use Rattle.calls.specs.Sdx.{Loads, Called as SdxCalled};
 
 // The length of the answer.
 const ANSWER: usize = 36;
@@ -35,7 +39,7 @@ pub fn acx_load(
     map: &mut [u8],
     answer: &mut [u8],
 ) -> u32
-    ensures { λ r. ⌜ AcxCalled (settings form «main_base» «zero_base») (now (file .entry)) (now (memory .entry)) (now (map .entry)) (now (answer .entry)) r (now (memory .exit)) (now (map .exit)) (now (answer .exit)) ⌝ }
+    ensures { λ r. ⌜ AcxCalled form (basesAt «main_base» «zero_base») (now (file .entry)) (now (memory .entry)) (now (map .entry)) (now (answer .entry)) r (now (memory .exit)) (now (map .exit)) (now (answer .exit)) ⌝ }
 {
     if answer.len() != ANSWER {
         return answer::fault_number(Fault::WrongBuffer);
@@ -52,7 +56,7 @@ pub fn acx_load_usual(
     map: &mut [u8],
     answer: &mut [u8],
 ) -> u32
-    ensures { λ r. ⌜ AcxCalled (usualBases form) (now (file .entry)) (now (memory .entry)) (now (map .entry)) (now (answer .entry)) r (now (memory .exit)) (now (map .exit)) (now (answer .exit)) ⌝ }
+    ensures { λ r. ⌜ AcxCalled form usualBases (now (file .entry)) (now (memory .entry)) (now (map .entry)) (now (answer .entry)) r (now (memory .exit)) (now (map .exit)) (now (answer .exit)) ⌝ }
 {
     acx_load(
         form,
@@ -78,7 +82,7 @@ pub fn acx_move(
     scratch: &mut [u8],
     answer: &mut [u8],
 ) -> u32
-    ensures { λ r. ⌜ MoveCalled (now (file .entry)) (call form (basesAt «old_main» «old_zero») (basesAt «new_main» «new_zero») (now (map .entry)) (now (scratch .entry)) (now (answer .entry))) (now (memory .entry)) (now (answer .entry)) r (now (memory .exit)) (now (map .exit)) (now (scratch .exit)) (now (answer .exit)) ⌝ }
+    ensures { λ r. ⌜ MoveCalled (now (file .entry)) (callOf form (basesAt «old_main» «old_zero») (basesAt «new_main» «new_zero») (now (map .entry)) (now (scratch .entry)) (answerSized (now (answer .entry)))) (now (memory .entry)) (now (answer .entry)) r (now (memory .exit)) (now (map .exit)) (now (scratch .exit)) (now (answer .exit)) ⌝ }
 {
     if answer.len() != ANSWER {
         return answer::fault_number(Fault::WrongBuffer);
@@ -154,7 +158,7 @@ pub fn sdx_load_usual(
     )
 }
 
-// The answer of an outcome, and its number.
+// Writes the answer of an outcome, and gives its number.
 fn tell(outcome: Outcome, answer: &mut [u8]) -> u32
     requires { ⌜ length (now answer) ≡ answerLength ⌝ }
     ensures { λ r. ⌜ Told outcome (now (answer .entry)) r (now (answer .exit)) ⌝ }
@@ -163,7 +167,7 @@ fn tell(outcome: Outcome, answer: &mut [u8]) -> u32
     answer::number(outcome)
 }
 
-// A load whose address lists are byte pairs.
+// Loads a file whose address lists are byte pairs.
 fn load_pairs(
     file: &[u8],
     low: u32,
@@ -175,13 +179,13 @@ fn load_pairs(
     new_names: &mut [u8],
     new_addresses: &mut [u8],
 ) -> Outcome
-    ensures { λ r. ⌜ Loads (now (file .entry)) (given (now («known_names» .entry)) (now («known_addresses» .entry)) low high) (right (given (now («known_names» .entry)) (now («known_addresses» .entry)) low high) (rooms (now (memory .entry)) (now (map .entry)) (now («new_names» .entry)) (now («new_addresses» .entry)))) (rooms (now (memory .entry)) (now (map .entry)) (now («new_names» .entry)) (now («new_addresses» .entry))) r (rooms (now (memory .exit)) (now (map .exit)) (now («new_names» .exit)) (now («new_addresses» .exit))) ⌝ }
+    ensures { λ r. ⌜ Loads (now (file .entry)) (given (now («known_names» .entry)) (now («known_addresses» .entry)) low high) Bool.true (rooms (now (memory .entry)) (now (map .entry)) (now («new_names» .entry)) (now («new_addresses» .entry))) r (rooms (now (memory .exit)) (now (map .exit)) (now («new_names» .exit)) (now («new_addresses» .exit))) ⌝ }
 {
-    let count = known_addresses.len();
-    if count % 2 != 0 {
+    let size = known_addresses.len();
+    if size % 2 != 0 {
         return answer::refused(Fault::WrongBuffer);
     }
-    if 2 * KNOWN < count {
+    if 2 * KNOWN < size {
         return answer::refused(Fault::WrongBuffer);
     }
     if new_addresses.len() != NEW_BYTES {
@@ -200,7 +204,7 @@ fn load_pairs(
     )
 }
 
-// A load over the words of the pairs. The new addresses go back as pairs where there are any to tell.
+// Loads it over the words of the pairs. On an acceptance the new addresses go back as pairs.
 fn load_words(
     file: &[u8],
     low: u32,
@@ -213,7 +217,7 @@ fn load_words(
     new_addresses: &mut [u8],
 ) -> Outcome
     requires { ⌜ (paired (now «known_addresses») ≡ Bool.true) × (length (now «known_addresses») ≤ 512) × (length (now «new_addresses») ≡ 64) ⌝ }
-    ensures { λ r. ⌜ Loads (now (file .entry)) (given (now («known_names» .entry)) (now («known_addresses» .entry)) low high) (right (given (now («known_names» .entry)) (now («known_addresses» .entry)) low high) (rooms (now (memory .entry)) (now (map .entry)) (now («new_names» .entry)) (now («new_addresses» .entry)))) (rooms (now (memory .entry)) (now (map .entry)) (now («new_names» .entry)) (now («new_addresses» .entry))) r (rooms (now (memory .exit)) (now (map .exit)) (now («new_names» .exit)) (now («new_addresses» .exit))) ⌝ }
+    ensures { λ r. ⌜ Loads (now (file .entry)) (given (now («known_names» .entry)) (now («known_addresses» .entry)) low high) Bool.true (rooms (now (memory .entry)) (now (map .entry)) (now («new_names» .entry)) (now («new_addresses» .entry))) r (rooms (now (memory .exit)) (now (map .exit)) (now («new_names» .exit)) (now («new_addresses» .exit))) ⌝ }
 {
     let mut known = [0u16; KNOWN];
     words::decode_words(&mut known, known_addresses);

@@ -1,8 +1,13 @@
 // The functions that C calls, as include/tekoweapa.h declares them, and nothing else: each hands its buffers on.
-ghost use Rattle.acx.specs.Call.{settings, usual as usualBases};
-ghost use Rattle.sdx.specs.Call.{given, usual, rooms};
+ghost use Rattle.acx.specs.Call.{usual as usualBases};
+ghost use Rattle.pieces.specs.Pieces.{basesAt};
+ghost use Rattle.moves.specs.Call.{callOf};
+ghost use Rattle.passes.specs.Rooms.{rooms};
+ghost use Rattle.passes.specs.Walk.{given};
+ghost use Rattle.sdx.specs.Call.{usual};
 ghost use Rattle.calls.specs.Acx.{Called as AcxCalled};
-ghost use Rattle.calls.specs.Move.{basesAt, call, Called as MoveCalled};
+ghost use Rattle.calls.specs.Answer.{answerSized};
+ghost use Rattle.calls.specs.Move.{Called as MoveCalled};
 ghost use Rattle.calls.specs.Sdx.{Called as SdxCalled};
 
 // Loads an SDX file between low and high.
@@ -72,7 +77,7 @@ pub extern "C" fn tkw_acx_load(
     map: &mut [u8],
     answer: &mut [u8],
 ) -> u32
-    ensures { λ r. ⌜ AcxCalled (settings form «main_base» «zero_base») (now (file .entry)) (now (memory .entry)) (now (map .entry)) (now (answer .entry)) r (now (memory .exit)) (now (map .exit)) (now (answer .exit)) ⌝ }
+    ensures { λ r. ⌜ AcxCalled form (basesAt «main_base» «zero_base») (now (file .entry)) (now (memory .entry)) (now (map .entry)) (now (answer .entry)) r (now (memory .exit)) (now (map .exit)) (now (answer .exit)) ⌝ }
 {
     calls::acx_load(form, file, main_base, zero_base, memory, map, answer)
 }
@@ -86,7 +91,7 @@ pub extern "C" fn tkw_acx_load_usual(
     map: &mut [u8],
     answer: &mut [u8],
 ) -> u32
-    ensures { λ r. ⌜ AcxCalled (usualBases form) (now (file .entry)) (now (memory .entry)) (now (map .entry)) (now (answer .entry)) r (now (memory .exit)) (now (map .exit)) (now (answer .exit)) ⌝ }
+    ensures { λ r. ⌜ AcxCalled form usualBases (now (file .entry)) (now (memory .entry)) (now (map .entry)) (now (answer .entry)) r (now (memory .exit)) (now (map .exit)) (now (answer .exit)) ⌝ }
 {
     calls::acx_load_usual(form, file, memory, map, answer)
 }
@@ -105,7 +110,7 @@ pub extern "C" fn tkw_acx_move(
     scratch: &mut [u8],
     answer: &mut [u8],
 ) -> u32
-    ensures { λ r. ⌜ MoveCalled (now (file .entry)) (call form (basesAt «old_main» «old_zero») (basesAt «new_main» «new_zero») (now (map .entry)) (now (scratch .entry)) (now (answer .entry))) (now (memory .entry)) (now (answer .entry)) r (now (memory .exit)) (now (map .exit)) (now (scratch .exit)) (now (answer .exit)) ⌝ }
+    ensures { λ r. ⌜ MoveCalled (now (file .entry)) (callOf form (basesAt «old_main» «old_zero») (basesAt «new_main» «new_zero») (now (map .entry)) (now (scratch .entry)) (answerSized (now (answer .entry)))) (now (memory .entry)) (now (answer .entry)) r (now (memory .exit)) (now (map .exit)) (now (scratch .exit)) (now (answer .exit)) ⌝ }
 {
     calls::acx_move(
         form,
