@@ -5,15 +5,18 @@
 # make c-tests         the tests in C alone (tests/run)
 # make fuzz SECONDS=n  random cases against the second implementation, for n seconds
 # make bench           times of the library beside the second implementation
+# make picture         docs/map.png, the map in README.md
 # make proofs          prove what has changed since the last time, without the must-fail edits
 CC := gcc
 CFLAGS := -std=c11 -O2 -Wall -Wextra -Werror
 SECONDS := 60
+PROGRAM := build/tekoweapa
+PICTURE := docs/map.png
 
 LIBRARY := build/libtekoweapa.a
 RATTLE := $(shell find crates -name '*.rt' -o -name '*.antt')
 
-.PHONY: demo test lib control c-tests fuzz bench proofs clean
+.PHONY: demo test lib control c-tests fuzz bench picture proofs clean
 
 demo: build/tekoweapa
 	@examples/demo
@@ -33,6 +36,11 @@ fuzz: build/compare
 
 bench: build/benchmark
 	build/benchmark
+
+picture: $(PROGRAM)
+	@work=$$(mktemp -d) && trap 'rm -rf "$$work"' EXIT && \
+	$(PROGRAM) sdx examples/score.sdx --names examples/names.txt --picture "$$work/map.ppm" >/dev/null && \
+	python3 examples/enlarge.py "$$work/map.ppm" 0 0x27 4 $(PICTURE)
 
 proofs:
 	@rt check

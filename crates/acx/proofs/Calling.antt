@@ -1,8 +1,8 @@
--- A load as a whole, over plain values: the opening, the two walks, the settings and the lengths.
+-- A load as a whole, over plain values: the opening, the settings and the file's length, the two walks and the lengths of the buffers.
 -- Assumes nothing.
 use mathlib.Core.Bool.{Bool, true, false, _&&_, false≢true}
 use mathlib.Core.List.{List, []}
-use mathlib.Core.Path.{_≡_, refl, sym, ap, _∙_}
+use mathlib.Core.Path.{_≡_, refl, sym, ap, _∙_, subst}
 use Prim.Native.Nat.{ℕ, zero, suc, _≤_, _<_}
 use native.Mathlib.Omega.{arith}
 use borrow.Author.Tests.{le-leb, lt-leb, leb-true, eq-eqb, ne-eqb}
@@ -10,7 +10,7 @@ use lib.Dec.{leb}
 use lib.ListN.{length}
 use Rattle.answer.proofs.Checks.{and-true}
 use Rattle.answer.proofs.Outcomes.{isRefused}
-use Rattle.answer.specs.Checks.{need}
+use Rattle.answer.specs.Checks.{need, pick}
 use Rattle.answer.specs.Report.{placedOf, adjustedOf}
 use Rattle.answer.specs.declared.Fault.{Fault}
 use Rattle.answer.specs.declared.Fault.the-variants.{WrongBuffer, SettingOutOfRange, FileTooLong}
@@ -18,15 +18,15 @@ use Rattle.answer.specs.declared.Outcome.{Outcome}
 use Rattle.answer.specs.declared.Outcome.the-variants.{Accepted, Refused}
 use Rattle.answer.specs.declared.Start.{Start}
 use Rattle.events.proofs.Events.{did-none}
-use Rattle.events.specs.Events.{play, blank, Ran, Did}
+use Rattle.events.specs.Events.{Event, play, marks, blank, Ran, Did}
 use Rattle.events.specs.declared.Check.{Check}
 use Rattle.events.specs.declared.Check.the-variants.{Passed, Failed}
 use Rattle.acx.proofs.Standing.{Stands, stands-first, stands-on}
 use Rattle.acx.proofs.Walking.{refused-accepted, accepted-keeps}
-use Rattle.acx.specs.Call.{formOf, Settings, inRange, basesOf, sized, load, call, Carried, Loaded}
-use Rattle.acx.specs.Pieces.{Piece}
+use Rattle.acx.specs.Call.{formOf, inRange, sized, load, call, memoryAfter, mapAfter, Loaded}
+use Rattle.pieces.specs.Pieces.{Piece}
 use Rattle.acx.specs.Walk.{Verdict, accepted, refused, atOnce, from, opening, openingSize, judged, report, reported}
-use Rattle.acx.specs.declared.Bases.{Bases}
+use Rattle.pieces.specs.declared.Bases.{Bases}
 use Rattle.acx.specs.declared.Form.{Form}
 use Rattle.acx.specs.declared.Form.the-variants.{Device}
 
@@ -52,71 +52,48 @@ module _ (form : Form) (file : List ℕ) (b : Bases) (write : Bool) (m : List �
       let f : opening form file ≡ Passed = sym o ∙ e in
       rw (f, ← en) d
 
--- ---- first checked, then carried out
-
-module _ {m m₁ p₁ : List ℕ} {r : Outcome} where
-  -- (memory was not written while the file was checked)
-  pub carried-refused : {o : Ran Verdict} {fault : Fault} {at side : ℕ} {p′ : List ℕ} → Did Outcome (reported o) false m blank r m₁ p₁
-      → r ≡ Refused fault at side
-      → p′ ≡ blank → Carried o m (Refused fault at side) m₁ p′
-  carried-refused {o} {fault} {at} {side} {p′} d e ep = by (o .answer) refl
-    where
-      by : (v : Verdict) → o .answer ≡ v → Carried o m (Refused fault at side) m₁ p′
-      by (accepted ps start) f = absurd (false≢true (sym (ap isRefused (sym e ∙ d .answer ∙ ap (λ (v : Verdict). report v (o .events)) f))))
-      by (refused k i) f = record { outcome = sym e ∙ d .answer; memory = rw f (d .memory); map = rw f ep }
-
-  pub carried-accepted : {o : Ran Verdict} {start : Start} {i j k l : ℕ} {r₂ : Outcome} {m₂ p₂ : List ℕ}
-      → Did Outcome (reported o) false m blank r m₁ p₁
-      → r ≡ Accepted start i j k l → Did Outcome (reported o) true m₁ blank r₂ m₂ p₂ → Carried o m r₂ m₂ p₂
-  carried-accepted {o} {start} {i} {j} {k} {l} {r₂} {m₂} {p₂} d e d₂ = by (o .answer) refl
-    where
-      by : (v : Verdict) → o .answer ≡ v → Carried o m r₂ m₂ p₂
-      by (accepted ps start) f =
-          record { outcome = d₂ .answer; memory = rw f (d₂ .memory ∙ ap (λ (t : List ℕ). play (o .events) t) (d .memory)); map = rw f (d₂ .map) }
-      by (refused h a) f = absurd (false≢true (ap isRefused (sym e ∙ d .answer ∙ ap (λ (v : Verdict). report v (o .events)) f)))
-
 -- ---- the settings and the file's length
 
 -- bases in their ranges
-pub range-bounds : (s : Settings) → inRange s ≡ true → (s .main ≤ 65535) × (s .zero ≤ 255)
-range-bounds s e =
-    let x = and-true (leb (s .form) 1 && leb (s .main) 65535) (leb (s .zero) 255) e in
-    let y = and-true (leb (s .form) 1) (leb (s .main) 65535) (x .0) in
+pub range-bounds : (form : ℕ) (b : Bases) → inRange form b ≡ true → (b .main ≤ 65535) × (b .zero ≤ 255)
+range-bounds form b e =
+    let x = and-true (leb form 1 && leb (b .main) 65535) (leb (b .zero) 255) e in
+    let y = and-true (leb form 1) (leb (b .main) 65535) (x .0) in
     (leb-true _ _ (y .1), leb-true _ _ (x .1))
 
-module _ (s : Settings) (file : List ℕ) (write : Bool) (m : List ℕ) where
-  pub call-range : (r : Outcome) (p : List ℕ) → inRange s ≡ false → r ≡ Refused SettingOutOfRange 0 0 → p ≡ blank
-      → Did Outcome (reported (load s file)) write m blank r m p
+module _ (form : ℕ) (b : Bases) (file : List ℕ) (write : Bool) (m : List ℕ) where
+  pub call-range : (r : Outcome) (p : List ℕ) → inRange form b ≡ false → r ≡ Refused SettingOutOfRange 0 0 → p ≡ blank
+      → Did Outcome (reported (load form b file)) write m blank r m p
   unfolding load need
   call-range r p h er ep = rw (h, er, ep) (did-none _ write m blank)
 
-  module _ (known : inRange s ≡ true) where
+  module _ (ranged : inRange form b ≡ true) where
     pub call-long : (r : Outcome) (p : List ℕ) → 65536 < length file → r ≡ Refused FileTooLong 0 0 → p ≡ blank
-        → Did Outcome (reported (load s file)) write m blank r m p
+        → Did Outcome (reported (load form b file)) write m blank r m p
     unfolding load need
-    call-long r p h er ep = rw (known, lt-leb _ _ h, er, ep) (did-none _ write m blank)
+    call-long r p h er ep = rw (ranged, lt-leb _ _ h, er, ep) (did-none _ write m blank)
 
-    pub call-walked : (form : Form) (r : Outcome) (m′ p′ : List ℕ) → length file ≤ 65536 → form ≡ formOf (s .form)
-        → Did Outcome (reported (judged form file (basesOf s))) write m blank r m′ p′ → Did Outcome (reported (load s file)) write m blank r m′ p′
+    pub call-walked : (f : Form) (r : Outcome) (m′ p′ : List ℕ) → length file ≤ 65536 → f ≡ formOf form
+        → Did Outcome (reported (judged f file b)) write m blank r m′ p′ → Did Outcome (reported (load form b file)) write m blank r m′ p′
     unfolding load need
-    call-walked form r m′ p′ h ef d = rw (known, le-leb _ _ h, ← ef) d
+    call-walked f r m′ p′ h ef d = rw (ranged, le-leb _ _ h, ← ef) d
 
 -- what an accepted load comes to: the settings are in range, the file is not too long, and its rules decide
-pub record Follows (s : Settings) (file : List ℕ) : Type 0 where
-  pub range : inRange s ≡ true
+pub record Follows (form : ℕ) (b : Bases) (file : List ℕ) : Type 0 where
+  pub range : inRange form b ≡ true
   pub fits : length file ≤ 65536
-  pub by-rules : load s file ≡ judged (formOf (s .form)) file (basesOf s)
+  pub by-rules : load form b file ≡ judged (formOf form) file b
 
-pub load-follows : (s : Settings) (file : List ℕ) (ps : List Piece) (start : Start) → load s file .answer ≡ accepted ps start → Follows s file
+pub load-follows : (form : ℕ) (b : Bases) (file : List ℕ) (ps : List Piece) (start : Start) → load form b file .answer ≡ accepted ps start → Follows form b file
 unfolding load need
-load-follows s file ps start e = by (inRange s) (leb (length file) 65536) refl refl e
+load-follows form b file ps start e = by (inRange form b) (leb (length file) 65536) refl refl e
   where
     o : Ran Verdict
-    o = judged (formOf (s .form)) file (basesOf s)
+    o = judged (formOf form) file b
 
-    by : (c d : Bool) → inRange s ≡ c → leb (length file) 65536 ≡ d
+    by : (c d : Bool) → inRange form b ≡ c → leb (length file) 65536 ≡ d
         → need atOnce c SettingOutOfRange (need atOnce d FileTooLong o) .answer ≡ accepted ps start
-        → Follows s file
+        → Follows form b file
     by true true h k e = record { range = h; fits = leb-true _ _ k; by-rules = rw (h, k) refl }
     by true false h k e = absurd (refused-accepted FileTooLong 0 ps start e)
     by false d h k e = absurd (refused-accepted SettingOutOfRange 0 ps start e)
@@ -145,42 +122,101 @@ unfolding need
 few-need n true fault o h = h
 few-need n false fault o h = record { placed = omega arith; adjusted = omega arith }
 
-pub load-few : (s : Settings) (file : List ℕ) → Few (length file) (load s file)
+pub load-few : (form : ℕ) (b : Bases) (file : List ℕ) → Few (length file) (load form b file)
 unfolding load
-load-few s file =
-    let k = judged-counts (formOf (s .form)) file (basesOf s) in
+load-few form b file =
+    let k = judged-counts (formOf form) file b in
     few-need _ _ _ _ (few-need _ _ _ _ (record { placed = k .0; adjusted = k .1 }))
 
--- ---- whatever the buffers
+-- ---- a call with the right buffers: first checked, then carried out
 
-module _ {s : Settings} {file m p : List ℕ} where
-  other : {r : Outcome} → sized m p ≡ false → r ≡ Refused WrongBuffer 0 0 → Loaded s file m p r m p
-  unfolding call need
-  other h e = record {
-    outcome = rw (h, e) refl;
-    memory = rw h refl;
-    map = rw h refl;
-    placed-fits = rw e (omega arith);
-    adjusted-fits = rw e
-        (omega arith);
-  }
+-- what was refused plays nothing
+pub refused-memory : (v : Verdict) (es : List Event) (m : List ℕ) → isRefused (report v es) ≡ true → memoryAfter v es m ≡ m
+refused-memory (accepted ps start) es m e = absurd (false≢true e)
+refused-memory (refused fault at) es m e = refl
 
-  pub loaded-memory : {r : Outcome} → (length m ≡ 65536 → ⊥) → r ≡ Refused WrongBuffer 0 0 → Loaded s file m p r m p
-  loaded-memory h e = other (rw (ne-eqb _ _ h) refl) e
+-- and leaves the map clear
+pub refused-map : (v : Verdict) (es : List Event) → isRefused (report v es) ≡ true → mapAfter v es ≡ blank
+refused-map (accepted ps start) es e = absurd (false≢true e)
+refused-map (refused fault at) es e = refl
 
-  pub loaded-map : {r : Outcome} → length m ≡ 65536 → (length p ≡ 65536 → ⊥) → r ≡ Refused WrongBuffer 0 0 → Loaded s file m p r m p
-  loaded-map g h e = other (rw (eq-eqb _ _ g, ne-eqb _ _ h) refl) e
+-- what was accepted plays its events
+accepted-memory : (v : Verdict) (es : List Event) (m : List ℕ) → isRefused (report v es) ≡ false → memoryAfter v es m ≡ play es m
+accepted-memory (accepted ps start) es m e = refl
+accepted-memory (refused fault at) es m e = absurd (false≢true (sym e))
 
-  pub loaded-sized : {r : Outcome} {m′ p′ : List ℕ} → length m ≡ 65536 → length p ≡ 65536 → Carried (load s file) m r m′ p′
-      → Loaded s file m p r m′ p′
-  unfolding call need
-  loaded-sized g h d =
-      let few = load-few s file in
-      let z : sized m p ≡ true = rw (eq-eqb _ _ g, eq-eqb _ _ h) refl in
+-- and leaves its marks
+accepted-map : (v : Verdict) (es : List Event) → isRefused (report v es) ≡ false → mapAfter v es ≡ marks es blank
+accepted-map (accepted ps start) es e = refl
+accepted-map (refused fault at) es e = absurd (false≢true (sym e))
+
+-- where the lengths are right, a call is a load
+pub call-right : (form : ℕ) (b : Bases) (file : List ℕ) → call form b file true ≡ load form b file
+unfolding call need
+call-right form b file = refl
+
+module _ {form : ℕ} {b : Bases} {file m p : List ℕ} where
+  -- a call that did what its load comes to
+  carried : {r : Outcome} {m′ p′ : List ℕ} → r ≡ reported (load form b file) .answer
+      → m′ ≡ memoryAfter (load form b file .answer) (load form b file .events) m
+      → p′ ≡ mapAfter (load form b file .answer) (load form b file .events)
+      → Loaded form b file true m p r m′ p′
+  unfolding call need pick
+  carried e em ep =
+      let few = load-few form b file in
+      record { outcome = e; memory = em; map = ep; placed-fits = rw e (few .placed); adjusted-fits = rw e (few .adjusted) }
+
+  -- and what a call with the right buffers did
+  pub loaded-right : {right : Bool} {r : Outcome} {m′ p′ : List ℕ} → right ≡ true → Loaded form b file right m p r m′ p′
+      → (r ≡ reported (load form b file) .answer)
+      × (m′ ≡ memoryAfter (load form b file .answer) (load form b file .events) m)
+      × (p′ ≡ mapAfter (load form b file .answer) (load form b file .events))
+  unfolding call need pick
+  loaded-right {right} {r} {m′} {p′} e d =
+      let c : Loaded form b file true m p r m′ p′ = subst (λ (t : Bool). Loaded form b file t m p r m′ p′) e d in
+      (c .outcome, c .memory, c .map)
+
+  module _ {r : Outcome} {m₁ p₁ : List ℕ} (d : Did Outcome (reported (load form b file)) false m blank r m₁ p₁) where
+    -- (memory was not written while the file was checked)
+    pub loaded-refused : {fault : Fault} {at side : ℕ} {p′ : List ℕ} → r ≡ Refused fault at side → p′ ≡ blank
+        → Loaded form b file true m p (Refused fault at side) m₁ p′
+    loaded-refused e ep =
+        let o = load form b file in
+        let k : isRefused (report (o .answer) (o .events)) ≡ true = ap isRefused (sym (d .answer) ∙ e) in
+        carried (sym e ∙ d .answer) (d .reached .memory ∙ sym (refused-memory (o .answer) (o .events) m k))
+        (ep ∙ sym (refused-map (o .answer) (o .events) k))
+
+    pub loaded-accepted : {start : Start} {i j k l : ℕ} {r₂ : Outcome} {m₂ p₂ : List ℕ} → r ≡ Accepted start i j k l
+        → Did Outcome (reported (load form b file)) true m₁ blank r₂ m₂ p₂
+        → Loaded form b file true m p r₂ m₂ p₂
+    loaded-accepted e d₂ =
+        let o = load form b file in
+        let k : isRefused (report (o .answer) (o .events)) ≡ false = ap isRefused (sym (d .answer) ∙ e) in
+        carried (d₂ .answer)
+        (d₂ .reached .memory ∙ ap (λ (t : List ℕ). play (o .events) t) (d .reached .memory) ∙ sym (accepted-memory (o .answer) (o .events) m k))
+        (d₂ .reached .map ∙ sym (accepted-map (o .answer) (o .events) k))
+
+  -- ---- whatever the buffers
+
+  -- "Refusal 1 changes nothing"
+  pub loaded-wrong : {right : Bool} {r : Outcome} → right ≡ false → r ≡ Refused WrongBuffer 0 0 → Loaded form b file right m p r m p
+  unfolding call need pick
+  loaded-wrong h e =
       record {
-        outcome = rw z (d .outcome);
-        memory = rw z (d .memory);
-        map = rw z (d .map);
-        placed-fits = rw (d .outcome) (few .placed);
-        adjusted-fits = rw (d .outcome) (few .adjusted);
+        outcome = rw (h, e) refl;
+        memory = rw h refl;
+        map = rw h refl;
+        placed-fits = rw e (omega arith);
+        adjusted-fits = rw e (omega arith);
       }
+
+  pub loaded-memory : {r : Outcome} → (length m ≡ 65536 → ⊥) → r ≡ Refused WrongBuffer 0 0 → Loaded form b file (sized m p) m p r m p
+  loaded-memory h e = loaded-wrong (rw (ne-eqb _ _ h) refl) e
+
+  pub loaded-map : {r : Outcome} → length m ≡ 65536 → (length p ≡ 65536 → ⊥) → r ≡ Refused WrongBuffer 0 0
+      → Loaded form b file (sized m p) m p r m p
+  loaded-map g h e = loaded-wrong (rw (eq-eqb _ _ g, ne-eqb _ _ h) refl) e
+
+  pub loaded-sized : {r : Outcome} {m′ p′ : List ℕ} → length m ≡ 65536 → length p ≡ 65536 → Loaded form b file true m p r m′ p′
+      → Loaded form b file (sized m p) m p r m′ p′
+  loaded-sized g h d = rw (eq-eqb _ _ g, eq-eqb _ _ h) d

@@ -26,10 +26,11 @@ use Rattle.words.proofs.Runs.{length-part}
 use Rattle.words.specs.Runs.{part}
 use Rattle.acx.proofs.Standing.{Stands, stands-first, stands-on, placed-after, adjusted-after}
 use Rattle.acx.proofs.Walking.{nextOf, piecesAfter, Onward, onward, from-step, from-onward, refused-accepted, accepted-pieces}
-use Rattle.acx.specs.Cursor.{begun, EndsBy, advanced}
-use Rattle.acx.specs.Pieces.{Piece, events}
+use Rattle.acx.specs.Cursor.{begun, advanced}
+use Rattle.pieces.specs.AtBases.{EndsBy}
+use Rattle.pieces.specs.Pieces.{Piece, events}
 use Rattle.acx.specs.Walk.{Verdict, accepted, lastOf, lastPlace, lastSize, recordAt, checked, withFields, judge, from}
-use Rattle.acx.specs.declared.Bases.{Bases}
+use Rattle.pieces.specs.declared.Bases.{Bases}
 use Rattle.acx.specs.declared.Cursor.{Cursor}
 
 -- ---- the cursor
@@ -79,11 +80,12 @@ advanced-at b c (Fixups fixup from n) o = refl
 advanced-at b c (End entry next) o = absurd o
 advanced-at b c (Faulty fault) o = absurd o
 
-ends-by : (len at : ℕ) (r : Record) → Where len at r → len ≤ 65536 → EndsBy 65536 r
-ends-by len at (Code kind address from n) w l = omega (arith, w .1)
-ends-by len at (Fixups fixup from n) w l = omega (arith, w .1)
-ends-by len at (End entry next) w l = omega (arith, w .1)
-ends-by len at (Faulty fault) w l = tt
+-- a record that is read lies in its file
+ends-by : (len at limit : ℕ) (r : Record) → Where len at r → len ≤ limit → EndsBy limit r
+ends-by len at limit (Code kind address from n) w l = omega (arith, w .1)
+ends-by len at limit (Fixups fixup from n) w l = omega (arith, w .1)
+ends-by len at limit (End entry next) w l = omega (arith, w .1)
+ends-by len at limit (Faulty fault) w l = tt
 
 -- a record that is read and not the end (whose tag is 2), nor a fault, is code or fixups
 pub onward-by-tag : (r : Record) → OneOf (0 ∷ 1 ∷ 3 ∷ []) (tagOf the-type r) → ((fault : Fault) → r ≡ Faulty fault → ⊥) → Onward r
@@ -139,8 +141,9 @@ module _ {file : List ℕ} {b : Bases} {first : ℕ} where
       pub came-further : Onward found → c .at + 2 ≤ advanced b c found .at
       came-further o = rw (advanced-at b c found o) (onward (length file) (c .at) found (lies-as file (c .at) (lastOf ps) found is) o .0)
 
-      pub came-ends-by : length file ≤ 65536 → EndsBy 65536 found
-      came-ends-by l = ends-by (length file) (c .at) found (lies-as file (c .at) (lastOf ps) found is) l
+      -- the record lies in the file
+      pub came-ends-by : (limit : ℕ) → length file ≤ limit → EndsBy limit found
+      came-ends-by limit l = ends-by (length file) (c .at) limit found (lies-as file (c .at) (lastOf ps) found is) l
 
     -- ---- in a file that is accepted
 

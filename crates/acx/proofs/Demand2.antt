@@ -1,11 +1,11 @@
 -- Demand 2 for ACX files, as specs/Demand2.antt states it.
 -- Assumes nothing.
-use mathlib.Core.Bool.{Bool, true, false, false≢true}
+use mathlib.Core.Bool.{Bool, true, false, _&&_, false≢true}
 use mathlib.Core.List.{List, [], _∷_}
 use mathlib.Core.Path.{_≡_, refl, sym, ap, _∙_}
 use Prim.Native.Nat.{ℕ, _≤_}
 use native.Mathlib.Omega.{arith}
-use borrow.Author.Tests.{le-leb, leb-true, eq-eqb, eqb-true}
+use borrow.Author.Tests.{le-leb, eq-eqb, eqb-true}
 use lib.Dec.{eqb}
 use lib.ListN.{length, getD}
 use Rattle.answer.proofs.Checks.{and-true}
@@ -13,22 +13,24 @@ use Rattle.answer.proofs.Outcomes.{isRefused}
 use Rattle.answer.specs.Checks.{need}
 use Rattle.answer.specs.Report.{placedOf, adjustedOf}
 use Rattle.answer.specs.declared.Fault.{Fault}
+use Rattle.answer.specs.declared.Fault.the-variants.{WrongBuffer}
 use Rattle.answer.specs.declared.Outcome.{Outcome}
 use Rattle.answer.specs.declared.Outcome.the-variants.{Accepted, Refused}
 use Rattle.answer.specs.declared.Start.{Start}
 use Rattle.answer.specs.declared.Start.the-variants.{Absent}
 use Rattle.events.proofs.Events.{placed-append, adjusted-append, length-blank, blank-at}
 use Rattle.events.specs.Events.{Event, place, play, marks, blank, placedIn, adjustedIn, Ran}
+use Rattle.acx.proofs.Calling.{load-follows, loaded-right}
 use Rattle.acx.proofs.Handlers.{fits-memory, handled}
-use Rattle.acx.proofs.Loads.{laid, play-laid, laid-outside, laid-plain, laid-fields}
-use Rattle.acx.proofs.Marks.{marks-outside, marks-plain, marks-fields}
-use Rattle.acx.proofs.PieceEvents.{placed-adjustments, adjusted-adjustments}
+use Rattle.pieces.proofs.Loads.{laid, play-laid, laid-outside, laid-plain, laid-fields}
+use Rattle.pieces.proofs.Marks.{marks-outside, marks-plain, marks-fields}
+use Rattle.pieces.proofs.PieceEvents.{placed-adjustments, adjusted-adjustments}
 use Rattle.acx.proofs.Standing.{Stands}
-use Rattle.acx.specs.Call.{formOf, Settings, basesOf, load, call, memoryAfter, mapAfter, Loaded}
-use Rattle.acx.specs.Demand2.{total, Handler, Demand2, Asked, AcceptedCall}
-use Rattle.acx.specs.Pieces.{Piece, size, placeOf, adjustments, events}
+use Rattle.acx.specs.Call.{formOf, inRange, sized, load, call, memoryAfter, mapAfter, Loaded}
+use Rattle.acx.specs.Demand2.{total, Handler, Demand2, Asked, AcceptedCall, Claim}
+use Rattle.pieces.specs.Pieces.{Piece, size, placeOf, adjustments, events}
 use Rattle.acx.specs.Walk.{Verdict, accepted, refused, atOnce, judged, report, reported}
-use Rattle.acx.specs.declared.Bases.{Bases}
+use Rattle.pieces.specs.declared.Bases.{Bases}
 use Rattle.acx.specs.declared.Form.{Form}
 
 -- the pieces of an accepted file make a handler
@@ -88,71 +90,82 @@ startIn (Accepted start placed adjusted names low) = start
 startIn (Refused fault offset side) = Absent
 
 -- an outcome that is accepted held its check
-need-accepted : (c : Bool) (fault : Fault) (o : Ran Verdict) → isRefused (reported (need atOnce c fault o) .answer) ≡ false
-    → (c ≡ true) × (need atOnce c fault o ≡ o) × (isRefused (reported o .answer) ≡ false)
+need-held : (c : Bool) (fault : Fault) (o : Ran Verdict) → isRefused (reported (need atOnce c fault o) .answer) ≡ false → c ≡ true
 unfolding need
-need-accepted true fault o e = (refl, refl, e)
-need-accepted false fault o e = absurd (false≢true (sym e))
+need-held true fault o e = refl
+need-held false fault o e = absurd (false≢true (sym e))
 
--- so it is what the file came to
-call-judged : (s : Settings) (file m p : List ℕ) → isRefused (reported (call s file m p) .answer) ≡ false
-    → Asked s file m p × (call s file m p ≡ judged (formOf (s .form)) file (basesOf s))
-unfolding call load
-call-judged s file m p e =
-    let x = need-accepted _ _ _ e in
-    let y = need-accepted _ _ _ (x .2) in
-    let z = need-accepted _ _ _ (y .2) in
-    let b = and-true (eqb (length m) 65536) (eqb (length p) 65536) (x .0) in
-    (record { memory = eqb-true _ _ (b .0); map = eqb-true _ _ (b .1); settings = y .0; fits = leb-true _ _ (z .0) }, x .1 ∙ y .1 ∙ z .1)
+-- what the right lengths are
+pub right-lengths : (x : Bool) (m p : List ℕ) → x && sized m p ≡ true → (x ≡ true) × (length m ≡ 65536) × (length p ≡ 65536)
+right-lengths x m p e =
+    let y = and-true x (sized m p) e in
+    let z = and-true (eqb (length m) 65536) (eqb (length p) 65536) (y .1) in
+    (y .0, eqb-true _ _ (z .0), eqb-true _ _ (z .1))
 
--- a call as asked comes to what the file comes to
-pub asked-judged : (s : Settings) (file m p : List ℕ) → Asked s file m p → call s file m p ≡ judged (formOf (s .form)) file (basesOf s)
-unfolding call load need
-asked-judged s file m p a = rw (eq-eqb _ _ (a .memory), eq-eqb _ _ (a .map), a .settings, le-leb _ _ (a .fits)) refl
+-- a load with settings and a length as asked comes to what the file comes to
+asked-judged : (form : ℕ) (b : Bases) (file : List ℕ) → inRange form b ≡ true → length file ≤ 65536
+    → load form b file ≡ judged (formOf form) file b
+unfolding load need
+asked-judged form b file h k = rw (h, le-leb _ _ k) refl
 
--- Demand 2, of every accepted call
-pub call-demand2 : (s : Settings) (file m p : List ℕ) (r : Outcome) (m′ p′ : List ℕ) → Loaded s file m p r m′ p′
-    → (start : Start) (placed adjusted names low : ℕ)
-    → r ≡ Accepted start placed adjusted names low → AcceptedCall s file m p start placed adjusted m′ p′
-call-demand2 s file m p r m′ p′ d start placed adjusted names low e =
-    let o : Accepted start placed adjusted names low ≡ reported (call s file m p) .answer = sym e ∙ d .outcome in
-    let x = call-judged s file m p (ap isRefused (sym o)) in
-    by (judged (formOf (s .form)) file (basesOf s) .answer) refl (x .0) (x .1) (o ∙ ap (λ (k : Ran Verdict). reported k .answer) (x .1))
-  where
-    by : (v : Verdict) → judged (formOf (s .form)) file (basesOf s) .answer ≡ v → Asked s file m p
-        → call s file m p ≡ judged (formOf (s .form)) file (basesOf s)
-        → Accepted start placed adjusted names low ≡ report v (judged (formOf (s .form)) file (basesOf s) .events)
-        → AcceptedCall s file m p start placed adjusted m′ p′
-    by (refused fault at) f a c o = absurd (false≢true (ap isRefused o))
-    by (accepted ps begin) f a c o =
-        let k = judged (formOf (s .form)) file (basesOf s) in
-        let em : m′ ≡ play (k .events) m = d .memory ∙ ap (λ (q : Ran Verdict). memoryAfter (q .answer) (q .events) m) c
-        ∙ ap (λ (v : Verdict). memoryAfter v (k .events) m) f in
-        let ep : p′ ≡ marks (k .events) blank =
-        d .map
-        ∙ rw (eq-eqb _ _ (a .memory), eq-eqb _ _ (a .map))
-        (ap (λ (q : Ran Verdict). mapAfter (q .answer) (q .events)) c ∙ ap (λ (v : Verdict). mapAfter v (k .events)) f) in
-        let en : placed ≡ placedIn (k .events) = ap placedOf o in
-        let ea : adjusted ≡ adjustedIn (k .events) = ap adjustedOf o in
-        record {
-          asked = a;
-          pieces = ps;
-          follows = f ∙ ap (accepted ps) (sym (ap startIn o));
-          leaves = rw (em, ep, en, ea) (demand2 (formOf (s .form)) file (basesOf s) ps begin f m (a .memory));
-        }
+module _ (form : ℕ) (b : Bases) (file : List ℕ) (x : Bool) (m p : List ℕ) (r : Outcome) (m′ p′ : List ℕ)
+    (d : Loaded form b file (x && sized m p) m p r m′ p′) where
+  -- an acceptance had buffers of the right lengths
+  held : isRefused r ≡ false → x && sized m p ≡ true
+  unfolding call
+  held e = need-held (x && sized m p) WrongBuffer (load form b file) (ap isRefused (sym (d .outcome)) ∙ e)
 
--- a call as asked accepts every file that the rules accept, with its start and counts
-pub call-accepts : (s : Settings) (file m p : List ℕ) (r : Outcome) (m′ p′ : List ℕ) → Loaded s file m p r m′ p′ → Asked s file m p
-    → (ps : List Piece) (start : Start)
-    → judged (formOf (s .form)) file (basesOf s) .answer ≡ accepted ps start
-    → r ≡ Accepted start (total size ps) (total (λ p. length (p .fields)) ps) 0 0
-call-accepts s file m p r m′ p′ d a ps start e =
-    let b = basesOf s in
-    let o = judged (formOf (s .form)) file b in
-    let x = handled file b (formOf (s .form)) ps start e in
-    d .outcome
-    ∙ ap (λ (k : Ran Verdict). reported k .answer) (asked-judged s file m p a)
-    ∙ ap (λ (v : Verdict). report v (o .events)) e
-    ∙ ap (λ (es : List Event). report (accepted ps start) es) (x .3)
-    ∙ ap (λ (n : ℕ). Accepted start n (adjustedIn (events b ps)) 0 0) (placed-total b ps)
-    ∙ ap (λ (n : ℕ). Accepted start (total size ps) n 0 0) (adjusted-total b ps)
+  -- an acceptance leaves what demand 2 says
+  call-demand2 : (start : Start) (placed adjusted names low : ℕ) → r ≡ Accepted start placed adjusted names low
+      → AcceptedCall form b file x m p start placed adjusted m′ p′
+  call-demand2 start placed adjusted names low e =
+      let t = held (ap isRefused e) in
+      let l = loaded-right t d in
+      by (right-lengths x m p t) (l .1) (l .2) (sym e ∙ l .0) (load form b file .answer) refl
+    where
+      o : Ran Verdict
+      o = load form b file
+
+      by : (x ≡ true) × (length m ≡ 65536) × (length p ≡ 65536)
+          → m′ ≡ memoryAfter (o .answer) (o .events) m
+          → p′ ≡ mapAfter (o .answer) (o .events)
+          → Accepted start placed adjusted names low ≡ reported o .answer
+          → (v : Verdict) → o .answer ≡ v
+          → AcceptedCall form b file x m p start placed adjusted m′ p′
+      by n em ep eo (refused fault at) f = absurd (false≢true (ap isRefused (eo ∙ ap (λ (v : Verdict). report v (o .events)) f)))
+      by n em ep eo (accepted ps begin) f =
+          let k = judged (formOf form) file b in
+          let w = load-follows form b file ps begin f in
+          let g : k .answer ≡ accepted ps begin = ap (λ (q : Ran Verdict). q .answer) (sym (w .by-rules)) ∙ f in
+          let em′ : m′ ≡ play (k .events) m = em ∙ ap (λ (v : Verdict). memoryAfter v (o .events) m) f
+          ∙ ap (λ (q : Ran Verdict). play (q .events) m) (w .by-rules) in
+          let ep′ : p′ ≡ marks (k .events) blank = ep ∙ ap (λ (v : Verdict). mapAfter v (o .events)) f
+          ∙ ap (λ (q : Ran Verdict). marks (q .events) blank) (w .by-rules) in
+          let eo′ : Accepted start placed adjusted names low ≡ report (accepted ps begin) (k .events) =
+          eo ∙ ap (λ (v : Verdict). report v (o .events)) f ∙ ap (λ (q : Ran Verdict). report (accepted ps begin) (q .events)) (w .by-rules) in
+          let en : placed ≡ placedIn (k .events) = ap placedOf eo′ in
+          let ea : adjusted ≡ adjustedIn (k .events) = ap adjustedOf eo′ in
+          record {
+            asked = record { answer = n .0; memory = n .1; map = n .2; settings = w .range; fits = w .fits };
+            pieces = ps;
+            follows = g ∙ ap (accepted ps) (sym (ap startIn eo′));
+            leaves = rw (em′, ep′, en, ea) (demand2 (formOf form) file b ps begin g m (n .1));
+          }
+
+  -- a call as asked accepts every file that the rules accept, with its start and counts
+  call-accepts : Asked form b file x m p → (ps : List Piece) (start : Start) → judged (formOf form) file b .answer ≡ accepted ps start
+      → r ≡ Accepted start (total size ps) (total (λ p. length (p .fields)) ps) 0 0
+  call-accepts a ps start e =
+      let o = judged (formOf form) file b in
+      let t : x && sized m p ≡ true = rw (a .answer, eq-eqb _ _ (a .memory), eq-eqb _ _ (a .map)) refl in
+      let h = handled file b (formOf form) ps start e in
+      loaded-right t d .0
+      ∙ ap (λ (k : Ran Verdict). reported k .answer) (asked-judged form b file (a .settings) (a .fits))
+      ∙ ap (λ (v : Verdict). report v (o .events)) e
+      ∙ ap (λ (es : List Event). report (accepted ps start) es) (h .3)
+      ∙ ap (λ (n : ℕ). Accepted start n (adjustedIn (events b ps)) 0 0) (placed-total b ps)
+      ∙ ap (λ (n : ℕ). Accepted start (total size ps) n 0 0) (adjusted-total b ps)
+
+-- "a file is accepted exactly if it follows the .. ACX rules of document 01 and fits"
+pub accepted-exactly : Claim
+accepted-exactly form b file x m p r m′ p′ d = (call-demand2 form b file x m p r m′ p′ d, call-accepts form b file x m p r m′ p′ d)

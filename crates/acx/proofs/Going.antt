@@ -21,15 +21,15 @@ use Rattle.records.specs.Records.{read}
 use Rattle.records.specs.declared.Entry.{Entry}
 use Rattle.records.specs.declared.Record.{Record}
 use Rattle.records.specs.declared.Record.the-variants.{End}
-use Rattle.acx.proofs.Checks.{failed-passed, need-passed}
+use Rattle.pieces.proofs.Checks.{failed-passed, need-passed}
 use Rattle.acx.proofs.Cursors.{Came, came-first, came-found, came-on, came-further, came-ends-by, onward-by-tag}
 use Rattle.acx.proofs.Standing.{events-after}
 use Rattle.acx.proofs.Walking.{piecesAfter, Onward, from-step, end-none}
-use Rattle.acx.specs.AtBases.{startOf, ending, applied}
-use Rattle.acx.specs.Cursor.{begun, EndsBy, advanced}
-use Rattle.acx.specs.Pieces.{Piece, events}
+use Rattle.pieces.specs.AtBases.{startOf, ending, applied, EndsBy}
+use Rattle.acx.specs.Cursor.{begun, advanced}
+use Rattle.pieces.specs.Pieces.{Piece, events}
 use Rattle.acx.specs.Walk.{Verdict, accepted, lastSize, recordAt, checked, judge, from, reported}
-use Rattle.acx.specs.declared.Bases.{Bases}
+use Rattle.pieces.specs.declared.Bases.{Bases}
 use Rattle.acx.specs.declared.Cursor.{Cursor}
 
 -- ---- a turn of the loop
@@ -81,7 +81,7 @@ module _ {file : List ℕ} {b : Bases} {first : ℕ} {write : Bool} {m₀ : List
       going-fails e =
           let go : ℕ → List Piece → Ran Verdict = λ e qs. from file b e qs in
           let o = one ∙ ap (λ (k : Check). judge go file b (c .at) (x .pieces) (checked file b (c .at) (x .pieces) .events) k found) e in
-          rw o (record { answer = refl; memory = now .memory; map = now .map })
+          rw o (record { answer = refl; reached = now })
 
       -- the start of an end record that passed is an address
       pub going-start : {entry : Entry} {next : ℕ} → r ≡ Passed → found ≡ End entry next → address (startOf b entry) ≤ 65535
@@ -105,7 +105,7 @@ module _ {file : List ℕ} {b : Bases} {first : ℕ} {write : Bool} {m₀ : List
           ∙ append-nil (events b ps) in
           let pl : c .placed ≡ placedIn es = ap (λ (k : Cursor). k .placed) (x .came .here) ∙ ap placedIn (sym z) in
           let ad : c .adjusted ≡ adjustedIn es = ap (λ (k : Cursor). k .adjusted) (x .came .here) ∙ ap adjustedIn (sym z) in
-          rw (o, pl, ad) (record { answer = refl; memory = now .memory; map = now .map })
+          rw (o, pl, ad) (record { answer = refl; reached = now })
 
       pub going-on : r ≡ Passed → Onward found → Going file b first write m₀ (advanced b c found) m′ p′
       going-on e o =
@@ -121,7 +121,7 @@ module _ {file : List ℕ} {b : Bases} {first : ℕ} {write : Bool} {m₀ : List
       going-further o = came-further (x .came) found-is o
 
       pub going-ends-by : length file ≤ 65536 → EndsBy 65536 found
-      going-ends-by l = came-ends-by (x .came) found-is l
+      going-ends-by l = came-ends-by (x .came) found-is 65536 l
 
       -- a record that passed and is not the end leads onward
       pub going-onward : r ≡ Passed → OneOf (0 ∷ 1 ∷ 3 ∷ []) (tagOf the-type found) → Onward found

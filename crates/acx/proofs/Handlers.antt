@@ -19,16 +19,17 @@ use Rattle.records.specs.declared.Record.{Record}
 use Rattle.records.specs.declared.Record.the-variants.{Code, Fixups, End, Faulty}
 use Rattle.words.proofs.Runs.{length-part}
 use Rattle.words.specs.Runs.{part}
-use Rattle.acx.proofs.Checks.{placing-passed}
-use Rattle.acx.proofs.Loads.{Fits}
-use Rattle.acx.proofs.Marks.{marks-fields, marks-some, code-apart, fields-fresh}
-use Rattle.acx.proofs.Standing.{limit-le, code-passed, fixups-passed, Stands, stands-first, stands-on}
+use Rattle.pieces.proofs.Checks.{placing-passed, limit-le}
+use Rattle.pieces.proofs.Loads.{Fits}
+use Rattle.pieces.proofs.Marks.{marks-fields, marks-some, code-apart, fields-fresh}
+use Rattle.acx.proofs.Standing.{code-passed, fixups-passed, Stands, stands-first, stands-on}
 use Rattle.acx.proofs.Walking.{piecesAfter, Onward, accepted-keeps}
-use Rattle.acx.specs.AtBases.{adjusting}
-use Rattle.acx.specs.Demand2.{FieldsApart, Handler, Inside}
-use Rattle.acx.specs.Pieces.{Piece, size, placeOf, limitOf, events}
+use Rattle.pieces.specs.AtBases.{adjusting}
+use Rattle.pieces.specs.Places.{FieldsApart, Inside}
+use Rattle.acx.specs.Demand2.{Handler}
+use Rattle.pieces.specs.Pieces.{Piece, size, placeOf, limitOf, events}
 use Rattle.acx.specs.Walk.{accepted, lastOf, lastPlace, lastSize, recordAt, checked, withFields, openingSize, judged}
-use Rattle.acx.specs.declared.Bases.{Bases}
+use Rattle.pieces.specs.declared.Bases.{Bases}
 use Rattle.acx.specs.declared.Form.{Form}
 
 -- pieces below their limits lie in memory

@@ -1,6 +1,6 @@
 -- Where a walk can stand: what was placed and adjusted is in the bytes behind it, and the last code record lies in memory.
 -- Assumes nothing.
-use mathlib.Core.List.{List, [], _∷_, _++_}
+use mathlib.Core.List.{List, [], _∷_, _++_, append-assoc}
 use mathlib.Core.Path.{_≡_, refl, sym, ap, _∙_}
 use Prim.Native.Nat.{ℕ, _+_, _≤_}
 use native.Mathlib.Omega.{arith}
@@ -14,23 +14,17 @@ use Rattle.records.specs.Fields.{fieldsOf}
 use Rattle.records.specs.declared.Field.{Field}
 use Rattle.records.specs.declared.Fixup.{Fixup}
 use Rattle.records.specs.declared.Kind.{Kind}
-use Rattle.records.specs.declared.Kind.the-variants.{Main, ZeroPage, Absolute}
 use Rattle.records.specs.declared.Record.{Record}
 use Rattle.records.specs.declared.Record.the-variants.{Code, Fixups, End, Faulty}
 use Rattle.words.proofs.Runs.{length-part}
 use Rattle.words.specs.Runs.{part}
-use Rattle.acx.proofs.Checks.{placing-passed, adjusting-all}
-use Rattle.acx.proofs.PieceEvents.{events-code, events-fields, placed-adjustments, adjusted-adjustments}
+use Rattle.pieces.proofs.Checks.{limit-le, placing-passed, adjusting-all}
+use Rattle.pieces.proofs.PieceEvents.{adjustments-append, events-code, placed-adjustments, adjusted-adjustments}
 use Rattle.acx.proofs.Walking.{nextOf, piecesAfter, Onward}
-use Rattle.acx.specs.AtBases.{placing, adjusting, applied}
-use Rattle.acx.specs.Pieces.{Piece, placeAt, placeOf, limitOf, adjustments, events}
+use Rattle.pieces.specs.AtBases.{placing, adjusting, applied}
+use Rattle.pieces.specs.Pieces.{Piece, placeAt, placeOf, limitOf, adjustments, events}
 use Rattle.acx.specs.Walk.{lastOf, lastPlace, lastSize, recordAt, checked, withFields}
-use Rattle.acx.specs.declared.Bases.{Bases}
-
-pub limit-le : (kind : Kind) → limitOf kind ≤ 65536
-limit-le Main = omega arith
-limit-le ZeroPage = omega arith
-limit-le Absolute = omega arith
+use Rattle.pieces.specs.declared.Bases.{Bases}
 
 -- ---- a record that passed, in terms of the pieces before it
 
@@ -57,6 +51,14 @@ module _ (file : List ℕ) (b : Bases) (at : ℕ) (ps : List Piece) where
       ≡ adjusting b (lastPlace b ps) (lastSize ps) (fieldsOf fixup (part file from n)) (marks (events b ps) blank) .events
   unfolding checked applied
   fixups-events fixup from n e = rw e refl
+
+-- fields more: they are adjusted
+events-fields : (b : Bases) (fs : List Field) (p : Piece) (ps : List Piece)
+    → events b (withFields fs (p ∷ ps)) ≡ events b (p ∷ ps) ++ adjustments b (placeOf b p) fs
+unfolding events
+events-fields b fs p ps =
+    ap (λ (es : List Event). events b ps ++ (place (placeOf b p) (p .code) ∷ es)) (adjustments-append b (placeOf b p) (p .fields) fs)
+    ∙ sym (append-assoc (events b ps) (place (placeOf b p) (p .code) ∷ adjustments b (placeOf b p) (p .fields)) (adjustments b (placeOf b p) fs))
 
 -- fixups stand after a piece
 pub fields-events : (b : Bases) (fs : List Field) (ps : List Piece) → Moving (lastOf ps)

@@ -22,12 +22,12 @@ use Rattle.records.specs.declared.Entry.{Entry}
 use Rattle.records.specs.declared.Record.{Record}
 use Rattle.records.specs.declared.Record.the-variants.{Code, Fixups, End, Faulty}
 use Rattle.words.specs.Runs.{part}
-use Rattle.acx.proofs.Applying.{ending-none}
-use Rattle.acx.proofs.Checks.{failed-passed}
-use Rattle.acx.specs.AtBases.{applied}
-use Rattle.acx.specs.Pieces.{Piece, events}
+use Rattle.pieces.proofs.Applying.{ending-none}
+use Rattle.pieces.proofs.Checks.{failed-passed}
+use Rattle.pieces.specs.AtBases.{applied}
+use Rattle.pieces.specs.Pieces.{Piece, events}
 use Rattle.acx.specs.Walk.{Verdict, accepted, refused, lastOf, recordAt, checked, withFields, judge, walk, from, opening, openingSize, opened, judged}
-use Rattle.acx.specs.declared.Bases.{Bases}
+use Rattle.pieces.specs.declared.Bases.{Bases}
 use Rattle.acx.specs.declared.Form.{Form}
 use Rattle.acx.specs.declared.Form.the-variants.{Disk, Device}
 

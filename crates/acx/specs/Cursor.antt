@@ -1,24 +1,17 @@
 -- The cursor, in which the program keeps where its walk stands. Only the contracts of `begin` and `advance` cite this.
 -- Assumes nothing.
-use Prim.Native.Nat.{ℕ, _+_, _/_, _≤_}
+use Prim.Native.Nat.{ℕ, _+_, _/_}
 use Rattle.records.specs.Fields.{itemSize}
 use Rattle.records.specs.declared.Last.the-variants.{Nothing, Of}
 use Rattle.records.specs.declared.Record.{Record}
 use Rattle.records.specs.declared.Record.the-variants.{Code, Fixups, End, Faulty}
-use Rattle.acx.specs.Pieces.{placeAt}
-use Rattle.acx.specs.declared.Bases.{Bases}
+use Rattle.pieces.specs.Pieces.{placeAt}
+use Rattle.pieces.specs.declared.Bases.{Bases}
 use Rattle.acx.specs.declared.Cursor.{Cursor}
 
 -- the cursor before the first record
 abbrev pub begun : ℕ → Cursor
 begun at = record { at = at; last = Nothing; place = 0; size = 0; placed = 0; adjusted = 0 }
-
--- a record lies below an offset
-abbrev pub EndsBy : ℕ → Record → Type 0
-EndsBy offset (Code kind address from n) = from + n ≤ offset
-EndsBy offset (Fixups fixup from n) = from + n ≤ offset
-EndsBy offset (End entry next) = next ≤ offset
-EndsBy offset (Faulty fault) = Unit {0}
 
 -- the cursor after a record that passed
 abbrev pub advanced : Bases → Cursor → Record → Cursor

@@ -1,38 +1,24 @@
--- Demand 2 for ACX files, sentence by sentence: what a load leaves where it accepts. Proved in proofs/Demand2.antt of the definition
--- (`demand2`), of every file, every pair of bases and every memory, and of every call that keeps the loader's contract (`call-demand2`).
+-- Demand 2 for ACX files, sentence by sentence: what a load leaves where it accepts, and that it accepts what the rules accept. Proved in
+-- proofs/Demand2.antt: `demand2` of the definition, of every file, every pair of bases and every memory; `accepted-exactly : Claim` of every
+-- call that keeps the loader's contract.
 -- Assumes nothing.
-use mathlib.Core.Bool.{true}
+use mathlib.Core.Bool.{Bool, true, _&&_}
 use mathlib.Core.List.{List, [], _∷_}
 use mathlib.Core.Path.{_≡_}
 use Prim.Native.Nat.{ℕ, _+_, _≤_, _<_}
 use lib.ListN.{length, getD}
+use Rattle.answer.specs.declared.Outcome.{Outcome}
+use Rattle.answer.specs.declared.Outcome.the-variants.{Accepted}
 use Rattle.answer.specs.declared.Start.{Start}
 use Rattle.events.specs.Lists.{Each, Pairwise}
-use Rattle.records.specs.declared.Field.{Field}
+use Rattle.events.specs.Sizes.{memorySize, fileLimit}
 use Rattle.words.specs.Numbers.{value, on}
-use Rattle.words.specs.Runs.{Within, Apart, part}
-use Rattle.acx.specs.Call.{formOf, Settings, inRange, basesOf}
-use Rattle.acx.specs.Pieces.{Piece, size, placeOf, limitOf, width, amountOf}
+use Rattle.words.specs.Runs.{part}
+use Rattle.acx.specs.Call.{formOf, inRange, sized, Loaded}
+use Rattle.pieces.specs.Places.{Placed, In, Inside, PiecesApart, FieldsApart}
+use Rattle.pieces.specs.Pieces.{Piece, size, placeOf, limitOf, width, amountOf}
 use Rattle.acx.specs.Walk.{accepted, judged}
-use Rattle.acx.specs.declared.Bases.{Bases}
-
--- the address is one of the piece's places: "a byte's place is its record's place plus its index among the code bytes"
-abbrev pub Placed : Bases → ℕ → Piece → Type 0
-Placed b x p = Within (placeOf b p) (size p) x
-
--- byte j of the code is in the field
-abbrev pub In : ℕ → Field → Type 0
-In j f = Within (f .index) (width f) j
-
--- the field lies in n code bytes
-abbrev pub Inside : ℕ → Field → Type 0
-Inside n f = f .index + width f ≤ n
-
-abbrev pub PiecesApart : Bases → Piece → Piece → Type 0
-PiecesApart b p q = Apart (placeOf b p) (size p) (placeOf b q) (size q)
-
-abbrev pub FieldsApart : Field → Field → Type 0
-FieldsApart f g = Apart (f .index) (width f) (g .index) (width g)
+use Rattle.pieces.specs.declared.Bases.{Bases}
 
 -- The pieces of an accepted file.
 pub record Handler (file : List ℕ) (b : Bases) (ps : List Piece) : Type 0 where
@@ -72,17 +58,30 @@ pub record Demand2 (file : List ℕ) (b : Bases) (ps : List Piece) (m m′ p′ 
   pub placed-fits : placed ≤ length file
   pub adjusted-fits : adjusted ≤ length file
 
--- "settings and buffers as document 01 asks"
-pub record Asked (s : Settings) (file m p : List ℕ) : Type 0 where
-  pub memory : length m ≡ 65536
-  pub map : length p ≡ 65536
-  pub settings : inRange s ≡ true
-  pub fits : length file ≤ 65536
+-- "settings and buffers as document 01 asks" (a call that lends no C answer has nothing wrong there)
+pub record Asked (form : ℕ) (b : Bases) (file : List ℕ) (answerSized : Bool) (m p : List ℕ) : Type 0 where
+  pub answer : answerSized ≡ true
+  pub memory : length m ≡ memorySize
+  pub map : length p ≡ memorySize
+  pub settings : inRange form b ≡ true
+  pub fits : length file ≤ fileLimit
 
--- A call that was accepted: "a file is accepted exactly if it follows the .. ACX rules of document 01 and fits". (`call-demand2`: an
--- acceptance is one of these; `call-accepts`: every file that is accepted by the rules is accepted by the call.)
-pub record AcceptedCall (s : Settings) (file m p : List ℕ) (start : Start) (placed adjusted : ℕ) (m′ p′ : List ℕ) : Type 0 where
-  pub asked : Asked s file m p
+-- A call that was accepted.
+pub record AcceptedCall (form : ℕ) (b : Bases) (file : List ℕ) (answerSized : Bool) (m p : List ℕ) (start : Start) (placed adjusted : ℕ)
+    (m′ p′ : List ℕ) : Type 0 where
+  pub asked : Asked form b file answerSized m p
   pub pieces : List Piece
-  pub follows : judged (formOf (s .form)) file (basesOf s) .answer ≡ accepted pieces start
-  pub leaves : Demand2 file (basesOf s) pieces m m′ p′ placed adjusted
+  pub follows : judged (formOf form) file b .answer ≡ accepted pieces start
+  pub leaves : Demand2 file b pieces m m′ p′ placed adjusted
+
+-- "With settings and buffers as document 01 asks, a file is accepted exactly if it follows the .. ACX rules of document 01 and fits": of every
+-- call that keeps the loader's contract. An acceptance is of a call as asked and of a file that the rules accept, and leaves what demand 2
+-- says; and of a call as asked, every file that the rules accept is accepted, with its start and the counts of its pieces.
+abbrev pub Claim : Type 0
+Claim =
+    (form : ℕ) (b : Bases) (file : List ℕ) (answerSized : Bool) (m p : List ℕ) (r : Outcome) (m′ p′ : List ℕ)
+    → Loaded form b file (answerSized && sized m p) m p r m′ p′
+    → ((start : Start) (placed adjusted names low : ℕ) → r ≡ Accepted start placed adjusted names low
+    → AcceptedCall form b file answerSized m p start placed adjusted m′ p′)
+    × (Asked form b file answerSized m p → (ps : List Piece) (start : Start) → judged (formOf form) file b .answer ≡ accepted ps start
+    → r ≡ Accepted start (total size ps) (total (λ p. length (p .fields)) ps) 0 0)

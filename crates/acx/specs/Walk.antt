@@ -24,9 +24,9 @@ use Rattle.records.specs.declared.Record.{Record}
 use Rattle.records.specs.declared.Record.the-variants.{Code, Fixups, End, Faulty}
 use Rattle.words.specs.Numbers.{value}
 use Rattle.words.specs.Runs.{part}
-use Rattle.acx.specs.AtBases.{startOf, applied}
-use Rattle.acx.specs.Pieces.{Piece, size, placeOf, events}
-use Rattle.acx.specs.declared.Bases.{Bases}
+use Rattle.pieces.specs.AtBases.{startOf, applied}
+use Rattle.pieces.specs.Pieces.{Piece, size, placeOf, events}
+use Rattle.pieces.specs.declared.Bases.{Bases}
 use Rattle.acx.specs.declared.Form.{Form}
 use Rattle.acx.specs.declared.Form.the-variants.{Disk, Device}
 

@@ -5,39 +5,26 @@ use answer::Fault;
 use answer::Outcome;
 use answer::Start;
 use events::Check;
+use pieces::Bases;
 use records::Entry;
-use records::Field;
-use records::Fixup;
-use records::Kind;
 use records::Last;
 use records::Record;
-ghost use mathlib.Core.List.{[], _∷_};
+ghost use mathlib.Core.Bool.{true};
+ghost use mathlib.Core.List.{[]};
 ghost use mathlib.Core.Path.{_≡_};
 ghost use Prim.Native.Nat.{_+_, _<_, _≤_};
 ghost use lib.ListN.{length};
-ghost use Rattle.words.specs.Numbers.{on, change};
 ghost use Rattle.answer.specs.Report.{address as addressOf};
 ghost use Rattle.answer.specs.declared.Outcome.the-variants.{Accepted};
-ghost use Rattle.events.specs.Events.{blank, playIf, Did};
-ghost use Rattle.records.specs.Records.{read as readOf};
-ghost use Rattle.records.specs.Fields.{fieldsOf, widthOf};
-ghost use Rattle.acx.specs.Pieces.{placeAt, limitOf, amountOf, adjustment};
-ghost use Rattle.acx.specs.AtBases.{placing, adjusting, ending, startOf, applied};
+ghost use Rattle.events.specs.Events.{blank, Did};
+ghost use Rattle.pieces.specs.Pieces.{basesAt};
+ghost use Rattle.pieces.specs.AtBases.{startOf, EndsBy};
 ghost use Rattle.acx.specs.Walk.{from, opening as openingOf, openingSize, judged, reported};
-ghost use Rattle.acx.specs.Cursor.{begun, EndsBy, advanced};
-ghost use Rattle.acx.specs.Call.{formOf, settings, usual, inRange, load as loadOf, Carried, Loaded};
-
-// The length of memory and of the map.
-const MEMORY: usize = 65536;
-
-// Where zero page ends.
-const ZERO_PAGE: usize = 256;
+ghost use Rattle.acx.specs.Cursor.{begun, advanced};
+ghost use Rattle.acx.specs.Call.{formOf, usual, inRange, sized, load as loadOf, Loaded};
 
 // The most bytes that a file has.
 const FILE: usize = 65536;
-
-// The mark of a byte that was adjusted.
-const ADJUSTED: u8 = 3;
 
 // The bases of the short call.
 pub const USUAL_MAIN_BASE: u32 = 8192;
@@ -48,12 +35,6 @@ pub const USUAL_ZERO_BASE: u32 = 128;
 pub enum Form {
     Disk,
     Device,
-}
-
-// What the addresses of relocatable records count from.
-pub struct Bases {
-    pub main: u16,
-    pub zero: u16,
 }
 
 // Where a walk stands: the next record's offset; the last code record, its place and its size; what was placed and adjusted so far.
@@ -75,12 +56,12 @@ pub fn load(
     memory: &mut [u8],
     map: &mut [u8],
 ) -> Outcome
-    ensures { λ r. ⌜ Loaded (settings form «main_base» «zero_base») (now (file .entry)) (now (memory .entry)) (now (map .entry)) r (now (memory .exit)) (now (map .exit)) ⌝ }
+    ensures { λ r. ⌜ Loaded form (basesAt «main_base» «zero_base») (now (file .entry)) (sized (now (memory .entry)) (now (map .entry))) (now (memory .entry)) (now (map .entry)) r (now (memory .exit)) (now (map .exit)) ⌝ }
 {
-    if memory.len() != MEMORY {
+    if memory.len() != events::MEMORY {
         return answer::refused(Fault::WrongBuffer);
     }
-    if map.len() != MEMORY {
+    if map.len() != events::MEMORY {
         return answer::refused(Fault::WrongBuffer);
     }
     load_sized(form, file, main_base, zero_base, memory, map)
@@ -88,7 +69,7 @@ pub fn load(
 
 // Loads a file at the usual bases.
 pub fn load_usual(form: u32, file: &[u8], memory: &mut [u8], map: &mut [u8]) -> Outcome
-    ensures { λ r. ⌜ Loaded (usual form) (now (file .entry)) (now (memory .entry)) (now (map .entry)) r (now (memory .exit)) (now (map .exit)) ⌝ }
+    ensures { λ r. ⌜ Loaded form usual (now (file .entry)) (sized (now (memory .entry)) (now (map .entry))) (now (memory .entry)) (now (map .entry)) r (now (memory .exit)) (now (map .exit)) ⌝ }
 {
     load(form, file, USUAL_MAIN_BASE, USUAL_ZERO_BASE, memory, map)
 }
@@ -105,11 +86,11 @@ pub fn walk_call(
     map: &mut [u8],
 ) -> Outcome
     requires { ⌜ (length (now memory) ≡ 65536) × (length (now map) ≡ 65536) ⌝ }
-    ensures { λ r. ⌜ Did Outcome (reported (loadOf (settings form «main_base» «zero_base») (now (file .entry)))) write (now (memory .entry)) blank r (now (memory .exit)) (now (map .exit)) ⌝ }
+    ensures { λ r. ⌜ Did Outcome (reported (loadOf form (basesAt «main_base» «zero_base») (now (file .entry)))) write (now (memory .entry)) blank r (now (memory .exit)) (now (map .exit)) ⌝ }
 {
     words::fill(map, 0);
-    let known = in_range(form, main_base, zero_base);
-    if !known {
+    let ranged = in_range(form, main_base, zero_base);
+    if !ranged {
         return answer::refused(Fault::SettingOutOfRange);
     }
     if FILE < file.len() {
@@ -171,7 +152,7 @@ pub fn advance(bases: Bases, cursor: Cursor, found: Record) -> Cursor
         } => Cursor {
             at: from + size,
             last: Last::Of(kind),
-            place: place_of(bases, kind, address),
+            place: pieces::place_of(bases, kind, address),
             size,
             placed: cursor.placed + size,
             adjusted: cursor.adjusted,
@@ -189,20 +170,6 @@ pub fn advance(bases: Bases, cursor: Cursor, found: Record) -> Cursor
     }
 }
 
-// What is put on a field.
-pub fn amount(bases: Bases, field: Field) -> u16
-    requires { ⌜ field .lsb < 256 ⌝ }
-    ensures { λ r. ⌜ r ≡ amountOf bases field ⌝ }
-{
-    let fixup = field.fixup;
-    match fixup {
-        Fixup::Low => bases.main,
-        Fixup::Page => bases.zero,
-        Fixup::Word => bases.main,
-        Fixup::High => ((field.lsb + bases.main as usize) / 256) as u16,
-    }
-}
-
 // A load with the right buffers: checked first, and written only where nothing is refused.
 fn load_sized(
     form: u32,
@@ -213,7 +180,7 @@ fn load_sized(
     map: &mut [u8],
 ) -> Outcome
     requires { ⌜ (length (now memory) ≡ 65536) × (length (now map) ≡ 65536) ⌝ }
-    ensures { λ r. ⌜ Carried (loadOf (settings form «main_base» «zero_base») (now (file .entry))) (now (memory .entry)) r (now (memory .exit)) (now (map .exit)) ⌝ }
+    ensures { λ r. ⌜ Loaded form (basesAt «main_base» «zero_base») (now (file .entry)) true (now (memory .entry)) (now (map .entry)) r (now (memory .exit)) (now (map .exit)) ⌝ }
 {
     let checked = walk_call(form, file, main_base, zero_base, false, memory, map);
     if let Outcome::Refused {
@@ -233,7 +200,7 @@ fn load_sized(
 
 // Whether the settings of a call are in their ranges.
 fn in_range(form: u32, main_base: u32, zero_base: u32) -> bool
-    ensures { λ r. ⌜ r ≡ inRange (settings form «main_base» «zero_base») ⌝ }
+    ensures { λ r. ⌜ r ≡ inRange form (basesAt «main_base» «zero_base») ⌝ }
 {
     if 1 < form {
         return false;
@@ -298,7 +265,16 @@ fn walk(
     loop {
         let last = cursor.last;
         let found = records::read(file, cursor.at, last);
-        let check = apply(file, bases, cursor, found, write, memory, map);
+        let check = pieces::apply(
+            file,
+            bases,
+            cursor.place,
+            cursor.size,
+            found,
+            write,
+            memory,
+            map,
+        );
         if let Check::Failed(fault) = check {
             return Outcome::Refused {
                 fault,
@@ -319,207 +295,10 @@ fn accepted(bases: Bases, entry: Entry, cursor: Cursor) -> Outcome
     ensures { λ r. ⌜ r ≡ Accepted (startOf bases entry) (cursor .placed) (cursor .adjusted) 0 0 ⌝ }
 {
     Outcome::Accepted {
-        start: start(bases, entry),
+        start: pieces::start(bases, entry),
         placed: cursor.placed as u32,
         adjusted: cursor.adjusted as u32,
         new_names: 0,
         low: 0,
     }
-}
-
-// Where the program starts, where the end record passed.
-fn start(bases: Bases, entry: Entry) -> Start
-    requires { ⌜ addressOf (startOf bases entry) ≤ 65535 ⌝ }
-    ensures { λ r. ⌜ r ≡ startOf bases entry ⌝ }
-{
-    let sum = start_address(bases, entry);
-    match entry {
-        Entry::Nowhere => Start::Absent,
-        Entry::Fixed(address) => Start::At(sum as u16),
-        Entry::Relative(address) => Start::At(sum as u16),
-    }
-}
-
-// Where the end record lets the program start, as a sum.
-fn start_address(bases: Bases, entry: Entry) -> usize
-    ensures { λ r. ⌜ r ≡ addressOf (startOf bases entry) ⌝ }
-{
-    match entry {
-        Entry::Nowhere => 0,
-        Entry::Fixed(address) => address as usize,
-        Entry::Relative(address) => bases.main as usize + address as usize,
-    }
-}
-
-// The record at the cursor, checked and carried out at the bases.
-fn apply(
-    file: &[u8],
-    bases: Bases,
-    cursor: Cursor,
-    found: Record,
-    write: bool,
-    memory: &mut [u8],
-    map: &mut [u8],
-) -> Check
-    requires { ⌜ (length (now file) ≤ 65536) × (found ≡ readOf (now file) (cursor .at) (cursor .last)) × (cursor .place + cursor .size ≤ 65536) × (length (now memory) ≡ 65536) × (length (now map) ≡ 65536) ⌝ }
-    ensures { λ r. ⌜ Did Check (applied (now (file .entry)) bases (cursor .place) (cursor .size) found (now (map .entry))) write (now (memory .entry)) (now (map .entry)) r (now (memory .exit)) (now (map .exit)) ⌝ }
-{
-    match found {
-        Record::Code {
-            kind,
-            address,
-            from,
-            size,
-        } => {
-            let next = from + size;
-            let place = place_of(bases, kind, address);
-            place_code(&file[from..next], place, limit(kind), write, memory, map)
-        }
-        Record::Fixups { fixup, from, size } => {
-            let next = from + size;
-            adjust_fields(&file[from..next], fixup, bases, cursor, write, memory, map)
-        }
-        Record::End { entry, next } => end(bases, entry, next, file.len()),
-        Record::Faulty(fault) => Check::Failed(fault),
-    }
-}
-
-// Where code of a kind goes.
-fn place_of(bases: Bases, kind: Kind, address: u16) -> usize
-    ensures { λ r. ⌜ (r ≡ placeAt bases kind address) × (r ≤ 131070) ⌝ }
-{
-    match kind {
-        Kind::Main => bases.main as usize + address as usize,
-        Kind::ZeroPage => bases.zero as usize + address as usize,
-        Kind::Absolute => address as usize,
-    }
-}
-
-// Where code of a kind has to end.
-fn limit(kind: Kind) -> usize
-    ensures { λ r. ⌜ (r ≡ limitOf kind) × (r ≤ 65536) ⌝ }
-{
-    match kind {
-        Kind::Main => MEMORY,
-        Kind::ZeroPage => ZERO_PAGE,
-        Kind::Absolute => MEMORY,
-    }
-}
-
-// Code at its place, below its limit and where nothing was placed before.
-fn place_code(
-    code: &[u8],
-    place: usize,
-    limit: usize,
-    write: bool,
-    memory: &mut [u8],
-    map: &mut [u8],
-) -> Check
-    requires { ⌜ (place ≤ 131070) × (length (now code) ≤ 65536) × (limit ≤ 65536) × (length (now memory) ≡ 65536) × (length (now map) ≡ 65536) ⌝ }
-    ensures { λ r. ⌜ Did Check (placing place limit (now (code .entry)) (now (map .entry))) write (now (memory .entry)) (now (map .entry)) r (now (memory .exit)) (now (map .exit)) ⌝ }
-{
-    let end = place + code.len();
-    if limit < end {
-        return Check::Failed(Fault::DoesNotFit);
-    }
-    let free = words::is_zero(&map[place..end]);
-    if !free {
-        return Check::Failed(Fault::PiecesOverlap);
-    }
-    events::place(code, place, write, memory, map);
-    Check::Passed
-}
-
-// The fields of the last code record that a fixup record lists, one by one.
-fn adjust_fields(
-    items: &[u8],
-    fixup: Fixup,
-    bases: Bases,
-    cursor: Cursor,
-    write: bool,
-    memory: &mut [u8],
-    map: &mut [u8],
-) -> Check
-    requires { ⌜ (length (now items) ≤ 65536) × (cursor .place + cursor .size ≤ 65536) × (length (now memory) ≡ 65536) × (length (now map) ≡ 65536) ⌝ }
-    ensures { λ r. ⌜ Did Check (adjusting bases (cursor .place) (cursor .size) (fieldsOf fixup (now (items .entry))) (now (map .entry))) write (now (memory .entry)) (now (map .entry)) r (now (memory .exit)) (now (map .exit)) ⌝ }
-{
-    let step = records::item_size(fixup);
-    let mut i = 0;
-    while i + step <= items.len() {
-        let field = records::field_at(items, i, fixup);
-        let check = adjust_field(field, bases, cursor.place, cursor.size, write, memory, map);
-        if let Check::Failed(fault) = check {
-            return Check::Failed(fault);
-        }
-        i += step;
-    }
-    Check::Passed
-}
-
-// A field of the `size` code bytes at `place`, inside them and not adjusted before.
-fn adjust_field(
-    field: Field,
-    bases: Bases,
-    place: usize,
-    size: usize,
-    write: bool,
-    memory: &mut [u8],
-    map: &mut [u8],
-) -> Check
-    requires { ⌜ (field .index < 256) × (field .lsb < 256) × (place + size ≤ 65536) × (length (now memory) ≡ 65536) × (length (now map) ≡ 65536) ⌝ }
-    ensures { λ r. ⌜ Did Check (adjusting bases place size (field ∷ []) (now (map .entry))) write (now (memory .entry)) (now (map .entry)) r (now (memory .exit)) (now (map .exit)) ⌝ }
-{
-    let fixup = field.fixup;
-    let width = records::width(fixup);
-    if size < field.index + width {
-        return Check::Failed(Fault::FieldNotLoaded);
-    }
-    let at = place + field.index;
-    let past = at + width;
-    let adjusted = words::contains(&map[at..past], ADJUSTED);
-    if adjusted {
-        return Check::Failed(Fault::AdjustedTwice);
-    }
-    words::fill(&mut map[at..past], ADJUSTED);
-    write_field(field, bases, place, size, write, memory);
-    Check::Passed
-}
-
-// The field adjusted in memory, where `write` is true.
-fn write_field(field: Field, bases: Bases, at: usize, size: usize, write: bool, memory: &mut [u8])
-    requires { ⌜ (field .lsb < 256) × (field .index + widthOf (field .fixup) ≤ size) × (at + size ≤ length (now memory)) ⌝ }
-    ensures { λ _. ⌜ now (memory .exit) ≡ playIf write (adjustment bases at field ∷ []) (now (memory .entry)) ⌝ }
-{
-    if write {
-        let end = at + size;
-        add(&mut memory[at..end], field, amount(bases, field));
-    }
-}
-
-// An amount on a field of the code.
-fn add(code: &mut [u8], field: Field, amount: u16)
-    requires { ⌜ field .index + widthOf (field .fixup) ≤ length (now code) ⌝ }
-    ensures { λ _. ⌜ now (code .exit) ≡ change (widthOf (field .fixup)) (on (widthOf (field .fixup)) amount) (now (code .entry)) (field .index) ⌝ }
-{
-    let fixup = field.fixup;
-    match fixup {
-        Fixup::Low => words::add_to_byte(code, field.index, amount),
-        Fixup::Page => words::add_to_byte(code, field.index, amount),
-        Fixup::Word => words::add_to_word(code, field.index, amount),
-        Fixup::High => words::add_to_byte(code, field.index, amount),
-    }
-}
-
-// The end record, which ends at `next` of a file of `length` bytes.
-fn end(bases: Bases, entry: Entry, next: usize, length: usize) -> Check
-    ensures { λ r. ⌜ r ≡ ending bases entry next length .answer ⌝ }
-{
-    let address = start_address(bases, entry);
-    if 65535 < address {
-        return Check::Failed(Fault::StartTooHigh);
-    }
-    if next < length {
-        return Check::Failed(Fault::BytesAfterEnd);
-    }
-    Check::Passed
 }

@@ -43,7 +43,8 @@ abbrev pub address : Start → ℕ
 address Absent = 0
 address (At a) = a
 
--- "nine four-byte numbers, .. in the order number, offset, side, start present, start address, placed, adjusted, new names, low".
+-- "nine four-byte numbers, low byte first, in the order number, offset, side, start present (1 or 0), start address, placed, adjusted, new
+-- names, low".
 -- "An acceptance reports number 0"; "a refusal reports its number and the offset .., all else zero"
 abbrev pub numbersOf : Outcome → List ℕ
 numbersOf (Accepted start placed adjusted names low) =
@@ -60,8 +61,8 @@ adjustedOf (Accepted start placed adjusted names low) = adjusted
 adjustedOf (Refused fault offset side) = 0
 
 -- "the number is also returned"
-abbrev pub reported : Outcome → ℕ
-reported outcome = getD (numbersOf outcome) 0 0
+abbrev pub numberReturned : Outcome → ℕ
+numberReturned outcome = getD (numbersOf outcome) 0 0
 
 -- "an answer of 36 bytes"
 abbrev pub answerLength : ℕ

@@ -3,7 +3,7 @@
 ghost use mathlib.Core.Path.{_≡_};
 ghost use lib.ListN.{length};
 ghost use Rattle.answer.specs.declared.Outcome.the-variants.{Refused};
-ghost use Rattle.answer.specs.Report.{numberOf, numbersOf, reported, answerLength, answerBytes};
+ghost use Rattle.answer.specs.Report.{numberOf, numbersOf, numberReturned, answerLength, answerBytes};
 
 // What is wrong: a variant for each row of the table "Numbers a bench can show", in its order.
 pub enum Fault {
@@ -118,12 +118,12 @@ pub fn numbers(outcome: Outcome) -> Numbers
 
 // The number that a call returns.
 pub fn number(outcome: Outcome) -> u32
-    ensures { λ r. ⌜ r ≡ reported outcome ⌝ }
+    ensures { λ r. ⌜ r ≡ numberReturned outcome ⌝ }
 {
     numbers(outcome)[0]
 }
 
-// The answer, written into a buffer of its length.
+// Writes the answer into a buffer of its length.
 pub fn write(outcome: Outcome, answer: &mut [u8])
     requires { ⌜ length (now answer) ≡ answerLength ⌝ }
     ensures { λ _. ⌜ now (answer .exit) ≡ answerBytes outcome ⌝ }

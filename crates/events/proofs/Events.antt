@@ -69,24 +69,21 @@ length-marks (e ∷ es) p = length-marks es (markOne e p) ∙ length-markOne e p
 -- ---- a part of the work
 
 -- nothing done
-pub did-none : {A : Type 0} (a : A) (write : Bool) (m p : List ℕ) → Did A (record { answer = a; events = [] }) write m p a m p
-unfolding play marks
-did-none a true m p = record { answer = refl; memory = refl; map = refl }
-did-none a false m p = record { answer = refl; memory = refl; map = refl }
-
--- where work stands after some events
-
 pub reached-none : (write : Bool) (m p : List ℕ) → Reached [] write m p m p
 unfolding play marks
 reached-none true m p = record { memory = refl; map = refl }
 reached-none false m p = record { memory = refl; map = refl }
 
+pub did-none : {A : Type 0} (a : A) (write : Bool) (m p : List ℕ) → Did A (record { answer = a; events = [] }) write m p a m p
+did-none a write m p = record { answer = refl; reached = reached-none write m p }
+
+-- a part of the work after some events
 pub reached-more : {A : Type 0} (es : List Event) (write : Bool) (m₀ p₀ m p m′ p′ : List ℕ) (o : Ran A) (r : A) → Reached es write m₀ p₀ m p
     → Did A o write m p r m′ p′ → Reached (es ++ o .events) write m₀ p₀ m′ p′
 reached-more es write m₀ p₀ m p m′ p′ o r h d =
     record {
-      memory = d .memory ∙ ap (λ (t : List ℕ). playIf write (o .events) t) (h .memory) ∙ sym (play-if-append write es (o .events) m₀);
-      map = d .map ∙ ap (λ (t : List ℕ). marks (o .events) t) (h .map) ∙ sym (marks-append es (o .events) p₀);
+      memory = d .reached .memory ∙ ap (λ (t : List ℕ). playIf write (o .events) t) (h .memory) ∙ sym (play-if-append write es (o .events) m₀);
+      map = d .reached .map ∙ ap (λ (t : List ℕ). marks (o .events) t) (h .map) ∙ sym (marks-append es (o .events) p₀);
     }
 
 -- ---- the clear map

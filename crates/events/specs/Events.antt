@@ -8,6 +8,7 @@ use lib.ListN.{length, replicate}
 use Rattle.answer.specs.declared.Fault.{Fault}
 use Rattle.words.specs.Numbers.{on, change}
 use Rattle.words.specs.Runs.{put}
+use Rattle.events.specs.Sizes.{memorySize}
 use Rattle.events.specs.declared.Check.{Check}
 use Rattle.events.specs.declared.Check.the-variants.{Passed, Failed}
 
@@ -17,7 +18,7 @@ pub data Event : Type 0 where
   reserve : ℕ → ℕ → Event
   adjust : ℕ → ℕ → ℕ → Event
 
--- (what is reserved keeps its bytes: "Reserving marks 2 and writes nothing")
+-- memory after one event (what is reserved keeps its bytes: "Reserving marks 2 and writes nothing")
 abbrev pub playOne : Event → List ℕ → List ℕ
 playOne (place a bytes) memory = put memory a bytes
 playOne (reserve a n) memory = memory
@@ -38,6 +39,7 @@ reservedMark = 2
 abbrev pub adjustedMark : ℕ
 adjustedMark = 3
 
+-- the map after one event
 abbrev pub markOne : Event → List ℕ → List ℕ
 markOne (place a bytes) map = put map a (replicate (length bytes) placedMark)
 markOne (reserve a n) map = put map a (replicate n reservedMark)
@@ -50,7 +52,7 @@ marks (e ∷ es) map = marks es (markOne e map)
 
 -- "0 untouched"
 unfoldable pub blank : List ℕ
-blank = replicate 65536 0
+blank = replicate memorySize 0
 
 -- "Bytes placed is the sum of all data lengths"
 unfoldable pub placedIn : List Event → ℕ
@@ -71,7 +73,7 @@ pub record Ran (A : Type 0) : Type 0 where
   pub answer : A
   pub events : List Event
 
--- a check that did nothing more: at a fault, and where it passed
+-- a check that failed, with no event; one that passed, with its events
 abbrev pub failed : Fault → Ran Check
 failed fault = record { answer = Failed fault; events = [] }
 
@@ -83,7 +85,7 @@ abbrev pub playIf : Bool → List Event → List ℕ → List ℕ
 playIf true es memory = play es memory
 playIf false es memory = memory
 
--- The contract of a function that carries out events: it found memory m and the map p, and leaves m′ and p′.
+-- The contract of a function that carries out events: it found memory m and the map p, and leaves m′ and p′ with the events done.
 pub record Reached (es : List Event) (write : Bool) (m p m′ p′ : List ℕ) : Type 0 where
   pub memory : m′ ≡ playIf write es m
   pub map : p′ ≡ marks es p
@@ -92,5 +94,4 @@ pub record Reached (es : List Event) (write : Bool) (m p m′ p′ : List ℕ) :
 -- o says.
 pub record Did (A : Type 0) (o : Ran A) (write : Bool) (m p : List ℕ) (r : A) (m′ p′ : List ℕ) : Type 0 where
   pub answer : r ≡ o .answer
-  pub memory : m′ ≡ playIf write (o .events) m
-  pub map : p′ ≡ marks (o .events) p
+  pub reached : Reached (o .events) write m p m′ p′

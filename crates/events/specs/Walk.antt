@@ -11,10 +11,11 @@ pub data Turn (S A : Type 0) : Type 0 where
   ends : A → Turn S A
   leads : S → Turn S A
 
--- what comes after these events
+-- what is done after these events: theirs stand first
 abbrev pub after : {A : Type 0} → List Event → Ran A → Ran A
 after es rest = record { answer = rest .answer; events = es ++ rest .events }
 
+-- how a walk goes on after a turn with these events
 abbrev pub onward : {S A : Type 0} → (S → List ℕ → Ran A) → List ℕ → List Event → Turn S A → Ran A
 onward go map es (ends a) = record { answer = a; events = es }
 onward go map es (leads s) = after es (go s (marks es map))

@@ -7,12 +7,15 @@ ghost use Prim.Native.Nat.{_+_, _≤_};
 ghost use lib.ListN.{length};
 ghost use Rattle.events.specs.Events.{place as placeOf, reserve as reserveOf, adjust, marks, Reached};
 
+// The length of memory and of the map.
+pub const MEMORY: usize = 65536;
+
 // The marks of the map.
-const PLACED: u8 = 1;
+pub const PLACED: u8 = 1;
 
-const RESERVED: u8 = 2;
+pub const RESERVED: u8 = 2;
 
-const ADJUSTED: u8 = 3;
+pub const ADJUSTED: u8 = 3;
 
 // What became of a part of the work.
 pub enum Check {
@@ -20,7 +23,7 @@ pub enum Check {
     Failed(Fault),
 }
 
-// Bytes placed from `at` on.
+// Places bytes from `at` on.
 pub fn place(bytes: &[u8], at: usize, write: bool, memory: &mut [u8], map: &mut [u8])
     requires { ⌜ (at + length (now bytes) ≤ length (now memory)) × (at + length (now bytes) ≤ length (now map)) ⌝ }
     ensures { λ _. ⌜ Reached (placeOf at (now (bytes .entry)) ∷ []) write (now (memory .entry)) (now (map .entry)) (now (memory .exit)) (now (map .exit)) ⌝ }
@@ -32,7 +35,7 @@ pub fn place(bytes: &[u8], at: usize, write: bool, memory: &mut [u8], map: &mut 
     }
 }
 
-// So many addresses reserved from `at` on: memory is not looked at.
+// Reserves so many addresses from `at` on: memory is not looked at.
 pub fn reserve(at: usize, size: usize, map: &mut [u8])
     requires { ⌜ at + size ≤ length (now map) ⌝ }
     ensures { λ _. ⌜ now (map .exit) ≡ marks (reserveOf at size ∷ []) (now (map .entry)) ⌝ }
@@ -41,7 +44,7 @@ pub fn reserve(at: usize, size: usize, map: &mut [u8])
     words::fill(&mut map[at..end], RESERVED);
 }
 
-// The word at `at` adjusted by the amount.
+// Adjusts the word at `at` by the amount.
 pub fn adjust_word(at: usize, amount: u16, write: bool, memory: &mut [u8], map: &mut [u8])
     requires { ⌜ (at + 2 ≤ length (now memory)) × (at + 2 ≤ length (now map)) ⌝ }
     ensures { λ _. ⌜ Reached (adjust 2 at amount ∷ []) write (now (memory .entry)) (now (map .entry)) (now (memory .exit)) (now (map .exit)) ⌝ }
@@ -49,6 +52,6 @@ pub fn adjust_word(at: usize, amount: u16, write: bool, memory: &mut [u8], map: 
     let end = at + 2;
     words::fill(&mut map[at..end], ADJUSTED);
     if write {
-        words::add_to_word(memory, at, amount);
+        words::add(memory, at, 2, amount);
     }
 }

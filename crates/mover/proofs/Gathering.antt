@@ -9,16 +9,16 @@ use denote.Enum.Declared.{tagOf}
 use borrow.Rule.Slice.PartMut.{midOf, putMid}
 use lib.ListN.{length}
 use Rattle.acx.proofs.Cursors.{Came, advanced-at, came-first, came-found, came-on, came-passes, came-to-end, came-onward}
-use Rattle.acx.proofs.Edits.{length-edited, edited-append}
-use Rattle.acx.proofs.Marks.{fields-fresh}
+use Rattle.pieces.proofs.Edits.{length-edited, edited-append}
+use Rattle.pieces.proofs.Marks.{fields-fresh}
 use Rattle.acx.proofs.Standing.{fixups-passed}
 use Rattle.acx.proofs.Walking.{piecesAfter, Onward, judged-accepted}
 use Rattle.acx.specs.Call.{formOf}
 use Rattle.acx.specs.Cursor.{begun, advanced}
-use Rattle.acx.specs.Demand2.{Inside}
-use Rattle.acx.specs.Pieces.{Piece, size, placeAt, placeOf, edited, events}
+use Rattle.pieces.specs.Places.{Inside}
+use Rattle.pieces.specs.Pieces.{Piece, size, placeAt, placeOf, edited, events}
 use Rattle.acx.specs.Walk.{accepted, lastOf, lastPlace, lastSize, recordAt, checked, withFields, from, openingSize}
-use Rattle.acx.specs.declared.Bases.{Bases}
+use Rattle.pieces.specs.declared.Bases.{Bases}
 use Rattle.acx.specs.declared.Cursor.{Cursor}
 use Rattle.answer.specs.declared.Fault.{Fault}
 use Rattle.answer.specs.declared.Start.{Start}
@@ -39,9 +39,9 @@ use Rattle.records.specs.declared.Record.the-variants.{Code, Fixups, End, Fault
 use Rattle.words.proofs.Lent.{lent-is, back-is}
 use Rattle.words.proofs.Runs.{length-part, length-put, part-put, put-put}
 use Rattle.words.specs.Runs.{part, put}
-use Rattle.mover.proofs.Rulings.{follows, verdict, allows-is, both}
-use Rattle.mover.specs.Call.{rulingOf, Allows, piecesOf}
-use Rattle.mover.specs.Move.{shift, carried, transfer}
+use Rattle.moves.proofs.Rulings.{follows, verdict, allows-is, both}
+use Rattle.moves.specs.Call.{rulingOf, Allows, piecesOf}
+use Rattle.moves.specs.Move.{shift, carried, transfer}
 use Rattle.mover.specs.Parts.{taken, Sound}
 
 -- ---- the file

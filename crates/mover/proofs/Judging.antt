@@ -8,12 +8,12 @@ use native.Mathlib.Omega.{arith}
 use borrow.Author.Tests.{eq-eqb, ne-eqb}
 use lib.ListN.{length}
 use Rattle.acx.proofs.Calling.{Few, load-few}
-use Rattle.acx.specs.Call.{settings}
-use Rattle.acx.specs.Pieces.{Piece}
+use Rattle.acx.specs.Call.{load}
+use Rattle.pieces.specs.Pieces.{Piece}
 use Rattle.acx.specs.Walk.{Verdict, accepted, refused, report, reported}
-use Rattle.acx.specs.declared.Bases.{Bases}
+use Rattle.pieces.specs.declared.Bases.{Bases}
 use Rattle.answer.proofs.Outcomes.{isRefused}
-use Rattle.answer.specs.Checks.{need}
+use Rattle.answer.specs.Checks.{need, pick}
 use Rattle.answer.specs.Report.{placedOf, adjustedOf}
 use Rattle.answer.specs.declared.Fault.{Fault}
 use Rattle.answer.specs.declared.Fault.the-variants.{WrongBuffer}
@@ -21,9 +21,10 @@ use Rattle.answer.specs.declared.Outcome.{Outcome}
 use Rattle.answer.specs.declared.Outcome.the-variants.{Accepted, Refused}
 use Rattle.answer.specs.declared.Start.{Start}
 use Rattle.events.specs.Events.{blank, Ran, Did}
-use Rattle.mover.proofs.Rulings.{reported-accepted, both, accepted-allows, refused-leaves}
-use Rattle.mover.specs.Call.{Call, loadAt, Ruling, allows, refuses, side, sides, rulingOf, sized, ruling, Allows, piecesOf, outcomeBy, memoryBy, outcomeOf, memoryAfter, mapAfter, scratchAfter, Judged, Done, Moved}
-use Rattle.mover.specs.Move.{moved}
+use Rattle.moves.proofs.Rulings.{reported-accepted, both, accepted-allows, refused-leaves}
+use Rattle.moves.specs.Call.{Call, Ruling, allows, refuses, side, sides, rulingOf, sized, ruling, Allows, piecesOf, outcomeBy, memoryBy, outcomeOf, memoryAfter, mapAfter, scratchAfter, Moved}
+use Rattle.moves.specs.Move.{moved}
+use Rattle.mover.specs.Parts.{Judged, Done}
 
 -- ---- one side
 
@@ -31,7 +32,11 @@ abbrev withSide : ℕ → Outcome → Outcome
 withSide n (Accepted start placed adjusted names low) = Accepted start placed adjusted names low
 withSide n (Refused fault at k) = Refused fault at n
 
-module _ {o : Ran Verdict} {m : List ℕ} {r : Outcome} {m₁ p₁ : List ℕ} (n : ℕ) (d : Did Outcome (reported o) false m blank r m₁ p₁) where
+module _ (form : ℕ) (b : Bases) (file : List ℕ) (n : ℕ) {m : List ℕ} {r : Outcome} {m₁ p₁ : List ℕ}
+    (d : Did Outcome (reported (load form b file)) false m blank r m₁ p₁) where
+  abbrev o : Ran Verdict
+  o = load form b file
+
   -- a walk that refused
   pub side-refused : {fault : Fault} {at k : ℕ} {p′ : List ℕ} → r ≡ Refused fault at k → p′ ≡ blank
       → Judged o (side n (o .answer)) m (Refused fault at n) m₁ p′
@@ -42,7 +47,7 @@ module _ {o : Ran Verdict} {m : List ℕ} {r : Outcome} {m₁ p₁ : List ℕ} (
       by (refused h i) f =
           record {
             outcome = rw f (ap (withSide n) (sym e ∙ d .answer ∙ ap (λ (v : Verdict). report v (o .events)) f));
-            memory = d .memory;
+            memory = d .reached .memory;
             map = rw f ep;
           }
 
@@ -52,7 +57,7 @@ module _ {o : Ran Verdict} {m : List ℕ} {r : Outcome} {m₁ p₁ : List ℕ} (
     where
       by : (v : Verdict) → o .answer ≡ v → Judged o (side n (o .answer)) m r m₁ p₁
       by (accepted ps start) f =
-          record { outcome = rw f (d .answer ∙ ap (λ (v : Verdict). report v (o .events)) f); memory = d .memory; map = rw f (d .map) }
+          record { outcome = rw f (d .answer ∙ ap (λ (v : Verdict). report v (o .events)) f); memory = d .reached .memory; map = rw f (d .reached .map) }
       by (refused h i) f = absurd (false≢true (ap isRefused (sym e ∙ d .answer ∙ ap (λ (v : Verdict). report v (o .events)) f)))
 
 -- ---- both sides
@@ -87,22 +92,22 @@ module _ {o o′ : Ran Verdict} {m : List ℕ} {r : Outcome} {m₁ p₁ : List �
 
 -- an accepted outcome is that of a move that is allowed
 pub judged-allows : (form : ℕ) (old new : Bases) (file : List ℕ) {m : List ℕ} {r : Outcome} {m₁ p₁ : List ℕ} {start : Start} {i j k l : ℕ}
-    → Judged (loadAt form new file) (rulingOf form old new file) m r m₁ p₁ → r ≡ Accepted start i j k l → Allows (rulingOf form old new file)
-judged-allows form old new file d e = accepted-allows (loadAt form new file) (rulingOf form old new file) (sym (d .outcome) ∙ e)
+    → Judged (load form new file) (rulingOf form old new file) m r m₁ p₁ → r ≡ Accepted start i j k l → Allows (rulingOf form old new file)
+judged-allows form old new file d e = accepted-allows (load form new file) (rulingOf form old new file) (sym (d .outcome) ∙ e)
 
 module _ (form : ℕ) (old new : Bases) (file : List ℕ) {m : List ℕ} {r : Outcome} {m₁ p₁ s′ : List ℕ}
-    (d : Judged (loadAt form new file) (rulingOf form old new file) m r m₁ p₁) (es : s′ ≡ blank) where
+    (d : Judged (load form new file) (rulingOf form old new file) m r m₁ p₁) (es : s′ ≡ blank) where
   pub done-refused : {fault : Fault} {at k : ℕ} → r ≡ Refused fault at k → Done form old new file m (Refused fault at k) m₁ p₁ s′
   done-refused e =
       record {
         outcome = sym e ∙ d .outcome;
         memory = d .memory
-            ∙ sym (refused-leaves (loadAt form new file) old new m (rulingOf form old new file) allowed (ap isRefused (sym (d .outcome) ∙ e)) .0);
+            ∙ sym (refused-leaves (load form new file) old new m (rulingOf form old new file) allowed (ap isRefused (sym (d .outcome) ∙ e)) .0);
         map = d .map;
         scratch = es;
       }
     where
-      allowed : (ps : List Piece) → rulingOf form old new file ≡ allows ps → isRefused (reported (loadAt form new file) .answer) ≡ false
+      allowed : (ps : List Piece) → rulingOf form old new file ≡ allows ps → isRefused (reported (load form new file) .answer) ≡ false
       allowed ps f = reported-accepted file form ps new (both form old new file ps f .1)
 
   pub done-moved : {m′ : List ℕ} → Allows (rulingOf form old new file) → m′ ≡ moved old new (piecesOf (rulingOf form old new file)) m₁
@@ -128,7 +133,7 @@ outcome-few o (refuses fault at side) r n h e = (rw e (omega arith), rw e (omega
 
 module _ {file : List ℕ} {c : Call} {m : List ℕ} where
   other : {r : Outcome} → sized c m ≡ false → r ≡ Refused WrongBuffer 0 0 → Moved file c m r m (c .map) (c .scratch)
-  unfolding ruling need outcomeOf memoryAfter mapAfter scratchAfter
+  unfolding ruling need pick outcomeOf memoryAfter mapAfter scratchAfter
   other h e =
       record {
         outcome = rw (h, e) refl;
@@ -150,15 +155,15 @@ module _ {file : List ℕ} {c : Call} {m : List ℕ} where
       → r ≡ Refused WrongBuffer 0 0 → Moved file c m r m (c .map) (c .scratch)
   moved-scratch g i h e = other (rw (eq-eqb _ _ g, eq-eqb _ _ i, ne-eqb _ _ h) refl) e
 
-  pub moved-sized : {r : Outcome} {m′ p′ s′ : List ℕ} → c .answer ≡ true → length m ≡ 65536 → length (c .map) ≡ 65536
+  pub moved-sized : {r : Outcome} {m′ p′ s′ : List ℕ} → c .answerSized ≡ true → length m ≡ 65536 → length (c .map) ≡ 65536
       → length (c .scratch) ≡ 65536
       → Done (c .form) (c .old) (c .new) file m r m′ p′ s′
       → Moved file c m r m′ p′ s′
-  unfolding ruling need outcomeOf memoryAfter mapAfter scratchAfter
+  unfolding ruling need pick outcomeOf memoryAfter mapAfter scratchAfter
   moved-sized {r} {m′} {p′} {s′} a g i h d =
       let z : sized c m ≡ true = rw (eq-eqb _ _ g, eq-eqb _ _ i, eq-eqb _ _ h, a) refl in
-      let few = outcome-few (loadAt (c .form) (c .new) file) (rulingOf (c .form) (c .old) (c .new) file) r (length file)
-      (load-few (settings (c .form) (c .new .main) (c .new .zero)) file) (d .outcome) in
+      let few = outcome-few (load (c .form) (c .new) file) (rulingOf (c .form) (c .old) (c .new) file) r (length file)
+      (load-few (c .form) (c .new) file) (d .outcome) in
       record {
         outcome = rw z (d .outcome);
         memory = rw z (d .memory);

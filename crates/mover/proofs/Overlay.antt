@@ -8,21 +8,24 @@ use native.Mathlib.Omega.{arith}
 use lib.ListN.{length, getD, set, List·getD-eq-default}
 use lib.Seq.{ext-getD, getD-set-same, getD-set-other}
 use Rattle.acx.proofs.Handlers.{fits-memory}
-use Rattle.acx.proofs.Loads.{Fits}
-use Rattle.acx.proofs.Marks.{marks-outside, marks-some}
-use Rattle.acx.specs.Demand2.{Placed, Handler}
-use Rattle.acx.specs.Pieces.{Piece, size, placeOf, events}
-use Rattle.acx.specs.declared.Bases.{Bases}
+use Rattle.pieces.proofs.Loads.{Fits}
+use Rattle.pieces.proofs.Marks.{marks-outside, marks-some}
+use Rattle.pieces.specs.Places.{Placed}
+use Rattle.acx.specs.Demand2.{Handler}
+use Rattle.pieces.specs.Pieces.{Piece, size, placeOf, events}
+use Rattle.pieces.specs.declared.Bases.{Bases}
+use Rattle.acx.specs.Call.{load, mapAfter as loadedMap}
+use Rattle.acx.specs.Walk.{Verdict}
 use Rattle.events.proofs.Events.{length-marks, length-blank, blank-at}
 use Rattle.events.proofs.Lists.{each-zip3}
 use Rattle.events.specs.Events.{Event, marks, blank}
 use Rattle.events.specs.Lists.{Each}
 use Rattle.words.proofs.Runs.{within?, part-agree-at}
-use Rattle.mover.proofs.Rulings.{handler-at, events-at, allows-is, both}
-use Rattle.mover.proofs.Transfers.{length-transfer, transfer-outside, transfer-parts}
-use Rattle.mover.specs.Call.{loadAt, rulingOf, Allows, piecesOf, mapBy}
-use Rattle.mover.specs.Demand3.{AcceptedAt}
-use Rattle.mover.specs.Move.{transfer, moved}
+use Rattle.moves.proofs.Rulings.{handler-at, events-at, allows-is, both}
+use Rattle.moves.proofs.Transfers.{length-transfer, transfer-outside, transfer-parts}
+use Rattle.moves.specs.Call.{rulingOf, Allows, piecesOf, mapBy}
+use Rattle.moves.specs.Demand3.{AcceptedAt}
+use Rattle.moves.specs.Move.{transfer, moved}
 use Rattle.mover.specs.Parts.{chosen, Overlaid}
 
 -- ---- the loop
@@ -128,14 +131,16 @@ module _ (file : List ℕ) (form : ℕ) (ps : List Piece) (old new : Bases) (at-
 -- ---- by the ruling
 
 module _ (form : ℕ) (old new : Bases) (file : List ℕ) (h : Allows (rulingOf form old new file)) (map : List ℕ)
-    (e : map ≡ mapBy (loadAt form new file) (rulingOf form old new file)) where
+    (e : map ≡ mapBy (load form new file) (rulingOf form old new file)) where
   -- the map is that of the pieces
   map-is : map ≡ marks (events new (piecesOf (rulingOf form old new file))) blank
   map-is =
       let ps = piecesOf (rulingOf form old new file) in
       let is = allows-is (rulingOf form old new file) h in
-      e ∙ ap (mapBy (loadAt form new file)) is
-      ∙ ap (λ (es : List Event). marks es blank) (events-at file form ps new (both form old new file ps is .1))
+      let x = both form old new file ps is .1 in
+      e ∙ ap (mapBy (load form new file)) is
+      ∙ ap (λ (v : Verdict). loadedMap v (load form new file .events)) (x .1)
+      ∙ ap (λ (es : List Event). marks es blank) (events-at file form ps new x)
 
   pub length-map : length map ≡ 65536
   length-map = ap length map-is ∙ length-marks (events new (piecesOf (rulingOf form old new file))) blank ∙ length-blank

@@ -4,27 +4,17 @@ use mathlib.Core.List.{List, [], _∷_}
 use mathlib.Core.Path.{_≡_, refl, sym, ap, _∙_}
 use Prim.Native.Nat.{ℕ, _+_, _≤_}
 use lib.ListN.{length}
-use Rattle.acx.specs.Demand2.{Inside}
-use Rattle.acx.specs.Pieces.{width, amountOf, edited}
-use Rattle.acx.specs.declared.Bases.{Bases}
+use Rattle.pieces.specs.Places.{Inside}
+use Rattle.pieces.specs.Pieces.{width, amountOf, edited}
+use Rattle.pieces.specs.declared.Bases.{Bases}
 use Rattle.events.specs.Lists.{Each}
-use Rattle.records.specs.Fields.{widthOf}
 use Rattle.records.specs.declared.Field.{Field}
-use Rattle.records.specs.declared.Fixup.{Fixup}
-use Rattle.records.specs.declared.Fixup.the-variants.{Low, Page, Word, High}
 use Rattle.words.proofs.Changes.{length-change, change-change}
 use Rattle.words.proofs.Numbers.{off-lt}
 use Rattle.words.specs.Numbers.{value, on, off, change}
-use Rattle.mover.specs.Move.{shift}
+use Rattle.moves.specs.Move.{shift}
 
--- a field that is no byte is a word
-pub width-two : (fixup : Fixup) → (widthOf fixup ≡ 1 → ⊥) → widthOf fixup ≡ 2
-width-two Low h = absurd (h refl)
-width-two Page h = absurd (h refl)
-width-two Word h = refl
-width-two High h = absurd (h refl)
-
--- one amount off a field of the width w, another on, by functions for numbers of k bytes
+-- one amount off a field of the width w, another on (the program has the width as a number k)
 pub shifted-field : (w k old new : ℕ) (l m n : List ℕ) (i : ℕ) → w ≡ k → i + w ≤ length l → m ≡ change k (off k old) l i
     → n ≡ change k (on k new) m i
     → n ≡ change w (λ v. on w new (off w old v)) l i

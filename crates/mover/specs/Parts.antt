@@ -1,34 +1,62 @@
--- What the program's parts do on the way through the scratch. Only the contracts of `take`, `shift_fields` and `commit` cite this.
+-- What the program's parts do: the loads that only check, and the way through the scratch. Only the contracts of the mover's inner functions
+-- cite this.
 -- Assumes nothing.
 use mathlib.Core.List.{List}
 use mathlib.Core.Path.{_≡_}
 use Prim.Native.Nat.{ℕ, zero, suc, _+_, _≤_}
 use lib.ListN.{length, getD}
-use Rattle.acx.specs.Demand2.{Inside}
-use Rattle.acx.specs.Pieces.{edited}
-use Rattle.acx.specs.declared.Bases.{Bases}
+use Rattle.pieces.specs.Places.{Inside}
+use Rattle.pieces.specs.Pieces.{basesAt, edited}
+use Rattle.pieces.specs.declared.Bases.{Bases}
 use Rattle.acx.specs.declared.Cursor.{Cursor}
 use Rattle.events.specs.Lists.{Each}
 use Rattle.records.specs.Fields.{fieldsOf}
 use Rattle.records.specs.declared.Record.{Record}
 use Rattle.records.specs.declared.Record.the-variants.{Code, Fixups, End, Faulty}
 use Rattle.words.specs.Runs.{part, put}
-use Rattle.mover.specs.Move.{shift}
+use Rattle.answer.specs.declared.Outcome.{Outcome}
+use Rattle.events.specs.Events.{blank, Ran}
+use Rattle.acx.specs.Call.{load}
+use Rattle.acx.specs.Walk.{Verdict}
+use Rattle.moves.specs.Move.{shift}
+use Rattle.moves.specs.Call.{Ruling, rulingOf, outcomeBy, memoryBy, mapBy}
+use Rattle.mover.specs.declared.Site.{Site}
+
+-- the bases that a site names
+abbrev pub basesOf : Site → Bases
+basesOf s = basesAt (s .main) (s .zero)
+
+-- ---- the call
+
+-- A load that only checks, as one side of a move, or both of them: the outcome, memory and the map after it.
+pub record Judged (o : Ran Verdict) (v : Ruling) (m : List ℕ) (r : Outcome) (m′ p′ : List ℕ) : Type 0 where
+  pub outcome : r ≡ outcomeBy o v
+  pub memory : m′ ≡ m
+  pub map : p′ ≡ mapBy o v
+
+-- What a call with the right buffers does.
+pub record Done (form : ℕ) (old new : Bases) (file m : List ℕ) (r : Outcome) (m′ p′ s′ : List ℕ) : Type 0 where
+  pub outcome : r ≡ outcomeBy (load form new file) (rulingOf form old new file)
+  pub memory : m′ ≡ memoryBy old new (rulingOf form old new file) m
+  pub map : p′ ≡ mapBy (load form new file) (rulingOf form old new file)
+  pub scratch : s′ ≡ blank
+
+-- ---- the way through the scratch
 
 -- the scratch t after a record, where the last code record is at one cursor in memory m and at the other in t
 unfoldable pub taken : List ℕ → Bases → Bases → Cursor → Cursor → List ℕ → List ℕ → Record → List ℕ
-taken file old new source target m t (Code kind address at n) = put t (target .place) (part m (source .place) (source .size))
-taken file old new source target m t (Fixups fixup at n) =
-    put t (target .place) (edited (shift old new) (fieldsOf fixup (part file at n)) (part t (target .place) (target .size)))
+taken file old new source target m t (Code kind address from n) = put t (target .place) (part m (source .place) (source .size))
+taken file old new source target m t (Fixups fixup from n) =
+    put t (target .place) (edited (shift old new) (fieldsOf fixup (part file from n)) (part t (target .place) (target .size)))
 taken file old new source target m t (End entry next) = t
 taken file old new source target m t (Faulty fault) = t
 
--- a fixup record lies in its file, and its fields in n code bytes
+-- a fixup record lies in its file, and its fields in so many code bytes
 abbrev pub Sound : List ℕ → ℕ → Record → Type 0
-Sound file n (Code kind address at k) = Unit {0}
-Sound file n (Fixups fixup at k) = (at + k ≤ length file) × Each (Inside n) (fieldsOf fixup (part file at k))
-Sound file n (End entry next) = Unit {0}
-Sound file n (Faulty fault) = Unit {0}
+Sound file size (Code kind address from n) = Unit {0}
+Sound file size (Fixups fixup from n) = (from + n ≤ length file) × Each (Inside size) (fieldsOf fixup (part file from n))
+Sound file size (End entry next) = Unit {0}
+Sound file size (Faulty fault) = Unit {0}
 
 -- a byte where the map has no mark, and where it has one
 abbrev pub chosen : ℕ → ℕ → ℕ → ℕ

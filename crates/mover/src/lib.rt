@@ -1,28 +1,27 @@
 // The ACX mover: it takes a handler that lives in memory from one pair of bases to another.
 // Two loads that only check decide whether it may. Then the handler's bytes are gathered from their old places into the scratch, where they
 // lie at their new places and have their fields adjusted, and only then go into memory: so old and new places may overlap in any way.
-use acx::Bases;
 use acx::Cursor;
 use answer::Fault;
 use answer::Outcome;
+use pieces::Bases;
 use records::Field;
 use records::Fixup;
 use records::Record;
+ghost use mathlib.Core.Bool.{true};
 ghost use mathlib.Core.Path.{_≡_};
 ghost use Prim.Native.Nat.{_+_, _≤_};
 ghost use lib.ListN.{length};
 ghost use Rattle.words.specs.Numbers.{on, off, change};
 ghost use Rattle.events.specs.Lists.{Each};
 ghost use Rattle.events.specs.Events.{blank};
-ghost use Rattle.records.specs.Fields.{fieldsOf, widthOf};
-ghost use Rattle.acx.specs.Pieces.{edited};
-ghost use Rattle.acx.specs.Demand2.{Inside};
-ghost use Rattle.mover.specs.Move.{shift, transfer, moved};
-ghost use Rattle.mover.specs.Parts.{taken, Sound, Overlaid};
-ghost use Rattle.mover.specs.Call.{basesAt, call, loadAt, side as sideOf, rulingOf, Allows, piecesOf, mapBy, Judged, Done, Moved};
-
-// The length of memory, of the map and of the scratch.
-const MEMORY: usize = 65536;
+ghost use Rattle.records.specs.Fields.{fieldsOf};
+ghost use Rattle.pieces.specs.Pieces.{width, edited};
+ghost use Rattle.pieces.specs.Places.{Inside};
+ghost use Rattle.acx.specs.Call.{load as loadOf};
+ghost use Rattle.moves.specs.Move.{shift, transfer, moved};
+ghost use Rattle.mover.specs.Parts.{basesOf, Judged, Done, taken, Sound, Overlaid};
+ghost use Rattle.moves.specs.Call.{callOf, side as sideOf, rulingOf, Allows, piecesOf, mapBy, Moved};
 
 // A pair of bases as a call asks for it, in its range or not.
 pub struct Site {
@@ -40,15 +39,15 @@ pub fn move_handler(
     map: &mut [u8],
     scratch: &mut [u8],
 ) -> Outcome
-    ensures { λ r. ⌜ Moved (now (file .entry)) (call form old new (now (map .entry)) (now (scratch .entry))) (now (memory .entry)) r (now (memory .exit)) (now (map .exit)) (now (scratch .exit)) ⌝ }
+    ensures { λ r. ⌜ Moved (now (file .entry)) (callOf form (basesOf old) (basesOf new) (now (map .entry)) (now (scratch .entry)) true) (now (memory .entry)) r (now (memory .exit)) (now (map .exit)) (now (scratch .exit)) ⌝ }
 {
-    if memory.len() != MEMORY {
+    if memory.len() != events::MEMORY {
         return answer::refused(Fault::WrongBuffer);
     }
-    if map.len() != MEMORY {
+    if map.len() != events::MEMORY {
         return answer::refused(Fault::WrongBuffer);
     }
-    if scratch.len() != MEMORY {
+    if scratch.len() != events::MEMORY {
         return answer::refused(Fault::WrongBuffer);
     }
     move_sized(form, file, old, new, memory, map, scratch)
@@ -65,7 +64,7 @@ fn move_sized(
     scratch: &mut [u8],
 ) -> Outcome
     requires { ⌜ (length (now memory) ≡ 65536) × (length (now map) ≡ 65536) × (length (now scratch) ≡ 65536) ⌝ }
-    ensures { λ r. ⌜ Done form (basesAt old) (basesAt new) (now (file .entry)) (now (memory .entry)) r (now (memory .exit)) (now (map .exit)) (now (scratch .exit)) ⌝ }
+    ensures { λ r. ⌜ Done form (basesOf old) (basesOf new) (now (file .entry)) (now (memory .entry)) r (now (memory .exit)) (now (map .exit)) (now (scratch .exit)) ⌝ }
 {
     let outcome = judge(form, file, old, new, memory, map);
     if let Outcome::Refused {
@@ -83,7 +82,7 @@ fn move_sized(
 // The bases of a site that is in its range.
 fn bases(site: Site) -> Bases
     requires { ⌜ (site .main ≤ 65535) × (site .zero ≤ 65535) ⌝ }
-    ensures { λ r. ⌜ r ≡ basesAt site ⌝ }
+    ensures { λ r. ⌜ r ≡ basesOf site ⌝ }
 {
     Bases {
         main: site.main as u16,
@@ -94,7 +93,7 @@ fn bases(site: Site) -> Bases
 // Whether the handler may move: the load at the old bases, then the one at the new, which leaves the map.
 fn judge(form: u32, file: &[u8], old: Site, new: Site, memory: &mut [u8], map: &mut [u8]) -> Outcome
     requires { ⌜ (length (now memory) ≡ 65536) × (length (now map) ≡ 65536) ⌝ }
-    ensures { λ r. ⌜ Judged (loadAt form (basesAt new) (now (file .entry))) (rulingOf form (basesAt old) (basesAt new) (now (file .entry))) (now (memory .entry)) r (now (memory .exit)) (now (map .exit)) ⌝ }
+    ensures { λ r. ⌜ Judged (loadOf form (basesOf new) (now (file .entry))) (rulingOf form (basesOf old) (basesOf new) (now (file .entry))) (now (memory .entry)) r (now (memory .exit)) (now (map .exit)) ⌝ }
 {
     let at_old = judge_side(form, file, old, 0, memory, map);
     if let Outcome::Refused {
@@ -117,7 +116,7 @@ fn judge_side(
     map: &mut [u8],
 ) -> Outcome
     requires { ⌜ (length (now memory) ≡ 65536) × (length (now map) ≡ 65536) ⌝ }
-    ensures { λ r. ⌜ Judged (loadAt form (basesAt site) (now (file .entry))) (sideOf side (loadAt form (basesAt site) (now (file .entry)) .answer)) (now (memory .entry)) r (now (memory .exit)) (now (map .exit)) ⌝ }
+    ensures { λ r. ⌜ Judged (loadOf form (basesOf site) (now (file .entry))) (sideOf side (loadOf form (basesOf site) (now (file .entry)) .answer)) (now (memory .entry)) r (now (memory .exit)) (now (map .exit)) ⌝ }
 {
     let outcome = acx::walk_call(form, file, site.main, site.zero, false, memory, map);
     if let Outcome::Refused {
@@ -145,7 +144,7 @@ fn carry(
     memory: &mut [u8],
     scratch: &mut [u8],
 )
-    requires { ⌜ Allows (rulingOf form old new (now file)) × (now map ≡ mapBy (loadAt form new (now file)) (rulingOf form old new (now file))) × (length (now memory) ≡ 65536) × (length (now scratch) ≡ 65536) ⌝ }
+    requires { ⌜ Allows (rulingOf form old new (now file)) × (now map ≡ mapBy (loadOf form new (now file)) (rulingOf form old new (now file))) × (length (now memory) ≡ 65536) × (length (now scratch) ≡ 65536) ⌝ }
     ensures { λ _. ⌜ (now (memory .exit) ≡ moved old new (piecesOf (rulingOf form old new (now (file .entry)))) (now (memory .entry))) × (now (scratch .exit) ≡ blank) ⌝ }
 {
     gather(form, file, old, new, memory, scratch);
@@ -159,7 +158,7 @@ fn commit(map: &[u8], scratch: &[u8], memory: &mut [u8])
     ensures { λ _. ⌜ Overlaid (now (map .entry)) (now (scratch .entry)) (now (memory .entry)) (now (memory .exit)) ⌝ }
 {
     let mut x = 0;
-    while x < MEMORY {
+    while x < events::MEMORY {
         if map[x] != 0 {
             memory[x] = scratch[x];
         }
@@ -236,25 +235,20 @@ fn shift_fields(items: &[u8], fixup: Fixup, old: Bases, new: Bases, code: &mut [
         shift_field(
             code,
             field,
-            acx::amount(old, field),
-            acx::amount(new, field),
+            pieces::amount(old, field),
+            pieces::amount(new, field),
         );
         i += step;
     }
 }
 
-// One amount off a field of the code, another on.
+// Takes one amount off a field of the code and puts another on.
 fn shift_field(code: &mut [u8], field: Field, old: u16, new: u16)
-    requires { ⌜ field .index + widthOf (field .fixup) ≤ length (now code) ⌝ }
-    ensures { λ _. ⌜ now (code .exit) ≡ change (widthOf (field .fixup)) (λ v. on (widthOf (field .fixup)) new (off (widthOf (field .fixup)) old v)) (now (code .entry)) (field .index) ⌝ }
+    requires { ⌜ Inside (length (now code)) field ⌝ }
+    ensures { λ _. ⌜ now (code .exit) ≡ change (width field) (λ v. on (width field) new (off (width field) old v)) (now (code .entry)) (field .index) ⌝ }
 {
     let fixup = field.fixup;
-    let width = records::width(fixup);
-    if width == 1 {
-        words::take_off_byte(code, field.index, old);
-        words::add_to_byte(code, field.index, new);
-        return;
-    }
-    words::take_off_word(code, field.index, old);
-    words::add_to_word(code, field.index, new);
+    let size = records::width(fixup);
+    words::take_off(code, field.index, size, old);
+    words::add(code, field.index, size, new);
 }

@@ -1,12 +1,15 @@
 -- The fields that a fixup record lists, one item after the other, and how many they are.
 -- Assumes nothing.
-use mathlib.Core.List.{List, [], _∷_}
-use mathlib.Core.Path.{_≡_, refl, ap, _∙_}
+use mathlib.Core.List.{List, [], _∷_, _++_}
+use mathlib.Core.Path.{_≡_, refl, sym, ap, _∙_}
 use Prim.Native.Nat.{ℕ, suc, _+_, _/_, _≤_, _<_}
 use native.Mathlib.Omega.{arith}
 use lib.ListN.{length, getD, drop, length-drop, drop-of-length-le}
 use lib.Seq.{drop-cons}
-use Rattle.records.specs.Fields.{itemSize, fieldAt, singles, pairs, fieldsOf}
+use Rattle.words.proofs.Runs.{part-one, part-two}
+use Rattle.words.specs.Runs.{part}
+use Rattle.records.specs.Fields.{itemSize, singles, pairs, fieldsOf}
+use Rattle.records.specs.declared.Field.{Field}
 use Rattle.records.specs.declared.Fixup.{Fixup}
 use Rattle.records.specs.declared.Fixup.the-variants.{Low, Page, Word, High}
 
@@ -31,14 +34,48 @@ drop-pair items i h =
     ∙ ap (λ (l : List ℕ). getD items i 0 ∷ l) (drop-next items (i + 1) (omega arith))
     ∙ ap (λ (k : ℕ). getD items i 0 ∷ getD items (i + 1) 0 ∷ drop k items) e
 
+-- an item of one byte lists the field at that index
+pub single-listed : (fixup kind : Fixup) (items : List ℕ) (i index : ℕ) → fixup ≡ kind → itemSize kind ≡ 1 → i + itemSize fixup ≤ length items
+    → index ≡ getD items i 0
+    → record { fixup = kind; index = index; lsb = 0 } ∷ [] ≡ fieldsOf fixup (part items i (itemSize fixup))
+unfolding fieldsOf
+single-listed fixup Low items i index e s h r = rw (e, r) (ap (singles Low) (sym (part-one items i (rw e at h))))
+single-listed fixup Page items i index e s h r = rw (e, r) (ap (singles Page) (sym (part-one items i (rw e at h))))
+single-listed fixup Word items i index e s h r = rw (e, r) (ap (singles Word) (sym (part-one items i (rw e at h))))
+single-listed fixup High items i index e s h r = absurd (omega arith)
+
+-- a pair lists the high byte at its index, with its LSB
+pub pair-listed : (fixup : Fixup) (items : List ℕ) (i index lsb : ℕ) → fixup ≡ High → i + itemSize fixup ≤ length items → index ≡ getD items i 0
+    → lsb ≡ getD items (i + 1) 0
+    → record { fixup = High; index = index; lsb = lsb } ∷ [] ≡ fieldsOf fixup (part items i (itemSize fixup))
+unfolding fieldsOf
+pair-listed fixup items i index lsb e h r q =
+    let two : i + 2 ≤ length items = rw e at h in
+    rw (e, r, q) (ap pairs (sym (part-two items i two)))
+
+-- the fields from an item on are that item's, and those after it
+singles-first : (fixup : Fixup) (items : List ℕ) (i : ℕ) → i + 1 ≤ length items
+    → singles fixup (drop i items) ≡ singles fixup (part items i 1) ++ singles fixup (drop (i + 1) items)
+singles-first fixup items i h =
+    ap (singles fixup) (drop-next items i h)
+    ∙ ap (λ (l : List ℕ). singles fixup l ++ singles fixup (drop (i + 1) items)) (sym (part-one items i h))
+
+item-first : (fixup : Fixup) (items : List ℕ) (i : ℕ) → i + itemSize fixup ≤ length items
+    → fieldsOf fixup (drop i items) ≡ fieldsOf fixup (part items i (itemSize fixup)) ++ fieldsOf fixup (drop (i + itemSize fixup) items)
+unfolding fieldsOf
+item-first Low items i h = singles-first Low items i h
+item-first Page items i h = singles-first Page items i h
+item-first Word items i h = singles-first Word items i h
+item-first High items i h =
+    ap pairs (drop-pair items i h)
+    ∙ ap (λ (l : List ℕ). pairs l ++ pairs (drop (i + 2) items)) (sym (part-two items i h))
+
 -- where an item stands, it lists the next field
-pub fields-more : (fixup : Fixup) (items : List ℕ) (i : ℕ) → i + itemSize fixup ≤ length items
-    → fieldsOf fixup (drop i items) ≡ fieldAt fixup items i ∷ fieldsOf fixup (drop (i + itemSize fixup) items)
-unfolding fieldsOf fieldAt
-fields-more Low items i h = ap (singles Low) (drop-next items i h)
-fields-more Page items i h = ap (singles Page) (drop-next items i h)
-fields-more Word items i h = ap (singles Word) (drop-next items i h)
-fields-more High items i h = ap pairs (drop-pair items i h)
+pub fields-more : (fixup : Fixup) (items : List ℕ) (i : ℕ) (f : Field) → i + itemSize fixup ≤ length items
+    → f ∷ [] ≡ fieldsOf fixup (part items i (itemSize fixup))
+    → fieldsOf fixup (drop i items) ≡ f ∷ fieldsOf fixup (drop (i + itemSize fixup) items)
+fields-more fixup items i f h e =
+    item-first fixup items i h ∙ ap (λ (l : List Field). l ++ fieldsOf fixup (drop (i + itemSize fixup) items)) (sym e)
 
 -- fewer than two bytes are no pair
 pairs-none : (items : List ℕ) → length items < 2 → pairs items ≡ []

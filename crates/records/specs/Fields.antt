@@ -1,8 +1,7 @@
 -- The address fields that a fixup record lists ("Its address fields are the bytes and words that its fixups list").
 -- Assumes nothing.
 use mathlib.Core.List.{List, [], _∷_}
-use Prim.Native.Nat.{ℕ, _+_}
-use lib.ListN.{getD}
+use Prim.Native.Nat.{ℕ}
 use Rattle.records.specs.declared.Field.{Field}
 use Rattle.records.specs.declared.Fixup.{Fixup}
 use Rattle.records.specs.declared.Fixup.the-variants.{Low, Page, Word, High}
@@ -21,21 +20,12 @@ itemSize Page = 1
 itemSize Word = 1
 itemSize High = 2
 
-abbrev pub lsbAt : Fixup → List ℕ → ℕ → ℕ
-lsbAt Low items at = 0
-lsbAt Page items at = 0
-lsbAt Word items at = 0
-lsbAt High items at = getD items (at + 1) 0
-
--- the field that the item at an offset lists
-unfoldable pub fieldAt : Fixup → List ℕ → ℕ → Field
-fieldAt fixup items at = record { fixup = fixup; index = getD items at 0; lsb = lsbAt fixup items at }
-
--- the fields of a list of indices, and of a list of pairs of index and LSB
+-- the fields of a list of indices
 abbrev pub singles : Fixup → List ℕ → List Field
 singles fixup [] = []
 singles fixup (index ∷ items) = record { fixup = fixup; index = index; lsb = 0 } ∷ singles fixup items
 
+-- the fields of a list of pairs of index and LSB
 abbrev pub pairs : List ℕ → List Field
 pairs [] = []
 pairs (index ∷ []) = []

@@ -99,6 +99,7 @@ readEnd file at =
     (need Faulty (leb flag 2) NotKnown
     (End (getD (entries (value 2 file (at + 2))) flag Nowhere) (at + 4)))
 
+-- a record as its type says
 abbrev pub readAs : List ℕ → ℕ → Last → RecordType → Record
 readAs file at last (code kind) = readCode file at kind
 readAs file at last (fixups kind fixup) = readFixups file at last kind fixup

@@ -1,11 +1,13 @@
 // ACX records, read with no base in mind: what stands at an offset of a file, and the fields that a fixup record lists.
 // Where a record goes and whether it fits is the business of the crate `acx`.
 use answer::Fault;
+ghost use mathlib.Core.List.{[], _∷_};
 ghost use mathlib.Core.Path.{_≡_};
 ghost use Prim.Native.Nat.{_+_, _<_, _≤_};
 ghost use lib.ListN.{length};
 ghost use Rattle.records.specs.Records.{suits as suitsOf, lengthAllowed, readCode, readItems, readFixups, readEnd, read as readOf};
-ghost use Rattle.records.specs.Fields.{itemSize, widthOf, fieldAt};
+ghost use Rattle.words.specs.Runs.{part};
+ghost use Rattle.records.specs.Fields.{itemSize, widthOf, fieldsOf};
 
 // What a code record's address counts from: the main base, the zero-page base, or nothing.
 pub enum Kind {
@@ -14,8 +16,8 @@ pub enum Kind {
     Absolute,
 }
 
-// What a fixup puts on its field: the main base on a byte, the zero-page base on a byte, the main base on a word, and on a high byte what
-// the main base carries over from the low one.
+// What a fixup puts on its field: the main base on a byte, the zero-page base on a byte, the main base on a word, and on a high byte the
+// high byte of LSB + main base.
 pub enum Fixup {
     Low,
     Page,
@@ -63,7 +65,7 @@ pub struct Field {
     pub lsb: usize,
 }
 
-// The record at `at`.
+// Reads the record at `at`.
 pub fn read(file: &[u8], at: usize, last: Last) -> Record
     requires { ⌜ length (now file) ≤ 65536 ⌝ }
     ensures { λ r. ⌜ r ≡ readOf (now (file .entry)) at last ⌝ }
@@ -71,8 +73,8 @@ pub fn read(file: &[u8], at: usize, last: Last) -> Record
     if file.len() <= at {
         return Record::Faulty(Fault::CutShort);
     }
-    let kind = file[at];
-    match kind {
+    let record_type = file[at];
+    match record_type {
         0 => read_code(file, at, Kind::Main),
         1 => read_code(file, at, Kind::Absolute),
         2 => read_fixups(file, at, last, Kind::Main, Fixup::Low),
@@ -89,7 +91,7 @@ pub fn read(file: &[u8], at: usize, last: Last) -> Record
     }
 }
 
-// A code record.
+// Reads a code record.
 fn read_code(file: &[u8], at: usize, kind: Kind) -> Record
     requires { ⌜ (at < length (now file)) × (length (now file) ≤ 65536) ⌝ }
     ensures { λ r. ⌜ r ≡ readCode (now (file .entry)) at kind ⌝ }
@@ -112,7 +114,7 @@ fn read_code(file: &[u8], at: usize, kind: Kind) -> Record
     }
 }
 
-// A fixup record for the code records of a kind.
+// Reads a fixup record for the code records of a kind.
 fn read_fixups(file: &[u8], at: usize, last: Last, kind: Kind, fixup: Fixup) -> Record
     requires { ⌜ (at < length (now file)) × (length (now file) ≤ 65536) ⌝ }
     ensures { λ r. ⌜ r ≡ readFixups (now (file .entry)) at last kind fixup ⌝ }
@@ -149,7 +151,7 @@ fn suits(kind: Kind, last: Last) -> bool
     }
 }
 
-// The items of a fixup record: their length, then the bytes themselves.
+// Reads the items of a fixup record: their length, then the bytes themselves.
 fn read_items(file: &[u8], at: usize, fixup: Fixup) -> Record
     requires { ⌜ (at + 2 ≤ length (now file)) × (length (now file) ≤ 65536) ⌝ }
     ensures { λ r. ⌜ r ≡ readItems (now (file .entry)) at fixup ⌝ }
@@ -181,7 +183,7 @@ fn length_allowed(fixup: Fixup, length: usize) -> bool
     }
 }
 
-// The end record.
+// Reads the end record.
 fn read_end(file: &[u8], at: usize) -> Record
     requires { ⌜ (at < length (now file)) × (length (now file) ≤ 65536) ⌝ }
     ensures { λ r. ⌜ r ≡ readEnd (now (file .entry)) at ⌝ }
@@ -223,7 +225,7 @@ pub fn item_size(fixup: Fixup) -> usize
 
 // How many bytes a field has.
 pub fn width(fixup: Fixup) -> usize
-    ensures { λ r. ⌜ r ≡ widthOf fixup ⌝ }
+    ensures { λ r. ⌜ (r ≡ widthOf fixup) × (1 ≤ r) × (r ≤ 2) ⌝ }
 {
     match fixup {
         Fixup::Low => 1,
@@ -236,7 +238,7 @@ pub fn width(fixup: Fixup) -> usize
 // The field that the item at `at` of a fixup record's items lists.
 pub fn field_at(items: &[u8], at: usize, fixup: Fixup) -> Field
     requires { ⌜ at + itemSize fixup ≤ length (now items) ⌝ }
-    ensures { λ r. ⌜ (r ≡ fieldAt fixup (now (items .entry)) at) × (r .index < 256) × (r .lsb < 256) ⌝ }
+    ensures { λ r. ⌜ (r ∷ [] ≡ fieldsOf fixup (part (now (items .entry)) at (itemSize fixup))) × (r .index < 256) × (r .lsb < 256) ⌝ }
 {
     let index = words::wide(items[at]);
     match fixup {

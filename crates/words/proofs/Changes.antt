@@ -132,7 +132,14 @@ change-in-part k g l a n i f h =
     let e : length (part l a n) ≡ n = length-part l a n f in
     sym (change-in-put k g l a (part l a n) i (rw e f) (rw e h)) ∙ ap (λ (r : List ℕ). change k g r (a + i)) (put-part l a n f)
 
--- ---- a byte replaced, as code does it
+-- ---- a number replaced, as code does it: read, changed and stored
+
+pub read-and-stored : (k : ℕ) (g : ℕ → ℕ) (l : List ℕ) (i v r : ℕ) (l′ : List ℕ) → v ≡ value k l i → r ≡ g v → l′ ≡ store k l i r
+    → l′ ≡ change k g l i
+unfolding change
+read-and-stored k g l i v r l′ ev er e = e ∙ ap (store k l i) (er ∙ ap g ev)
+
+-- a byte where it stands
 
 pub byte-changed : (g : ℕ → ℕ) (l : List ℕ) (i r : ℕ) → r ≡ g (getD l i 0) → r < 256 → set l i r ≡ change 1 g l i
 unfolding change store digits put

@@ -10,7 +10,7 @@ use native.Mathlib.Omega.{arith}
 use borrow.Author.Tests.{eqb-true, eq-eqb}
 use lib.Dec.{eqb}
 use lib.ListN.{length, getD, take, drop, set, length-set, length-take, length-drop, List·getD-eq-default}
-use lib.Seq.{length-sets, ext-getD, getD-set-same, getD-set-other, set-set, set-comm, getD-take, getD-drop}
+use lib.Seq.{length-sets, ext-getD, getD-set-same, getD-set-other, set-set, set-comm, getD-take, getD-drop, drop-cons}
 use Rattle.words.specs.Runs.{Bytes, Within, Apart, part, put, allZero, contains}
 
 -- an address is in a run or not
@@ -55,6 +55,19 @@ length-part l a n h = simp (length-take, length-drop) (omega arith)
 pub part-at : (l : List ℕ) (a n k : ℕ) → k < n → getD (part l a n) k 0 ≡ getD l (a + k) 0
 unfolding part
 part-at l a n k h = rw (getD-take, getD-drop)
+
+-- a run of one and of two, byte by byte
+pub part-one : (l : List ℕ) (a : ℕ) → a + 1 ≤ length l → part l a 1 ≡ getD l a 0 ∷ []
+unfolding part
+part-one l a h = ap (take 1) (drop-cons l a 0 (omega arith))
+
+pub part-two : (l : List ℕ) (a : ℕ) → a + 2 ≤ length l → part l a 2 ≡ getD l a 0 ∷ getD l (a + 1) 0 ∷ []
+unfolding part
+part-two l a h =
+    let e : suc a ≡ a + 1 = omega arith in
+    ap (take 2) (drop-cons l a 0 (omega arith))
+    ∙ ap (λ (k : ℕ). getD l a 0 ∷ take 1 (drop k l)) e
+    ∙ ap (λ (r : List ℕ). getD l a 0 ∷ take 1 r) (drop-cons l (a + 1) 0 (omega arith))
 
 -- two lists that agree over a run have the same part there
 pub part-agrees : (l r : List ℕ) (a c n : ℕ) → a + n ≤ length l → c + n ≤ length r

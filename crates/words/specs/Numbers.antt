@@ -27,7 +27,7 @@ store k l i v = put l i (digits k v)
 unfoldable pub on : ℕ → ℕ → ℕ → ℕ
 on k a v = (v + a) % 256 ^ k
 
--- v with the amount a off: the number that a on brings back to v (`on-off`)
+-- v with the amount a off, modulo the same size: each undoes the other (`on-off`, `off-on`)
 unfoldable pub off : ℕ → ℕ → ℕ → ℕ
 off k a v = (v + (256 ^ k - a % 256 ^ k)) % 256 ^ k
 

@@ -7,7 +7,7 @@ ghost use lib.ListN.{length, replicate};
 ghost use Rattle.words.specs.Runs.{put, allZero, contains as containsOf};
 ghost use Rattle.words.specs.Numbers.{value, store, on, off, change, encoded, decoded};
 
-// A byte as a wider number: a call asks for no bound on the byte, and gives one.
+// A byte as a `usize`: the one place that gives the bound which a cast of a byte asks for.
 pub fn wide(byte: u8) -> usize
     ensures { λ r. ⌜ (r ≡ byte) × (r < 256) ⌝ }
 {
@@ -52,7 +52,7 @@ pub fn contains(bytes: &[u8], byte: u8) -> bool
     false
 }
 
-// The word in the two bytes at `at`.
+// Puts the word into the two bytes at `at`.
 pub fn put_word(bytes: &mut [u8], at: usize, word: u16)
     requires { ⌜ at + 2 ≤ length (now bytes) ⌝ }
     ensures { λ _. ⌜ now (bytes .exit) ≡ store 2 (now (bytes .entry)) at word ⌝ }
@@ -61,7 +61,7 @@ pub fn put_word(bytes: &mut [u8], at: usize, word: u16)
     bytes[at + 1] = (word / 256 % 256) as u8;
 }
 
-// The number in the four bytes at `at`.
+// Puts the number into the four bytes at `at`.
 pub fn put_number(bytes: &mut [u8], at: usize, number: u32)
     requires { ⌜ at + 4 ≤ length (now bytes) ⌝ }
     ensures { λ _. ⌜ now (bytes .exit) ≡ store 4 (now (bytes .entry)) at number ⌝ }
@@ -72,7 +72,7 @@ pub fn put_number(bytes: &mut [u8], at: usize, number: u32)
     bytes[at + 3] = (number / 256 / 256 / 256 % 256) as u8;
 }
 
-// The words in a list of byte pairs, to the front of `words`.
+// Puts the words of a list of byte pairs at the front of `words`.
 pub fn decode_words(words: &mut [u16], bytes: &[u8])
     requires { ⌜ length (now bytes) / 2 ≤ length (now words) ⌝ }
     ensures { λ _. ⌜ now (words .exit) ≡ put (now (words .entry)) 0 (decoded 2 (length (now (bytes .entry)) / 2) (now (bytes .entry))) ⌝ }
@@ -85,7 +85,7 @@ pub fn decode_words(words: &mut [u16], bytes: &[u8])
     }
 }
 
-// All words as byte pairs.
+// Puts all words into a list of byte pairs.
 pub fn encode_words(bytes: &mut [u8], words: &[u16])
     requires { ⌜ length (now bytes) ≡ 2 * length (now words) ⌝ }
     ensures { λ _. ⌜ now (bytes .exit) ≡ encoded 2 (now (words .entry)) ⌝ }
@@ -97,7 +97,7 @@ pub fn encode_words(bytes: &mut [u8], words: &[u16])
     }
 }
 
-// The same byte everywhere.
+// Puts the same byte everywhere.
 pub fn fill(bytes: &mut [u8], byte: u8)
     ensures { λ _. ⌜ now (bytes .exit) ≡ replicate (length (now (bytes .entry))) byte ⌝ }
 {
@@ -108,7 +108,7 @@ pub fn fill(bytes: &mut [u8], byte: u8)
     }
 }
 
-// All of `from`, into a run as long.
+// Puts all of `from` into a run as long.
 pub fn copy(to: &mut [u8], from: &[u8])
     requires { ⌜ length (now from) ≡ length (now to) ⌝ }
     ensures { λ _. ⌜ now (to .exit) ≡ now (from .entry) ⌝ }
@@ -120,16 +120,40 @@ pub fn copy(to: &mut [u8], from: &[u8])
     }
 }
 
-// The amount on the byte at `at`, modulo 256.
-pub fn add_to_byte(bytes: &mut [u8], at: usize, amount: u16)
+// Adds the amount to the number of `width` bytes at `at`, a byte or a word: "modulo 65,536 for words, 256 for bytes".
+pub fn add(bytes: &mut [u8], at: usize, width: usize, amount: u16)
+    requires { ⌜ (at + width ≤ length (now bytes)) × (1 ≤ width) × (width ≤ 2) ⌝ }
+    ensures { λ _. ⌜ now (bytes .exit) ≡ change width (on width amount) (now (bytes .entry)) at ⌝ }
+{
+    if width == 1 {
+        add_to_byte(bytes, at, amount);
+        return;
+    }
+    add_to_word(bytes, at, amount);
+}
+
+// Takes the amount off the number of `width` bytes at `at`, likewise.
+pub fn take_off(bytes: &mut [u8], at: usize, width: usize, amount: u16)
+    requires { ⌜ (at + width ≤ length (now bytes)) × (1 ≤ width) × (width ≤ 2) ⌝ }
+    ensures { λ _. ⌜ now (bytes .exit) ≡ change width (off width amount) (now (bytes .entry)) at ⌝ }
+{
+    if width == 1 {
+        take_off_byte(bytes, at, amount);
+        return;
+    }
+    take_off_word(bytes, at, amount);
+}
+
+// Adds the amount to the byte at `at`.
+fn add_to_byte(bytes: &mut [u8], at: usize, amount: u16)
     requires { ⌜ at + 1 ≤ length (now bytes) ⌝ }
     ensures { λ _. ⌜ now (bytes .exit) ≡ change 1 (on 1 amount) (now (bytes .entry)) at ⌝ }
 {
     bytes[at] = std::num::wrapping_add_u8(bytes[at], (amount % 256) as u8);
 }
 
-// The amount on the word at `at`, modulo 65,536.
-pub fn add_to_word(bytes: &mut [u8], at: usize, amount: u16)
+// Adds the amount to the word at `at`.
+fn add_to_word(bytes: &mut [u8], at: usize, amount: u16)
     requires { ⌜ at + 2 ≤ length (now bytes) ⌝ }
     ensures { λ _. ⌜ now (bytes .exit) ≡ change 2 (on 2 amount) (now (bytes .entry)) at ⌝ }
 {
@@ -137,16 +161,16 @@ pub fn add_to_word(bytes: &mut [u8], at: usize, amount: u16)
     put_word(bytes, at, std::num::wrapping_add_u16(word, amount));
 }
 
-// The amount off the byte at `at`, modulo 256.
-pub fn take_off_byte(bytes: &mut [u8], at: usize, amount: u16)
+// Takes the amount off the byte at `at`.
+fn take_off_byte(bytes: &mut [u8], at: usize, amount: u16)
     requires { ⌜ at + 1 ≤ length (now bytes) ⌝ }
     ensures { λ _. ⌜ now (bytes .exit) ≡ change 1 (off 1 amount) (now (bytes .entry)) at ⌝ }
 {
     bytes[at] = std::num::wrapping_sub_u8(bytes[at], (amount % 256) as u8);
 }
 
-// The amount off the word at `at`, modulo 65,536.
-pub fn take_off_word(bytes: &mut [u8], at: usize, amount: u16)
+// Takes the amount off the word at `at`.
+fn take_off_word(bytes: &mut [u8], at: usize, amount: u16)
     requires { ⌜ at + 2 ≤ length (now bytes) ⌝ }
     ensures { λ _. ⌜ now (bytes .exit) ≡ change 2 (off 2 amount) (now (bytes .entry)) at ⌝ }
 {

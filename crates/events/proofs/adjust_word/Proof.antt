@@ -20,8 +20,8 @@ part-fill-end c = search needs
 fill-requires : tie.Need-fill-requires
 fill-requires c κs = search needs
 
-add-to-word-requires : tie.Need-add-to-word-requires
-add-to-word-requires c κs = search needs
+add-requires : tie.Need-add-requires
+add-requires c κs = search needs
 
 same-length : tie.Need-same-length
 same-length c = search needs
@@ -33,7 +33,7 @@ returns : tie.Need-returns
 returns c =
     let c4 = c .before .before .before .before in
     let s = c4 .before .before .before .before .before .before .before in
-    adjust-written _ _ (s .pre .1) (c4 .before .before .before .fill .ensures) (c4 .if1 .taken) (c .before .before .add-to-word .ensures)
+    adjust-written _ _ (s .pre .1) (c4 .before .before .before .fill .ensures) (c4 .if1 .taken) (c .before .before .add .ensures)
 
 same-length-3 : tie.Need-same-length-3
 same-length-3 c = search needs
@@ -52,7 +52,7 @@ adjust-word-spec =
     part-fill-start
     part-fill-end
     fill-requires
-    add-to-word-requires
+    add-requires
     same-length
     same-length-2
     returns

@@ -59,7 +59,7 @@ advance-requires c κs =
     let i = l .2 .at-old .in-file in (
       omega (arith, k, i, l .1 .fits),
       omega (arith, k, i, l .1 .fits),
-      came-ends-by (l .2 .at-old) (found-old (l .2) (l .1 .yes-old) (l .1 .yes-new) (c .before .read .ensures)) (l .1 .fits),
+      came-ends-by (l .2 .at-old) (found-old (l .2) (l .1 .yes-old) (l .1 .yes-new) (c .before .read .ensures)) 65536 (l .1 .fits),
     )
 
 advance-requires-2 : tie.Need-advance-requires-2 Inv-loop μ-loop
@@ -69,7 +69,7 @@ advance-requires-2 c κs =
     let i = l .2 .at-new .in-file in (
       omega (arith, k, i, l .1 .fits),
       omega (arith, k, i, l .1 .fits),
-      came-ends-by (l .2 .at-new) (found-new (l .2) (l .1 .yes-old) (l .1 .yes-new) (c .before .before .read .ensures)) (l .1 .fits),
+      came-ends-by (l .2 .at-new) (found-new (l .2) (l .1 .yes-old) (l .1 .yes-new) (c .before .before .read .ensures)) 65536 (l .1 .fits),
     )
 
 take-requires : tie.Need-take-requires Inv-loop μ-loop

@@ -5,7 +5,7 @@ use Prim.Native.Nat.{_≤_, _-_}
 use native.Mathlib.Omega.{arith}
 use borrow.Author.Needs.{needs}
 use lib.ListN.{length, drop}
-use Rattle.acx.proofs.Fields.{item-le, next-field, last-field}
+use Rattle.pieces.proofs.Fields.{item-le, next-field, last-field}
 use Rattle.records.proofs.Listing.{item-some}
 use Rattle.records.specs.Fields.{itemSize, fieldsOf}
 use Rattle.mover.proofs.Shifting.{Shifting, shifting-none, shifting-here, shifting-more, shifting-end}

@@ -1,13 +1,14 @@
 -- `records::field_at` meets its contract: each arm is the field of its variant, and an item as long as its variant asks lies in the items.
 -- Assumes nothing.
+use mathlib.Core.Path.{refl}
 use Prim.Native.Nat.{_+_, _≤_}
 use native.Mathlib.Omega.{arith}
 use borrow.Author.Needs.{needs}
 use lib.ListN.{length}
-use Rattle.records.proofs.Listing.{item-some}
+use Rattle.records.proofs.Listing.{item-some, single-listed, pair-listed}
 use Rattle.records.proofs.field_at.Statement.{statement}
 use Rattle.records.proofs.field_at.Tie as tie
-use Rattle.records.specs.Fields.{fieldAt}
+use Rattle.records.specs.declared.Fixup.the-variants.{Low, Page, Word}
 
 shared-slice-read-wide : tie.Need-shared-slice-read-wide
 shared-slice-read-wide c =
@@ -43,28 +44,31 @@ enum-told-4 : tie.Need-enum-told-4
 enum-told-4 c = search needs
 
 returns : tie.Need-returns
-unfolding fieldAt
 returns c =
     let w = c .before .before .before .before in
-    (simp (← w .wide .ensures .0, ← c .wide2 .ensures .0, c .before .before .enum-told .given .1), w .wide .ensures .1, c .wide2 .ensures .1)
+    let s = w .before .before .before in (
+      pair-listed _ _ (s .args .at) _ _ (c .before .before .enum-told .given .1) (s .pre) (w .wide .ensures .0) (c .wide2 .ensures .0),
+      w .wide .ensures .1,
+      c .wide2 .ensures .1,
+    )
 
 returns-2 : tie.Need-returns-2
-unfolding fieldAt
 returns-2 c =
     let w = c .before .before in
-    (simp (← w .wide .ensures .0, c .enum-told2 .given .1), w .wide .ensures .1, omega arith)
+    let s = w .before .before .before in
+    (single-listed _ Low _ (s .args .at) _ (c .enum-told2 .given .1) refl (s .pre) (w .wide .ensures .0), w .wide .ensures .1, omega arith)
 
 returns-3 : tie.Need-returns-3
-unfolding fieldAt
 returns-3 c =
     let w = c .before .before in
-    (simp (← w .wide .ensures .0, c .enum-told3 .given .1), w .wide .ensures .1, omega arith)
+    let s = w .before .before .before in
+    (single-listed _ Page _ (s .args .at) _ (c .enum-told3 .given .1) refl (s .pre) (w .wide .ensures .0), w .wide .ensures .1, omega arith)
 
 returns-4 : tie.Need-returns-4
-unfolding fieldAt
 returns-4 c =
     let w = c .before .before in
-    (simp (← w .wide .ensures .0, c .enum-told4 .given .1), w .wide .ensures .1, omega arith)
+    let s = w .before .before .before in
+    (single-listed _ Word _ (s .args .at) _ (c .enum-told4 .given .1) refl (s .pre) (w .wide .ensures .0), w .wide .ensures .1, omega arith)
 
 pub field-at-spec : {M : Type 1} → statement M
 field-at-spec =

@@ -34,8 +34,8 @@ returns : tie.Need-returns
 unfolding readOf need
 returns c = simp (le-ltb _ _ (c .if1 .taken))
 
-shared-slice-read-kind : tie.Need-shared-slice-read-kind
-shared-slice-read-kind c = search needs
+shared-slice-read-record-type : tie.Need-shared-slice-read-record-type
+shared-slice-read-record-type c = search needs
 
 read-code-requires : tie.Need-read-code-requires
 read-code-requires c κs = search needs
@@ -125,7 +125,7 @@ read-spec =
     tie.close
     (tie.spec
     returns
-    shared-slice-read-kind
+    shared-slice-read-record-type
     read-code-requires
     read-code-requires-2
     read-fixups-requires

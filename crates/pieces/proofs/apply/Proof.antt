@@ -1,0 +1,138 @@
+-- `pieces::apply` meets its contract: each kind of record comes to what its part comes to, and lies in the file.
+-- Assumes nothing.
+use native.Mathlib.Omega.{arith}
+use borrow.Author.Needs.{needs}
+use Rattle.pieces.proofs.Applying.{applied-code, applied-fixups, applied-end, applied-faulty, lent-fits}
+use Rattle.pieces.proofs.apply.Statement.{statement}
+use Rattle.pieces.proofs.apply.Tie as tie
+
+enum-known-found : tie.Need-enum-known-found
+enum-known-found c = search needs
+
+add-next : tie.Need-add-next
+add-next c =
+    let s = c .before .before .before .before .before .before in
+    let w = rw (c .before .found .given .1) at (s .pre .1) in
+    omega (arith, w, s .pre .0)
+
+place-of-requires : tie.Need-place-of-requires
+place-of-requires c κs = search needs
+
+sub-place-code : tie.Need-sub-place-code
+sub-place-code c = search needs
+
+part-place-code-start : tie.Need-part-place-code-start
+part-place-code-start c = search needs
+
+part-place-code-end : tie.Need-part-place-code-end
+part-place-code-end c =
+    let s = c .before .before .before .before .before .before .before in
+    let w = rw (c .before .before .found .given .1) at (s .pre .1) in
+    omega (arith, w)
+
+limit-requires : tie.Need-limit-requires
+limit-requires c κs = search needs
+
+place-code-requires : tie.Need-place-code-requires
+place-code-requires c κs =
+    let g = c .before .before .before .before in
+    let s = g .before .before .before .before .before .before .before in
+    let w = rw (g .before .before .found .given .1) at (s .pre .1) in
+    (g .place-of .ensures .1, lent-fits _ _ _ w (s .pre .0), c .before .before .limit .ensures .1, s .pre .3, s .pre .4)
+
+enum-known-found-2 : tie.Need-enum-known-found-2
+enum-known-found-2 c = search needs
+
+add-next-2 : tie.Need-add-next-2
+add-next-2 c =
+    let s = c .before .before .before .before .before .before in
+    let w = rw (c .before .found2 .given .1) at (s .pre .1) in
+    omega (arith, w, s .pre .0)
+
+sub-adjust-fields : tie.Need-sub-adjust-fields
+sub-adjust-fields c = search needs
+
+part-adjust-fields-start : tie.Need-part-adjust-fields-start
+part-adjust-fields-start c = search needs
+
+part-adjust-fields-end : tie.Need-part-adjust-fields-end
+part-adjust-fields-end c =
+    let s = c .before .before .before .before .before .before in
+    let w = rw (c .before .found2 .given .1) at (s .pre .1) in
+    omega (arith, w)
+
+adjust-fields-requires : tie.Need-adjust-fields-requires
+adjust-fields-requires c κs =
+    let s = c .before .before .before .before .before .before .before .before .before in
+    let w = rw (c .before .before .before .before .found2 .given .1) at (s .pre .1) in
+    (lent-fits _ _ _ w (s .pre .0), s .pre .2, s .pre .3, s .pre .4)
+
+enum-known-found-3 : tie.Need-enum-known-found-3
+enum-known-found-3 c = search needs
+
+end-requires : tie.Need-end-requires
+end-requires c κs = search needs
+
+enum-known-found-4 : tie.Need-enum-known-found-4
+enum-known-found-4 c = search needs
+
+same-length : tie.Need-same-length
+same-length c = search needs
+
+same-length-2 : tie.Need-same-length-2
+same-length-2 c = search needs
+
+returns : tie.Need-returns
+returns c =
+    let o = c .before .before .before .before in
+    let l = o .before .before .before in
+    let g = l .before .before in
+    applied-code _ _ _ _ _ _ _ _ _ _ _ _ _ _ _ _ _ (g .before .before .found .given .1) (g .place-of .ensures .0) (l .limit .ensures .0)
+    (o .place-code .ensures)
+
+same-length-3 : tie.Need-same-length-3
+same-length-3 c = search needs
+
+same-length-4 : tie.Need-same-length-4
+same-length-4 c = search needs
+
+returns-2 : tie.Need-returns-2
+returns-2 c =
+    let o = c .before .before .before .before in
+    applied-fixups _ _ _ _ _ _ _ _ _ _ _ _ _ _ (o .before .before .before .before .before .found2 .given .1) (o .adjust-fields .ensures)
+
+returns-3 : tie.Need-returns-3
+returns-3 c = applied-end _ _ _ _ _ _ _ _ _ _ _ (c .before .before .found3 .given .1) (c .end .ensures)
+
+returns-4 : tie.Need-returns-4
+returns-4 c = applied-faulty _ _ _ _ _ _ _ _ _ (c .before .found4 .given .1)
+
+pub apply-spec : {M : Type 1} → statement M
+apply-spec =
+    tie.close
+    (tie.spec
+    enum-known-found
+    add-next
+    place-of-requires
+    sub-place-code
+    part-place-code-start
+    part-place-code-end
+    limit-requires
+    place-code-requires
+    enum-known-found-2
+    add-next-2
+    sub-adjust-fields
+    part-adjust-fields-start
+    part-adjust-fields-end
+    adjust-fields-requires
+    enum-known-found-3
+    end-requires
+    enum-known-found-4
+    same-length
+    same-length-2
+    returns
+    same-length-3
+    same-length-4
+    returns-2
+    returns-3
+    returns-4)
