@@ -13,6 +13,7 @@ use Rattle.blocks.specs.Blocks.{amountOf}
 use Rattle.blocks.specs.declared.Block.{Block}
 use Rattle.blocks.specs.declared.Block.the-variants.{Plain, Relocatable, Update, NewName, Faulty}
 use Rattle.events.specs.Events.{Event, place, reserve, adjust, marks, blank, placedMark, reservedMark, adjustedMark, placedIn, adjustedIn}
+use Rattle.events.specs.Sizes.{fileLimit}
 use Rattle.events.specs.Lists.{Each}
 use Rattle.updates.specs.Bodies.{done}
 use Rattle.updates.specs.Items.{slotAt}
@@ -155,7 +156,7 @@ pub record Demand2 (file : List ℕ) (g : Given) (z : Progress) (es : List Event
 pub record Asked (file : List ℕ) (g : Given) (b : Rooms) : Type 0 where
   pub buffers : sized g b ≡ true
   pub settings : inRange g ≡ true
-  pub fits : length file ≤ 65536
+  pub fits : length file ≤ fileLimit
 
 -- A call that was accepted: it was as asked, the file follows the rules, and this is what it left and reported.
 pub record AcceptedCall (file : List ℕ) (g : Given) (b b′ : Rooms) (start : Start) (placed adjusted named low : ℕ) : Type 0 where
