@@ -94,11 +94,12 @@ abbrev pub mapAfter : Verdict → List Event → List ℕ
 mapAfter (finished z) es = marks es blank
 mapAfter (refused fault z) es = blank
 
--- the new-name buffers after a load: "Every other refusal leaves .. new-name buffers .. as they were"
+-- the new names after a load: "Every other refusal leaves .. new-name buffers .. as they were"
 abbrev pub namesAfter : Verdict → List ℕ → List ℕ
 namesAfter (finished z) names = filledUp namesRoom (z .names)
 namesAfter (refused fault z) names = names
 
+-- and their addresses
 abbrev pub addressesAfter : Verdict → List ℕ → List ℕ
 addressesAfter (finished z) addresses = filledUp addressesRoom (z .addresses)
 addressesAfter (refused fault z) addresses = addresses

@@ -117,11 +117,12 @@ unfoldable pub eventsOf : List Deed → List Event
 eventsOf [] = []
 eventsOf (d ∷ ds) = eventsOf ds ++ d .events
 
--- the names that they brought, and their addresses
+-- the names that they brought
 unfoldable pub namesOf : List ℕ → List Deed → List ℕ
 namesOf file [] = []
 namesOf file (d ∷ ds) = namesOf file ds ++ nameIn file (d .block)
 
+-- and the addresses of these
 unfoldable pub addressesOf : List Deed → List ℕ
 addressesOf [] = []
 addressesOf (d ∷ ds) = addressesOf ds ++ addressIn (d .block)
