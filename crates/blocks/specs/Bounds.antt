@@ -4,6 +4,7 @@
 use mathlib.Core.List.{List}
 use mathlib.Core.Path.{_≡_}
 use Prim.Native.Nat.{ℕ, _+_, _≤_, _<_}
+use Rattle.events.specs.Sizes.{memorySize}
 use Rattle.names.specs.Names.{nameSize}
 use Rattle.updates.specs.Items.{slotAt}
 use Rattle.updates.specs.declared.Slot.{Slot}
@@ -26,7 +27,7 @@ Listed lent own (OwnName i) = i < own
 
 -- what a plain block places lies in memory, since its last byte has an address
 pub record InMemory (b : Block) : Type 0 where
-  pub ends : (address from size : ℕ) → b ≡ Plain address from size → address + size ≤ 65536
+  pub ends : (address from size : ℕ) → b ≡ Plain address from size → address + size ≤ memorySize
 
 -- what a block at a cursor says begins past its offset and lies in a file of so many bytes, below 65,536, in the lists of so many names; and
 -- there is a block or a name left for it
@@ -38,5 +39,6 @@ Lies len c lent own (Update source from) = (c .at < from) × (from ≤ len) × L
 Lies len c lent own (NewName from address) = (c .at < from) × (from + nameSize ≤ len) × (c .named < mostNames)
 Lies len c lent own (Faulty fault) = Unit {0}
 
+-- (the same as a record)
 pub record Fits (len : ℕ) (c : Cursor) (lent own : ℕ) (b : Block) : Type 0 where
   pub lies : Lies len c lent own b

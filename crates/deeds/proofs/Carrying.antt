@@ -36,15 +36,14 @@ pub placing-did : (file : List ℕ) (address from size : ℕ) (write : Bool) (m 
 unfolding adjustedIn
 placing-did file address from size write m p m′ p′ h =
     let e : midOf from (from + size - from) file ≡ part file from size = lent-is from size file in
-    let g = rw e at h in
-    record { answer = refl; memory = g .memory; map = g .map }
+    record { answer = refl; reached = rw e at h }
 
 -- what is reserved is only marked
 reserved-did : (file : List ℕ) (low from size : ℕ) (write : Bool) (m p p′ : List ℕ) → p′ ≡ marks (reserve low size ∷ []) p
     → Did Ended (ended (laying true file low from size)) write m p (Done from 0) m p′
 unfolding adjustedIn play
-reserved-did file low from size true m p p′ h = record { answer = refl; memory = refl; map = h }
-reserved-did file low from size false m p p′ h = record { answer = refl; memory = refl; map = h }
+reserved-did file low from size true m p p′ h = record { answer = refl; reached = record { memory = refl; map = h } }
+reserved-did file low from size false m p p′ h = record { answer = refl; reached = record { memory = refl; map = h } }
 
 pub laying-reserved : (reserves : Bool) (file : List ℕ) (low from size : ℕ) (write : Bool) (m p p′ : List ℕ) → reserves ≡ true
     → p′ ≡ marks (reserve low size ∷ []) p

@@ -58,7 +58,7 @@ advanced c (Update source from) next = movedOn c next (c .named)
 advanced c (NewName from address) next = movedOn c next (c .named + 1)
 advanced c (Faulty fault) next = c
 
--- the name that a block brings, and its address
+-- the name that a block brings
 abbrev pub nameIn : List ℕ → Block → List ℕ
 nameIn file (Plain address from size) = []
 nameIn file (Relocatable reserves number offset from size) = []
@@ -66,6 +66,7 @@ nameIn file (Update source from) = []
 nameIn file (NewName from address) = part file from nameSize
 nameIn file (Faulty fault) = []
 
+-- and the address of that name
 abbrev pub addressIn : Block → List ℕ
 addressIn (Plain address from size) = []
 addressIn (Relocatable reserves number offset from size) = []

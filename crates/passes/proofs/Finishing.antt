@@ -59,7 +59,7 @@ reported-as e f g = record { outcome = rw e refl; names = f; addresses = g }
 -- a walk that only checks has written no memory
 pub checked-as : {o : Ran Verdict} {m p ns ads m′ p′ ns′ ads′ p″ : List ℕ} {r : Walked}
     → Went o false (rooms m p ns ads) r (rooms m′ p′ ns′ ads′) → p″ ≡ blank → Checked o m r m′ p″
-checked-as h clear = record { answer = h .did .answer; memory = h .did .memory; map = clear; bounded = h .bounded }
+checked-as h clear = record { answer = h .did .answer; memory = h .did .reached .memory; map = clear; bounded = h .bounded }
 
 -- ---- the start
 

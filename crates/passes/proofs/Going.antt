@@ -153,8 +153,7 @@ module _ {file : List ℕ} {g : Given} {write : Bool} {b : Rooms} where
         (record {
           did = record {
             answer = finished-same (c .low) (x .counted .each) (x .placed-is) (x .adjusted-is);
-            memory = x .reached .memory;
-            map = rw clear (x .reached .map);
+            reached = rw clear (x .reached);
           };
           names = x .new-names;
           addresses = x .new-addresses;
@@ -226,7 +225,7 @@ module _ {file : List ℕ} {g : Given} {write : Bool} {b : Rooms} where
             (ap (λ (q : Ran (Turn Progress Verdict)). q .events) t) in
             rw w
             (record {
-              did = record { answer = refl; memory = reached-then .memory; map = rw clear (reached-then .map) };
+              did = record { answer = refl; reached = rw clear reached-then };
               names = x .new-names;
               addresses = x .new-addresses;
               eights = x .counted .bytes ∙ ap (λ (n : ℕ). 8 * n) (sym (x .counted .each));

@@ -10,6 +10,7 @@ use Rattle.answer.specs.declared.Outcome.{Outcome}
 use Rattle.answer.specs.declared.Outcome.the-variants.{Accepted}
 use Rattle.blocks.specs.Blocks.{mostNames}
 use Rattle.events.specs.Events.{Event, blank, placedIn, adjustedIn, Ran, Did}
+use Rattle.events.specs.Sizes.{fileLimit}
 use Rattle.names.specs.Names.{nameSize}
 use Rattle.words.specs.Runs.{part, put}
 use Rattle.passes.specs.Rooms.{Rooms, startIn, filledUp, namesRoom, addressesRoom}
@@ -27,6 +28,7 @@ abbrev pub walked : Verdict → List Event → Walked
 walked (finished z) es = Finished (totals (z .cursor .low) (length (z .addresses)) (placedIn es) (adjustedIn es))
 walked (refused fault z) es = Stopped fault (z .cursor .at)
 
+-- and all that it comes to
 abbrev pub walkedAs : Ran Verdict → Ran Walked
 walkedAs o = record { answer = walked (o .answer) (o .events); events = o .events }
 
@@ -37,8 +39,8 @@ progressOf (refused fault z) = z
 
 -- the numbers of a walk's answer are within their bounds
 pub record Bounded (r : Walked) : Type 0 where
-  pub offset : (fault : Fault) (at : ℕ) → r ≡ Stopped fault at → at ≤ 65536
-  pub counts : (t : Totals) → r ≡ Finished t → (t .named ≤ mostNames) × (t .placed ≤ 65536) × (t .adjusted ≤ 65536)
+  pub offset : (fault : Fault) (at : ℕ) → r ≡ Stopped fault at → at ≤ fileLimit
+  pub counts : (t : Totals) → r ≡ Finished t → (t .named ≤ mostNames) × (t .placed ≤ fileLimit) × (t .adjusted ≤ fileLimit)
 
 -- What a walk does: it found the buffers b, and answers r and leaves b′, as o says. The new names so far stand at the front of their rooms.
 pub record Went (o : Ran Verdict) (write : Bool) (b : Rooms) (r : Walked) (b′ : Rooms) : Type 0 where

@@ -17,13 +17,15 @@ pub record Rooms : Type 0 where
   pub names : List ℕ
   pub addresses : List ℕ
 
+-- these four
 abbrev pub rooms : List ℕ → List ℕ → List ℕ → List ℕ → Rooms
 rooms memory map names addresses = record { memory = memory; map = map; names = names; addresses = addresses }
 
--- "room for new names, 256 bytes, beside 32 addresses of 16 bits"
+-- "room for new names, 256 bytes"
 abbrev pub namesRoom : ℕ
 namesRoom = 256
 
+-- "beside 32 addresses of 16 bits"
 abbrev pub addressesRoom : ℕ
 addressesRoom = mostNames
 
@@ -31,9 +33,10 @@ addressesRoom = mostNames
 abbrev pub filledUp : ℕ → List ℕ → List ℕ
 filledUp room written = written ++ replicate (room - length written) 0
 
--- "The start is the word at 02E0 if both its bytes end marked 1 or 3, else absent."
+-- "the word at 02E0"
 abbrev pub startPlace : ℕ
 startPlace = 0x02E0
 
+-- "The start is the word at 02E0 if both its bytes end marked 1 or 3, else absent."
 unfoldable pub startIn : List ℕ → List ℕ → Start
 startIn map memory = pick (wordLoaded map startPlace) (At (value 2 memory startPlace)) Absent

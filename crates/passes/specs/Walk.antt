@@ -22,7 +22,7 @@ pub record Given : Type 0 where
   pub low : ℕ
   pub high : ℕ
 
--- all of it
+-- these four
 abbrev pub given : List ℕ → List ℕ → ℕ → ℕ → Given
 given names addresses low high = record { names = names; addresses = addresses; low = low; high = high }
 

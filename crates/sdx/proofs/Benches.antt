@@ -17,10 +17,11 @@ use Rattle.words.specs.Runs.{Bytes}
 use Rattle.passes.specs.Rooms.{Rooms}
 use Rattle.passes.specs.Walk.{Given, Progress, Verdict, finished, refused}
 use Rattle.sdx.proofs.Demand2.{finished-asked, asked-judged, asked-memory, asked-top, Left, call-leaves}
+use Rattle.sdx.proofs.Faults.{Later, later-not, LaterVerdict, load-later}
 use Rattle.sdx.proofs.Keeping.{judged-keeps}
 use Rattle.sdx.proofs.Lawful.{Lawful}
 use Rattle.sdx.proofs.Same.{loaded-same, placed-same, start-same}
-use Rattle.sdx.specs.Benches.{RefusedCall, SameProgram}
+use Rattle.sdx.specs.Benches.{RefusedClaim, SameClaim}
 use Rattle.sdx.specs.Call.{load, call, report, memoryAfter, mapAfter, namesAfter, addressesAfter, sized, Loaded, atOnce, judged}
 use Rattle.sdx.specs.Demand2.{Places, Among, Asked}
 
@@ -37,26 +38,63 @@ refused-untouched : (v : Verdict) (es : List Event) (m ns ads : List ℕ) → is
 refused-untouched (finished z) es m ns ads e = absurd (false≢true e)
 refused-untouched (refused fault z) es m ns ads e = record { memory = refl; map = refl; names = refl; addresses = refl }
 
+-- its fault has a later number than 1
+reported-later : (m : List ℕ) (v : Verdict) (es : List Event) → LaterVerdict v → isRefused (report m v es) ≡ true → Later (faultIn (report m v es))
+reported-later m (finished z) es h e = absurd (false≢true e)
+reported-later m (refused fault z) es h e = h .later
+
+-- a call with the right buffers is not refused with 1, one with others is
+module _ (file : List ℕ) (g : Given) (b b′ : Rooms) (r : Outcome) (d : Loaded file g (sized g b) b r b′) (fault : Fault) (offset side : ℕ)
+    (e : r ≡ Refused fault offset side) where
+  -- the fault is the definition's
+  fault-is : (t : Bool) → sized g b ≡ t → fault ≡ faultIn (report (b .memory) (call file g t .answer) (call file g t .events))
+  fault-is t h =
+      ap faultIn (sym e ∙ d .outcome)
+      ∙ ap (λ (s : Bool). faultIn (report (b .memory) (call file g s .answer) (call file g s .events))) h
+
+  was-refused : (t : Bool) → sized g b ≡ t → isRefused (report (b .memory) (call file g t .answer) (call file g t .events)) ≡ true
+  was-refused t h =
+      ap (λ (s : Bool). isRefused (report (b .memory) (call file g s .answer) (call file g s .events))) (sym h)
+      ∙ ap isRefused (sym (d .outcome) ∙ e)
+
+  right-later : sized g b ≡ true → ¬ (fault ≡ WrongBuffer)
+  unfolding call need
+  right-later h =
+      later-not fault
+      (rw (fault-is true h) (reported-later (b .memory) (load file g .answer) (load file g .events) (load-later file g) (was-refused true h)))
+
+  wrong-first : sized g b ≡ false → fault ≡ WrongBuffer
+  unfolding call need
+  wrong-first h = fault-is false h
+
+  untouched : Untouched (call file g (sized g b) .answer) (call file g (sized g b) .events) (b .memory) (b .names) (b .addresses)
+  untouched = refused-untouched _ _ (b .memory) (b .names) (b .addresses) (ap isRefused (sym (d .outcome) ∙ e))
+
+  map-is : (t : Bool) → sized g b ≡ t
+      → b′ .map ≡ pick t (mapAfter (call file g (sized g b) .answer) (call file g (sized g b) .events)) (b .map)
+  map-is t h =
+      d .map ∙ ap (λ (s : Bool). pick s (mapAfter (call file g (sized g b) .answer) (call file g (sized g b) .events)) (b .map)) h
+
+  map-first : (t : Bool) → sized g b ≡ t → fault ≡ WrongBuffer → b′ .map ≡ b .map
+  unfolding pick
+  map-first true h f = absurd (right-later h f)
+  map-first false h f = map-is false h
+
+  map-later : (t : Bool) → sized g b ≡ t → ¬ (fault ≡ WrongBuffer) → b′ .map ≡ blank
+  unfolding pick
+  map-later true h f = map-is true h ∙ untouched .map
+  map-later false h f = absurd (f (wrong-first h))
+
 -- a refused call
-pub call-refused : (file : List ℕ) (g : Given) (b b′ : Rooms) (r : Outcome) → Loaded file g (sized g b) b r b′ → (fault : Fault) (offset side : ℕ)
-    → r ≡ Refused fault offset side
-    → RefusedCall g fault b b′
-unfolding call need pick
+pub call-refused : RefusedClaim
 call-refused file g b b′ r d fault offset side e =
-    let o = call file g (sized g b) in
-    let u = refused-untouched (o .answer) (o .events) (b .memory) (b .names) (b .addresses) (ap isRefused (sym (d .outcome) ∙ e)) in
-    let map : (t : Bool) → sized g b ≡ t → b′ .map ≡ pick t (mapAfter (o .answer) (o .events)) (b .map) =
-    λ t h. d .map ∙ ap (λ (s : Bool). pick s (mapAfter (o .answer) (o .events)) (b .map)) h in
+    let u = untouched file g b b′ r d fault offset side e in
     record {
       memory = d .memory ∙ u .memory;
       names = d .names ∙ u .names;
       addresses = d .addresses ∙ u .addresses;
-      wrong-buffer = λ h. (
-        ap faultIn (sym e ∙ d .outcome)
-            ∙ ap (λ (t : Bool). faultIn (report (b .memory) (call file g t .answer) (call file g t .events))) h,
-        map false h,
-      );
-      other = λ h. map true h ∙ u .map;
+      wrong-buffer = map-first file g b b′ r d fault offset side e (sized g b) refl;
+      other = map-later file g b b′ r d fault offset side e (sized g b) refl;
     }
 
 -- ---- two benches
@@ -149,11 +187,8 @@ the-map file g b b′ r d h =
     ∙ ap (λ (k : Ran Verdict). mapAfter (k .answer) (k .events)) (call-load file g b h)
 
 -- two calls with the right buffers
-pub same-program : (file : List ℕ) (g : Given) (b₁ b₂ b d : Rooms) (r t : Outcome) → Loaded file g (sized g b₁) b₁ r b → Loaded file g (sized g b₂) b₂ t d → sized g b₁ ≡ true
-    → sized g b₂ ≡ true
-    → Bytes file
-    → SameProgram file g r t b d
-same-program file g b₁ b₂ b d r t f s h i bytes =
+pub same-program : SameClaim
+same-program file bytes g b₁ b₂ b d r t h i f s =
     let x = both file g b₁ b₂ b d r t f s h i bytes in
     record {
       outcome = by (load file g .answer) refl;

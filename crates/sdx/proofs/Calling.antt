@@ -146,8 +146,8 @@ module _ {o : Ran Verdict} {m p ns ads m₁ p₁ : List ℕ} {r₁ : Walked} (fi
           let bytes : length (z .names) ≡ 8 * t .named =
           ap (λ (v : Verdict). length (progressOf v .names)) (sym f) ∙ second .eights
           ∙ ap (λ (v : Verdict). 8 * length (progressOf v .addresses)) f ∙ ap (λ (i : ℕ). 8 * i) (sym n) in
-          let memory : m₂ ≡ play (o .events) m = second .did .memory ∙ ap (λ (l : List ℕ). play (o .events) l) (first .memory) in
-          let map : p₂ ≡ marks (o .events) blank = second .did .map ∙ ap (λ (q : List ℕ). marks (o .events) q) (first .map) in
+          let memory : m₂ ≡ play (o .events) m = second .did .reached .memory ∙ ap (λ (l : List ℕ). play (o .events) l) (first .memory) in
+          let map : p₂ ≡ marks (o .events) blank = second .did .reached .map ∙ ap (λ (q : List ℕ). marks (o .events) q) (first .map) in
           let names : part ns₂ 0 (8 * t .named) ≡ z .names =
           front-holds ns (z .names) ns₂ (8 * t .named) (second .names ∙ ap (λ (v : Verdict). put ns 0 (progressOf v .names)) f) bytes
           (omega (arith, room, few)) in

@@ -6,4 +6,5 @@ pub mod Passing
 pub mod Keeping
 pub mod Demand2
 pub mod Same
+pub mod Faults
 pub mod Benches

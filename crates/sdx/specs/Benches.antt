@@ -1,6 +1,7 @@
--- Two sentences of the user about every call, in terms of the loader's contract. Proved in proofs/Benches.antt.
+-- Two sentences of the user about every call, in terms of the loader's contract. The claims are proved in proofs/Benches.antt (`call-refused`,
+-- `same-program`).
 -- Assumes nothing.
-use mathlib.Core.Bool.{true, false}
+use mathlib.Core.Bool.{true}
 use mathlib.Core.List.{List}
 use mathlib.Core.Path.{_≡_}
 use Prim.Native.Nat.{ℕ}
@@ -8,22 +9,31 @@ use lib.ListN.{getD}
 use Rattle.answer.specs.declared.Fault.{Fault}
 use Rattle.answer.specs.declared.Fault.the-variants.{WrongBuffer}
 use Rattle.answer.specs.declared.Outcome.{Outcome}
+use Rattle.answer.specs.declared.Outcome.the-variants.{Refused}
 use Rattle.events.specs.Events.{Event, blank}
+use Rattle.words.specs.Runs.{Bytes}
 use Rattle.passes.specs.Rooms.{Rooms}
 use Rattle.passes.specs.Walk.{Given, Progress, finished}
-use Rattle.sdx.specs.Call.{load, sized}
+use Rattle.sdx.specs.Call.{sized, load, Loaded}
 use Rattle.sdx.specs.Demand2.{Places, Among}
 
--- "A refusal leaves program memory untouched, and the other buffers hold what document 01 names": a call that was refused found the buffers b,
--- and left b′
-pub record RefusedCall (g : Given) (fault : Fault) (b b′ : Rooms) : Type 0 where
+-- "A refusal leaves program memory untouched, and the other buffers hold what document 01 names": a call that was refused with a fault found
+-- the buffers b, and left b′
+pub record RefusedCall (fault : Fault) (b b′ : Rooms) : Type 0 where
   pub memory : b′ .memory ≡ b .memory
   pub names : b′ .names ≡ b .names
   pub addresses : b′ .addresses ≡ b .addresses
   -- "Refusal 1 changes nothing"
-  pub wrong-buffer : sized g b ≡ false → (fault ≡ WrongBuffer) × (b′ .map ≡ b .map)
+  pub wrong-buffer : fault ≡ WrongBuffer → b′ .map ≡ b .map
   -- "Every other refusal leaves .. the map all zero"
-  pub other : sized g b ≡ true → b′ .map ≡ blank
+  pub other : ¬ (fault ≡ WrongBuffer) → b′ .map ≡ blank
+
+-- The claim: of every file, whatever is given and lent, and of every call that keeps the loader's contract.
+abbrev pub RefusedClaim : Type 0
+RefusedClaim =
+    (file : List ℕ) (g : Given) (b b′ : Rooms) (r : Outcome) → Loaded file g (sized g b) b r b′ → (fault : Fault) (offset side : ℕ)
+    → r ≡ Refused fault offset side
+    → RefusedCall fault b b′
 
 -- "Two benches with the same settings must never hold two different programs from one file": two calls of a file, whatever their buffers held
 -- before, answer r and t, and leave the buffers b and d. (A file that is refused, for its settings or its length too, leaves no program.)
@@ -35,3 +45,11 @@ pub record SameProgram (file : List ℕ) (g : Given) (r t : Outcome) (b d : Room
       → Among (load file g .events) before e after → Places x e → getD (b .memory) x 0 ≡ getD (d .memory) x 0
   pub names : (z : Progress) → load file g .answer ≡ finished z → b .names ≡ d .names
   pub addresses : (z : Progress) → load file g .answer ≡ finished z → b .addresses ≡ d .addresses
+
+-- The claim: of every file, whatever is given, and of every two calls that keep the loader's contract, with buffers of the right lengths.
+abbrev pub SameClaim : Type 0
+SameClaim =
+    (file : List ℕ) → Bytes file → (g : Given) (b₁ b₂ b d : Rooms) (r t : Outcome) → sized g b₁ ≡ true → sized g b₂ ≡ true
+    → Loaded file g (sized g b₁) b₁ r b
+    → Loaded file g (sized g b₂) b₂ t d
+    → SameProgram file g r t b d

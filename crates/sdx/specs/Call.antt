@@ -14,6 +14,7 @@ use Rattle.answer.specs.declared.Outcome.{Outcome}
 use Rattle.answer.specs.declared.Outcome.the-variants.{Accepted, Refused}
 use Rattle.blocks.specs.Blocks.{firstMarker}
 use Rattle.events.specs.Events.{Event, play, marks, blank, placedIn, adjustedIn, Ran}
+use Rattle.events.specs.Sizes.{memorySize, fileLimit}
 use Rattle.events.specs.declared.Check.{Check}
 use Rattle.events.specs.declared.Check.the-variants.{Passed, Failed}
 use Rattle.names.specs.Names.{nameSize}
@@ -29,15 +30,19 @@ usual names addresses = given names addresses 7936 39936
 abbrev pub inRange : Given → Bool
 inRange g = leb (g .low) (g .high) && leb (g .high) 65535
 
+-- "at most 256"
+abbrev pub mostKnown : ℕ
+mostKnown = 256
+
 -- "known names, eight bytes each, beside a list of as many 16-bit addresses, at most 256"
 abbrev pub listed : Given → Bool
-listed g = leb (length (g .addresses)) 256 && eqb (length (g .names)) (nameSize * length (g .addresses))
+listed g = leb (length (g .addresses)) mostKnown && eqb (length (g .names)) (nameSize * length (g .addresses))
 
 -- the lengths of all that is lent
 abbrev pub sized : Given → Rooms → Bool
 sized g b =
-    eqb (length (b .memory)) 65536
-    && (eqb (length (b .map)) 65536
+    eqb (length (b .memory)) memorySize
+    && (eqb (length (b .map)) memorySize
     && (eqb (length (b .names)) namesRoom && (eqb (length (b .addresses)) addressesRoom && listed g)))
 
 -- a refusal before the first block: "0 for 1 to 4 and a cut opening"
@@ -61,7 +66,7 @@ judged file g = opened g (opening file) (blocksOf file g)
 unfoldable pub admitting : List ℕ → Given → Check
 admitting file g =
     need Failed (inRange g) SettingOutOfRange
-    (need Failed (leb (length file) 65536) FileTooLong
+    (need Failed (leb (length file) fileLimit) FileTooLong
     (opening file))
 
 -- a load with the right buffers
@@ -89,11 +94,12 @@ abbrev pub mapAfter : Verdict → List Event → List ℕ
 mapAfter (finished z) es = marks es blank
 mapAfter (refused fault z) es = blank
 
--- the new-name buffers after a load: "Every other refusal leaves .. new-name buffers .. as they were"
+-- the new names after a load: "Every other refusal leaves .. new-name buffers .. as they were"
 abbrev pub namesAfter : Verdict → List ℕ → List ℕ
 namesAfter (finished z) names = filledUp namesRoom (z .names)
 namesAfter (refused fault z) names = names
 
+-- and their addresses
 abbrev pub addressesAfter : Verdict → List ℕ → List ℕ
 addressesAfter (finished z) addresses = filledUp addressesRoom (z .addresses)
 addressesAfter (refused fault z) addresses = addresses

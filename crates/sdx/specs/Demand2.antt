@@ -13,6 +13,7 @@ use Rattle.blocks.specs.Blocks.{amountOf}
 use Rattle.blocks.specs.declared.Block.{Block}
 use Rattle.blocks.specs.declared.Block.the-variants.{Plain, Relocatable, Update, NewName, Faulty}
 use Rattle.events.specs.Events.{Event, place, reserve, adjust, marks, blank, placedMark, reservedMark, adjustedMark, placedIn, adjustedIn}
+use Rattle.events.specs.Sizes.{fileLimit}
 use Rattle.events.specs.Lists.{Each}
 use Rattle.updates.specs.Bodies.{done}
 use Rattle.updates.specs.Items.{slotAt}
@@ -116,11 +117,12 @@ unfoldable pub eventsOf : List Deed → List Event
 eventsOf [] = []
 eventsOf (d ∷ ds) = eventsOf ds ++ d .events
 
--- the names that they brought, and their addresses
+-- the names that they brought
 unfoldable pub namesOf : List ℕ → List Deed → List ℕ
 namesOf file [] = []
 namesOf file (d ∷ ds) = namesOf file ds ++ nameIn file (d .block)
 
+-- and the addresses of these
 unfoldable pub addressesOf : List Deed → List ℕ
 addressesOf [] = []
 addressesOf (d ∷ ds) = addressesOf ds ++ addressIn (d .block)
@@ -155,7 +157,7 @@ pub record Demand2 (file : List ℕ) (g : Given) (z : Progress) (es : List Event
 pub record Asked (file : List ℕ) (g : Given) (b : Rooms) : Type 0 where
   pub buffers : sized g b ≡ true
   pub settings : inRange g ≡ true
-  pub fits : length file ≤ 65536
+  pub fits : length file ≤ fileLimit
 
 -- A call that was accepted: it was as asked, the file follows the rules, and this is what it left and reported.
 pub record AcceptedCall (file : List ℕ) (g : Given) (b b′ : Rooms) (start : Start) (placed adjusted named low : ℕ) : Type 0 where

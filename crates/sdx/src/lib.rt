@@ -14,9 +14,6 @@ ghost use Rattle.passes.specs.Walk.{given};
 ghost use Rattle.passes.specs.Rooms.{rooms};
 ghost use Rattle.sdx.specs.Call.{usual, inRange, sized, opening as openingOf, admitting, Loaded};
 
-// The length of memory and of the map.
-const MEMORY: usize = 65536;
-
 // The most bytes that a file has.
 const FILE: usize = 65536;
 
@@ -105,10 +102,10 @@ fn is_sized(
 ) -> bool
     ensures { λ r. ⌜ r ≡ sized (given (now («known_names» .entry)) (now («known_addresses» .entry)) 0 0) (rooms (now (memory .entry)) (now (map .entry)) (now («new_names» .entry)) (now («new_addresses» .entry))) ⌝ }
 {
-    if memory.len() != MEMORY {
+    if memory.len() != events::MEMORY {
         return false;
     }
-    if map.len() != MEMORY {
+    if map.len() != events::MEMORY {
         return false;
     }
     if new_names.len() != passes::NAMES {

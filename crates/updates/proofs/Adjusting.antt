@@ -41,7 +41,7 @@ module _ (amount a : ℕ) (write : Bool) (m p : List ℕ) where
     unfolding adjusting need
     adjusting-done m′ p′ t d =
         let u : contains adjustedMark (part p a 2) ≡ false = rw (lent-is a 2 p) at t in
-        rw (loaded, u) (record { answer = refl; memory = d .memory; map = d .map })
+        rw (loaded, u) (record { answer = refl; reached = d })
 
 -- ---- an item carried out
 

@@ -118,7 +118,7 @@ module _ {file : List ℕ} {table : List Slot} {amount first : ℕ} {write : Boo
           → Did Ended (ended (body file table amount first p₀)) write m₀ p₀ (Broken fault) m′ p′
       going-fails {fault} e =
           let o = ended-is (broken fault) (ap (λ (k : Check). judge k item) e) in
-          rw o (record { answer = refl; memory = now .memory; map = now .map })
+          rw o (record { answer = refl; reached = now })
 
       -- what a passed item adjusts
       now-counts : r ≡ Passed → adjustedIn (x .events ++ here .events) ≡ c .adjusted + adjusts item
@@ -133,7 +133,7 @@ module _ {file : List ℕ} {table : List Slot} {amount first : ℕ} {write : Boo
           let o = ended-is (done next) (ap (λ (k : Check). judge k item) e ∙ ap (λ (i : Item). judge Passed i) f) in
           let n : adjustedIn (x .events ++ here .events) ≡ c .adjusted = omega (arith, now-counts e, ap adjusts f) in
           let g : Did Ended (ended (body file table amount first p₀)) write m₀ p₀ (Done next (adjustedIn (x .events ++ here .events))) m′ p′ =
-          rw o (record { answer = refl; memory = now .memory; map = now .map }) in
+          rw o (record { answer = refl; reached = now }) in
           rw n at g
 
       -- an item that passed and is not the end leads on

@@ -15,10 +15,11 @@ use Rattle.updates.specs.declared.Item.{Item}
 use Rattle.updates.specs.declared.Item.the-variants.{Faulty, End, Move, Adjust}
 use Rattle.updates.specs.declared.Slot.{Slot}
 
--- the relocatable blocks so far stand in a table of eight slots, by their numbers; an empty slot:
+-- an empty slot
 abbrev pub emptySlot : Slot
 emptySlot = record { taken = false; address = 0; offset = 0; size = 0 }
 
+-- the slot of a number: the relocatable blocks so far stand in a table of eight slots, by their numbers
 abbrev pub slotAt : List Slot → ℕ → Slot
 slotAt table number = getD table number emptySlot
 

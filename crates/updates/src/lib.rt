@@ -10,9 +10,6 @@ ghost use Rattle.updates.specs.Bodies.{isLoaded, wordLoaded, adjusting, 
 ghost use Rattle.updates.specs.Cursor.{cursorAt, advanced};
 ghost use Rattle.updates.specs.declared.Item.the-variants.{Adjust};
 
-// The mark of an adjusted byte.
-const ADJUSTED: u8 = 3;
-
 // The highest block number.
 pub const LAST_NUMBER: usize = 7;
 
@@ -102,8 +99,8 @@ fn is_loaded(mark: u8) -> bool
     ensures { λ r. ⌜ r ≡ isLoaded mark ⌝ }
 {
     match mark {
-        1 => true,
-        3 => true,
+        events::PLACED => true,
+        events::ADJUSTED => true,
         _ => false,
     }
 }
@@ -226,7 +223,7 @@ fn adjust(at: usize, amount: u16, write: bool, memory: &mut [u8], map: &mut [u8]
         return Check::Failed(Fault::FieldNotLoaded);
     }
     let end = at + 2;
-    let adjusted = words::contains(&map[at..end], ADJUSTED);
+    let adjusted = words::contains(&map[at..end], events::ADJUSTED);
     if adjusted {
         return Check::Failed(Fault::AdjustedTwice);
     }
