@@ -42,18 +42,21 @@ abbrev pub lastOf : List Piece → Last
 lastOf [] = Nothing
 lastOf (p ∷ ps) = Of (p .kind)
 
+-- where it was placed
 abbrev pub lastPlace : Bases → List Piece → ℕ
 lastPlace b [] = 0
 lastPlace b (p ∷ ps) = placeOf b p
 
+-- and how many code bytes it has
 abbrev pub lastSize : List Piece → ℕ
 lastSize [] = 0
 lastSize (p ∷ ps) = size p
 
--- the next record, and what it comes to at the bases
+-- the next record
 abbrev pub recordAt : List ℕ → ℕ → List Piece → Record
 recordAt file at ps = read file at (lastOf ps)
 
+-- what it comes to at the bases, over the map of the pieces so far
 unfoldable pub checked : List ℕ → Bases → ℕ → List Piece → Ran Check
 checked file b at ps = applied file b (lastPlace b ps) (lastSize ps) (recordAt file at ps) (marks (events b ps) blank)
 
@@ -88,6 +91,7 @@ unfoldable pub opening : Form → List ℕ → Check
 opening Disk file = need Failed (leb 2 (length file)) CutShort (need Failed (eqb (value 2 file 0) 0xFFF0) WrongOpening Passed)
 opening Device file = Passed
 
+-- where the records begin
 abbrev pub openingSize : Form → ℕ
 openingSize Disk = 2
 openingSize Device = 0
@@ -96,6 +100,7 @@ openingSize Device = 0
 abbrev pub atOnce : Fault → Ran Verdict
 atOnce fault = record { answer = refused fault 0; events = [] }
 
+-- the records, where the opening passed
 abbrev pub opened : Check → Ran Verdict → Ran Verdict
 opened Passed rest = rest
 opened (Failed fault) rest = atOnce fault
@@ -112,5 +117,6 @@ abbrev pub report : Verdict → List Event → Outcome
 report (accepted ps start) es = Accepted start (placedIn es) (adjustedIn es) 0 0
 report (refused fault at) es = Refused fault at 0
 
+-- the same with the events that led to it
 abbrev pub reported : Ran Verdict → Ran Outcome
 reported o = record { answer = report (o .answer) (o .events); events = o .events }

@@ -12,7 +12,7 @@ use records::Record;
 ghost use mathlib.Core.Bool.{true};
 ghost use mathlib.Core.List.{[]};
 ghost use mathlib.Core.Path.{_≡_};
-ghost use Prim.Native.Nat.{_+_, _<_, _≤_};
+ghost use Prim.Native.Nat.{_≤_};
 ghost use lib.ListN.{length};
 ghost use Rattle.answer.specs.Report.{address as addressOf};
 ghost use Rattle.answer.specs.declared.Outcome.the-variants.{Accepted};
@@ -24,7 +24,7 @@ ghost use Rattle.acx.specs.Cursor.{begun, advanced};
 ghost use Rattle.acx.specs.Call.{formOf, usual, inRange, sized, load as loadOf, Loaded};
 
 // The most bytes that a file has.
-const FILE: usize = 65536;
+const FILE_LIMIT: usize = 65536;
 
 // The bases of the short call.
 pub const USUAL_MAIN_BASE: u32 = 8192;
@@ -74,8 +74,8 @@ pub fn load_usual(form: u32, file: &[u8], memory: &mut [u8], map: &mut [u8]) -> 
     load(form, file, USUAL_MAIN_BASE, USUAL_ZERO_BASE, memory, map)
 }
 
-// A load that only checks, or also writes memory where `write` is true: the settings, then the file's length, then the file. The map is left
-// with the marks up to the end or the fault.
+// Checks a load, and carries it out where `write` is true: the settings, then the file's length, then the file. Leaves the map with the marks
+// up to the end or the fault.
 pub fn walk_call(
     form: u32,
     file: &[u8],
@@ -93,7 +93,7 @@ pub fn walk_call(
     if !ranged {
         return answer::refused(Fault::SettingOutOfRange);
     }
-    if FILE < file.len() {
+    if FILE_LIMIT < file.len() {
         return answer::refused(Fault::FileTooLong);
     }
     let bases = Bases {
@@ -170,7 +170,7 @@ pub fn advance(bases: Bases, cursor: Cursor, found: Record) -> Cursor
     }
 }
 
-// A load with the right buffers: checked first, and written only where nothing is refused.
+// Loads a file with the right buffers: checks it first, and writes only where nothing is refused.
 fn load_sized(
     form: u32,
     file: &[u8],
@@ -211,7 +211,7 @@ fn in_range(form: u32, main_base: u32, zero_base: u32) -> bool
     zero_base <= 255
 }
 
-// The file over a clear map: its opening, then its records.
+// Walks a file over a clear map: its opening, then its records.
 fn walk_file(
     form: Form,
     file: &[u8],
@@ -230,7 +230,7 @@ fn walk_file(
     walk(file, opening_size(form), bases, write, memory, map)
 }
 
-// Whether the file opens as its form says.
+// Checks that the file opens as its form says.
 fn opening(form: Form, file: &[u8]) -> Check
     ensures { λ r. ⌜ r ≡ openingOf form (now (file .entry)) ⌝ }
 {
@@ -249,7 +249,7 @@ fn opening(form: Form, file: &[u8]) -> Check
     }
 }
 
-// All records from `at` on, over a clear map.
+// Walks all records from `at` on, over a clear map.
 fn walk(
     file: &[u8],
     at: usize,

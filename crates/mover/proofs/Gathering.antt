@@ -197,9 +197,9 @@ module _ (file : List ℕ) (old new : Bases) (source target : Cursor) (m t : Lis
   takes-fault e = rw e refl
 
 -- a fixup record may be taken: it lies in the file, and its fields in the code
-pub takes-sound : (file : List ℕ) (n : ℕ) (r : Record) → Sound file n r → {fixup : Fixup} {from k : ℕ} → r ≡ Fixups fixup from k
-    → (from + k ≤ length file) × Each (Inside n) (fieldsOf fixup (part file from k))
-takes-sound file n r h e = rw e at h
+pub takes-sound : (file : List ℕ) (size : ℕ) (r : Record) → Sound file size r → {fixup : Fixup} {from n : ℕ} → r ≡ Fixups fixup from n
+    → (from + n ≤ length file) × Each (Inside size) (fieldsOf fixup (part file from n))
+takes-sound file size r h e = rw e at h
 
 -- the items and the code that are then lent
 pub takes-lent : (file : List ℕ) (target : Cursor) (t : List ℕ) (fixup : Fixup) (from k : ℕ) → length file ≤ 65536

@@ -53,7 +53,7 @@ pub fn move_handler(
     move_sized(form, file, old, new, memory, map, scratch)
 }
 
-// A move with the right buffers: checked first, and carried out only where nothing is refused.
+// Moves a handler with the right buffers: checks the move first, and carries it out only where nothing is refused.
 fn move_sized(
     form: u32,
     file: &[u8],
@@ -90,7 +90,7 @@ fn bases(site: Site) -> Bases
     }
 }
 
-// Whether the handler may move: the load at the old bases, then the one at the new, which leaves the map.
+// Judges whether the handler may move: the load at the old bases, then the one at the new, which leaves the map.
 fn judge(form: u32, file: &[u8], old: Site, new: Site, memory: &mut [u8], map: &mut [u8]) -> Outcome
     requires { ⌜ (length (now memory) ≡ 65536) × (length (now map) ≡ 65536) ⌝ }
     ensures { λ r. ⌜ Judged (loadOf form (basesOf new) (now (file .entry))) (rulingOf form (basesOf old) (basesOf new) (now (file .entry))) (now (memory .entry)) r (now (memory .exit)) (now (map .exit)) ⌝ }
@@ -106,7 +106,7 @@ fn judge(form: u32, file: &[u8], old: Site, new: Site, memory: &mut [u8], map: &
     judge_side(form, file, new, 1, memory, map)
 }
 
-// A load that only checks, at one side of the move.
+// Judges one side of the move, by a load that only checks.
 fn judge_side(
     form: u32,
     file: &[u8],
@@ -134,7 +134,7 @@ fn judge_side(
     outcome
 }
 
-// The handler's bytes by way of the scratch, over the map of a load at the new bases.
+// Carries the handler's bytes by way of the scratch, over the map of a load at the new bases.
 fn carry(
     form: u32,
     file: &[u8],
@@ -152,7 +152,7 @@ fn carry(
     words::fill(scratch, 0);
 }
 
-// The scratch's bytes into memory, at every address that the map marks.
+// Puts the scratch's bytes into memory, at every address that the map marks.
 fn commit(map: &[u8], scratch: &[u8], memory: &mut [u8])
     requires { ⌜ (length (now memory) ≡ 65536) × (length (now map) ≡ 65536) × (length (now scratch) ≡ 65536) ⌝ }
     ensures { λ _. ⌜ Overlaid (now (map .entry)) (now (scratch .entry)) (now (memory .entry)) (now (memory .exit)) ⌝ }
@@ -166,8 +166,8 @@ fn commit(map: &[u8], scratch: &[u8], memory: &mut [u8])
     }
 }
 
-// The pieces at their old places in memory into the scratch, at their new places and adjusted: record by record, with a cursor for each
-// pair of bases.
+// Gathers the pieces from their old places in memory into the scratch, at their new places and adjusted: record by record, with a cursor
+// for each pair of bases.
 fn gather(form: u32, file: &[u8], old: Bases, new: Bases, memory: &[u8], scratch: &mut [u8])
     requires { ⌜ Allows (rulingOf form old new (now file)) × (length (now memory) ≡ 65536) × (length (now scratch) ≡ 65536) ⌝ }
     ensures { λ _. ⌜ now (scratch .exit) ≡ transfer old new (piecesOf (rulingOf form old new (now (file .entry)))) (now (memory .entry)) (now (scratch .entry)) ⌝ }
@@ -187,7 +187,7 @@ fn gather(form: u32, file: &[u8], old: Bases, new: Bases, memory: &[u8], scratch
     }
 }
 
-// What a record brings to the scratch: its code from memory, or a change of the fields that it lists.
+// Takes to the scratch what a record brings: its code from memory, or a change of the fields that it lists.
 fn take(
     file: &[u8],
     found: Record,
@@ -223,7 +223,7 @@ fn take(
     }
 }
 
-// The fields that a fixup record lists, one by one: the amounts of the old bases off, those of the new on.
+// Shifts the fields that a fixup record lists, one by one: the amounts of the old bases off, those of the new on.
 fn shift_fields(items: &[u8], fixup: Fixup, old: Bases, new: Bases, code: &mut [u8])
     requires { ⌜ (length (now items) ≤ 65536) × Each (Inside (length (now code))) (fieldsOf fixup (now items)) ⌝ }
     ensures { λ _. ⌜ now (code .exit) ≡ edited (shift old new) (fieldsOf fixup (now (items .entry))) (now (code .entry)) ⌝ }
@@ -248,7 +248,7 @@ fn shift_field(code: &mut [u8], field: Field, old: u16, new: u16)
     ensures { λ _. ⌜ now (code .exit) ≡ change (width field) (λ v. on (width field) new (off (width field) old v)) (now (code .entry)) (field .index) ⌝ }
 {
     let fixup = field.fixup;
-    let size = records::width(fixup);
-    words::take_off(code, field.index, size, old);
-    words::add(code, field.index, size, new);
+    let width = records::width(fixup);
+    words::take_off(code, field.index, width, old);
+    words::add(code, field.index, width, new);
 }

@@ -9,7 +9,7 @@ use lib.ListN.{getD}
 use Rattle.acx.proofs.Calling.{loaded-right}
 use Rattle.acx.proofs.Faults.{load-late}
 use Rattle.acx.specs.Call.{load}
-use Rattle.acx.specs.Walk.{Verdict, accepted, refused, report, reported}
+use Rattle.acx.specs.Walk.{Verdict, accepted, refused, report}
 use Rattle.answer.proofs.Outcomes.{isRefused, faultIn}
 use Rattle.answer.specs.Checks.{need, pick}
 use Rattle.answer.specs.Report.{numberOf}
@@ -17,7 +17,7 @@ use Rattle.answer.specs.declared.Fault.{Fault}
 use Rattle.answer.specs.declared.Fault.the-variants.{WrongBuffer}
 use Rattle.answer.specs.declared.Outcome.{Outcome}
 use Rattle.answer.specs.declared.Outcome.the-variants.{Accepted, Refused}
-use Rattle.events.specs.Events.{blank, Ran}
+use Rattle.events.specs.Events.{blank}
 use Rattle.pieces.specs.Pieces.{Piece}
 use Rattle.pieces.specs.declared.Bases.{Bases}
 use Rattle.words.specs.Runs.{Bytes}

@@ -31,6 +31,7 @@ pub record Call : Type 0 where
   -- whether the C answer has its length; a call that lends none has nothing wrong there
   pub answerSized : Bool
 
+-- a call with these
 abbrev pub callOf : ℕ → Bases → Bases → List ℕ → List ℕ → Bool → Call
 callOf form old new map scratch answerSized =
     record { form = form; old = old; new = new; map = map; scratch = scratch; answerSized = answerSized }
@@ -69,22 +70,24 @@ beforehand fault = refuses fault 0 0
 unfoldable pub ruling : List ℕ → Call → List ℕ → Ruling
 ruling file c m = need beforehand (sized c m) WrongBuffer (rulingOf (c .form) (c .old) (c .new) file)
 
--- the move is allowed, and the pieces that then move
+-- the move is allowed
 abbrev pub Allows : Ruling → Type 0
 Allows (allows ps) = Unit {0}
 Allows (refuses fault at side) = ⊥
 
+-- the pieces that then move
 abbrev pub piecesOf : Ruling → List Piece
 piecesOf (allows ps) = ps
 piecesOf (refuses fault at side) = []
 
 -- ---- what it answers and leaves
 
--- "The answer and map are those of a load at the new bases."
+-- "The answer and map are those of a load at the new bases."; a refusal reports its fault, offset and side
 abbrev pub outcomeBy : Ran Verdict → Ruling → Outcome
 outcomeBy new (allows ps) = reported new .answer
 outcomeBy new (refuses fault at side) = Refused fault at side
 
+-- the map likewise: "Every other refusal leaves .. the map all zero"
 abbrev pub mapBy : Ran Verdict → Ruling → List ℕ
 mapBy new (allows ps) = loadedMap (new .answer) (new .events)
 mapBy new (refuses fault at side) = blank

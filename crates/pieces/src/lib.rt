@@ -49,8 +49,8 @@ pub fn apply(
             size: count,
         } => {
             let next = from + count;
-            let goes = place_of(bases, kind, address);
-            place_code(&file[from..next], goes, limit(kind), write, memory, map)
+            let to = place_of(bases, kind, address);
+            place_code(&file[from..next], to, limit(kind), write, memory, map)
         }
         Record::Fixups {
             fixup,

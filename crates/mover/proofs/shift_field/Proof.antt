@@ -1,7 +1,6 @@
 -- `mover::shift_field` meets its contract: one change of the field after another is one, in either width.
 -- Assumes nothing.
 use mathlib.Core.Path.{sym}
-use native.Mathlib.Omega.{arith}
 use borrow.Author.Needs.{needs}
 use Rattle.mover.proofs.Shifting.{shifted-field}
 use Rattle.mover.proofs.shift_field.Statement.{statement}
