@@ -5,31 +5,34 @@ use mathlib.Core.List.{List, []}
 use mathlib.Core.Path.{_≡_, refl, ap}
 use Prim.Native.Nat.{ℕ}
 use lib.ListN.{replicate}
-use Rattle.acx.specs.Call.{settings, sized, call as callAcx, Loaded as LoadedAcx}
+use Rattle.acx.specs.Call.{sized as sizedAcx, call as callAcx, Loaded as LoadedAcx}
 use Rattle.answer.specs.Checks.{need}
 use Rattle.answer.specs.Report.{numbersOf}
 use Rattle.answer.specs.declared.Outcome.{Outcome}
 use Rattle.events.proofs.Events.{length-blank}
 use Rattle.events.specs.Events.{blank}
-use Rattle.sdx.specs.Call.{given, Rooms, rooms, right, call as callSdx, Loaded as LoadedSdx}
+use Rattle.passes.specs.Rooms.{Rooms, rooms}
+use Rattle.passes.specs.Walk.{given}
+use Rattle.pieces.specs.Pieces.{basesAt}
+use Rattle.sdx.specs.Call.{sized as sizedSdx, call as callSdx, Loaded as LoadedSdx}
 use Rattle.edges.specs.Edges.{sdxNumbers, acxNumbers}
 
 -- the buffers of an SDX case, all zeros
 abbrev pub zeros : Rooms
 zeros = rooms blank blank (replicate 256 0) (replicate 32 0)
 
-right-zeros : (low high : ℕ) → right (given [] [] low high) zeros ≡ true
-right-zeros low high = rw length-blank refl
+sdx-sized : (low high : ℕ) → sizedSdx (given [] [] low high) zeros ≡ true
+sdx-sized low high = rw length-blank refl
 
-sized-zeros : sized blank blank ≡ true
-sized-zeros = rw length-blank refl
+acx-sized : sizedAcx blank blank ≡ true
+acx-sized = rw length-blank refl
 
-pub told-sdx : (file : List ℕ) (low high : ℕ) {r : Outcome} {b′ : Rooms} → LoadedSdx file (given [] [] low high) zeros r b′
+pub told-sdx : (file : List ℕ) (low high : ℕ) {r : Outcome} {b′ : Rooms} → LoadedSdx file (given [] [] low high) (sizedSdx (given [] [] low high) zeros) zeros r b′
     → numbersOf r ≡ sdxNumbers file low high
 unfolding callSdx need sdxNumbers
-told-sdx file low high d = ap numbersOf (rw (right-zeros low high) at (d .outcome))
+told-sdx file low high d = ap numbersOf (rw (sdx-sized low high) at (d .outcome))
 
-pub told-acx : (file : List ℕ) (base : ℕ) {r : Outcome} {m′ p′ : List ℕ} → LoadedAcx (settings 1 base 128) file blank blank r m′ p′
+pub told-acx : (file : List ℕ) (base : ℕ) {r : Outcome} {m′ p′ : List ℕ} → LoadedAcx 1 (basesAt base 128) file (sizedAcx blank blank) blank blank r m′ p′
     → numbersOf r ≡ acxNumbers file base
 unfolding callAcx need acxNumbers
-told-acx file base d = ap numbersOf (rw sized-zeros at (d .outcome))
+told-acx file base d = ap numbersOf (rw acx-sized at (d .outcome))

@@ -3,11 +3,13 @@
 -- Assumes nothing.
 use mathlib.Core.List.{List, []}
 use Prim.Native.Nat.{ℕ}
-use Rattle.acx.specs.Call.{settings, load as loadAcx}
+use Rattle.acx.specs.Call.{load as loadAcx}
 use Rattle.acx.specs.Walk.{reported}
 use Rattle.answer.specs.Report.{numbersOf}
 use Rattle.events.specs.Events.{blank}
-use Rattle.sdx.specs.Call.{given, load as loadSdx, report}
+use Rattle.passes.specs.Walk.{given}
+use Rattle.pieces.specs.Pieces.{basesAt}
+use Rattle.sdx.specs.Call.{load as loadSdx, report}
 
 -- of an SDX file, between low and high
 unfoldable pub sdxNumbers : List ℕ → ℕ → ℕ → List ℕ
@@ -16,4 +18,4 @@ sdxNumbers file low high =
 
 -- of an ACX file in device form, at a main base and the zero-page base 128
 unfoldable pub acxNumbers : List ℕ → ℕ → List ℕ
-acxNumbers file base = numbersOf (reported (loadAcx (settings 1 base 128) file) .answer)
+acxNumbers file base = numbersOf (reported (loadAcx 1 (basesAt base 128) file) .answer)

@@ -1,21 +1,22 @@
 -- The bench table holds: the definitions are computed, every row and every byte of it in one.
 -- Assumes nothing.
 use mathlib.Core.Path.{refl}
-use Rattle.acx.specs.AtBases.{placing, adjusting, ending, applied}
 use Rattle.acx.specs.Call.{load, call}
-use Rattle.acx.specs.Pieces.{amountOf, edited, adjustments, events}
 use Rattle.acx.specs.Walk.{checked, walk, from, opening, judged}
 use Rattle.answer.specs.Checks.{need, pick}
 use Rattle.blocks.specs.Blocks.{readPlain, readRoom, readRelocatable, readUpdate, readNames, readAddress, readNewName, read as readBlock}
 use Rattle.events.specs.Events.{play, marks, blank, placedIn, adjustedIn}
 use Rattle.events.specs.Walk.{walk as walkTurns, from as fromTurns}
-use Rattle.mover.specs.Call.{ruling, outcomeOf, memoryAfter, mapAfter, scratchAfter}
-use Rattle.mover.specs.Move.{carried, transfer, moved}
+use Rattle.moves.specs.Call.{ruling, outcomeOf, memoryAfter, mapAfter, scratchAfter}
+use Rattle.moves.specs.Move.{carried, transfer, moved}
 use Rattle.names.specs.Names.{same, newestOf, newest, lookUp}
+use Rattle.passes.specs.Rooms.{startIn}
+use Rattle.passes.specs.Walk.{carriedAt, turn, blocksFrom}
+use Rattle.pieces.specs.AtBases.{placing, adjusting, ending, applied}
+use Rattle.pieces.specs.Pieces.{amountOf, edited, adjustments, events}
 use Rattle.records.specs.Fields.{fieldsOf}
 use Rattle.records.specs.Records.{readCode, readItems, readFixups, readEnd, read}
-use Rattle.sdx.specs.Call.{load as loadSdx, call as callSdx, startIn}
-use Rattle.sdx.specs.Walk.{outcomeAt, turn, blocksFrom, opening as openingSdx, judged as judgedSdx}
+use Rattle.sdx.specs.Call.{opening as openingSdx, judged as judgedSdx, admitting, load as loadSdx, call as callSdx}
 use Rattle.updates.specs.Bodies.{adjusting as adjustingWord, turn as turnItem, items}
 use Rattle.updates.specs.Items.{setting, aiming, read as readItem}
 use Rattle.words.specs.Numbers.{number, value, digits, store, on, off, change}
@@ -23,5 +24,5 @@ use Rattle.words.specs.Runs.{part, put, allZero, contains}
 use Rattle.table.specs.Table.{Bench}
 
 pub bench : Bench
-unfolding number value digits store on off change part put allZero contains need pick play marks blank placedIn adjustedIn fieldsOf readCode readItems readFixups readEnd read amountOf edited adjustments events placing adjusting ending applied checked walk from opening judged load call carried transfer moved ruling outcomeOf memoryAfter mapAfter scratchAfter same newestOf newest lookUp setting aiming readItem adjustingWord turnItem items readPlain readRoom readRelocatable readUpdate readNames readAddress readNewName readBlock walkTurns fromTurns outcomeAt turn blocksFrom openingSdx judgedSdx loadSdx callSdx startIn
+unfolding number value digits store on off change part put allZero contains need pick play marks blank placedIn adjustedIn fieldsOf readCode readItems readFixups readEnd read amountOf edited adjustments events placing adjusting ending applied checked walk from opening judged load call carried transfer moved ruling outcomeOf memoryAfter mapAfter scratchAfter same newestOf newest lookUp setting aiming readItem adjustingWord turnItem items readPlain readRoom readRelocatable readUpdate readNames readAddress readNewName readBlock walkTurns fromTurns carriedAt turn blocksFrom openingSdx judgedSdx admitting loadSdx callSdx startIn
 bench = refl

@@ -10,14 +10,17 @@ use Prim.Native.Nat.{ℕ, _-_}
 use lib.ListN.{length, take, replicate}
 use Rattle.acx.specs.Call as acx
 use Rattle.acx.specs.Walk.{reported}
-use Rattle.acx.specs.declared.Bases.{Bases}
 use Rattle.answer.specs.Checks.{pick}
 use Rattle.answer.specs.declared.Fault.the-variants.{CutShort, FieldNotLoaded, AdjustedTwice}
 use Rattle.answer.specs.declared.Outcome.{Outcome}
 use Rattle.answer.specs.declared.Outcome.the-variants.{Accepted, Refused}
 use Rattle.answer.specs.declared.Start.the-variants.{Absent, At}
 use Rattle.events.specs.Events.{blank}
-use Rattle.mover.specs.Call as mover
+use Rattle.moves.specs.Call as moves
+use Rattle.passes.specs.Rooms.{Rooms, rooms, namesRoom, addressesRoom}
+use Rattle.passes.specs.Walk.{given}
+use Rattle.pieces.specs.Pieces.{basesAt}
+use Rattle.pieces.specs.declared.Bases.{Bases}
 use Rattle.sdx.specs.Call as sdx
 use Rattle.words.specs.Runs.{put}
 
@@ -33,7 +36,7 @@ pub data Case : Type 0 where
   moveAcx : (form : ℕ) → (file : List ℕ) → (old new : Bases) → Case
 
 -- bytes of a room, from an address on
-pub record Run : Type 0 where
+pub record Region : Type 0 where
   pub from : ℕ
   pub bytes : List ℕ
 
@@ -42,8 +45,8 @@ pub record Run : Type 0 where
 pub record Row : Type 0 where
   pub case : Case
   pub outcome : Outcome
-  pub memory : List Run
-  pub map : List Run
+  pub memory : List Region
+  pub map : List Region
 
 -- ---- the rows, each under the document's words
 
@@ -53,9 +56,9 @@ device = 1
 
 -- a main base, with the zero-page base of every ACX row
 abbrev pub at : ℕ → Bases
-at main = record { main = main; zero = 128 }
+at main = basesAt main 128
 
-abbrev pub holds : ℕ → List ℕ → Run
+abbrev pub holds : ℕ → List ℕ → Region
 holds from bytes = record { from = from; bytes = bytes }
 
 -- "device file `00 05 00 00 4C 03 00 06 01 01 0B 02 00 00`", or with another fixup record than `06 01 01`
@@ -184,39 +187,39 @@ pub record Result : Type 0 where
   pub others : List (List ℕ)
 
 -- the rooms of an SDX load, all zero
-abbrev pub clear : sdx.Rooms
-clear = sdx.rooms blank blank (replicate sdx.namesRoom 0) (replicate sdx.addressesRoom 0)
+abbrev pub clear : Rooms
+clear = rooms blank blank (replicate namesRoom 0) (replicate addressesRoom 0)
 
 abbrev pub sdxLoaded : List ℕ → ℕ → ℕ → Result
 sdxLoaded file low high =
-    let g = sdx.given [] [] low high in
-    let o = sdx.call file g (sdx.right g clear) in
+    let g = given [] [] low high in
+    let o = sdx.call file g (sdx.sized g clear) in
     record {
       outcome = sdx.report (clear .memory) (o .answer) (o .events);
       memory = sdx.memoryAfter (o .answer) (o .events) (clear .memory);
-      map = pick (sdx.right g clear) (sdx.mapAfter (o .answer) (o .events)) (clear .map);
+      map = pick (sdx.sized g clear) (sdx.mapAfter (o .answer) (o .events)) (clear .map);
       others = sdx.namesAfter (o .answer) (clear .names) ∷ sdx.addressesAfter (o .answer) (clear .addresses) ∷ [];
     }
 
 abbrev pub acxLoaded : ℕ → List ℕ → Bases → Result
 acxLoaded form file b =
-    let o = acx.call (acx.settings form (b .main) (b .zero)) file blank blank in
+    let o = acx.call form b file (acx.sized blank blank) in
     record {
       outcome = reported o .answer;
       memory = acx.memoryAfter (o .answer) (o .events) blank;
-      map = acx.ifSized (acx.sized blank blank) (acx.mapAfter (o .answer) (o .events)) blank;
+      map = pick (acx.sized blank blank) (acx.mapAfter (o .answer) (o .events)) blank;
       others = [];
     }
 
 abbrev pub acxMoved : ℕ → List ℕ → Bases → Bases → Result
 acxMoved form file old new =
-    let c : mover.Call = record { form = form; old = old; new = new; map = blank; scratch = blank; answer = true } in
+    let c = moves.callOf form old new blank blank true in
     let m = acxLoaded form file old .memory in
     record {
-      outcome = mover.outcomeOf file c m;
-      memory = mover.memoryAfter file c m;
-      map = mover.mapAfter file c m;
-      others = mover.scratchAfter c m ∷ [];
+      outcome = moves.outcomeOf file c m;
+      memory = moves.memoryAfter file c m;
+      map = moves.mapAfter file c m;
+      others = moves.scratchAfter c m ∷ [];
     }
 
 abbrev pub resultOf : Case → Result
@@ -227,7 +230,7 @@ resultOf (moveAcx form file old new) = acxMoved form file old new
 -- ---- what the table says
 
 -- a room of 65,536 bytes that holds some runs, and zero elsewhere
-abbrev pub holding : List Run → List ℕ
+abbrev pub holding : List Region → List ℕ
 holding [] = blank
 holding (r ∷ rs) = put (holding rs) (r .from) (r .bytes)
 

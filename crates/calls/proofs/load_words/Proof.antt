@@ -4,7 +4,8 @@ use mathlib.Core.Path.{refl, sym}
 use native.Mathlib.Omega.{arith}
 use borrow.Author.Needs.{needs}
 use lib.Seq.{length-take-le}
-use Rattle.sdx.specs.Call.{given, rooms}
+use Rattle.passes.specs.Rooms.{rooms}
+use Rattle.passes.specs.Walk.{given}
 use Rattle.calls.proofs.Pairs.{known-front, loads-accepted, loads-refused}
 use Rattle.calls.proofs.load_words.Statement.{statement}
 use Rattle.calls.proofs.load_words.Tie as tie

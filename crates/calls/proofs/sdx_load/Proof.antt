@@ -1,7 +1,7 @@
 -- `calls::sdx_load` meets its contract: with an answer to write it is a load that is told.
 -- Assumes nothing.
 use borrow.Author.Needs.{needs}
-use Rattle.calls.proofs.Telling.{sdx-untold, sdx-told}
+use Rattle.calls.proofs.Pairs.{sdx-untold, sdx-told}
 use Rattle.calls.proofs.sdx_load.Statement.{statement}
 use Rattle.calls.proofs.sdx_load.Tie as tie
 
