@@ -62,16 +62,16 @@ Chained file form a [] m = Unit {0}
 Chained file form a (c ∷ cs) m =
     Linked (ruling file c m) form a c × Chained file form (onto (ruling file c m) a (c .new)) cs (memoryAfter file c m)
 
--- the answer and the map of a call
+-- an answer and a map
 pub record Report : Type 0 where
   pub outcome : Outcome
   pub map : List ℕ
 
--- those of a call
+-- the answer and the map of a call
 abbrev pub report : List ℕ → Call → List ℕ → Report
 report file c m = record { outcome = outcomeOf file c m; map = mapAfter file c m }
 
--- those of each accepted call
+-- those of the accepted calls
 unfoldable pub reports : List ℕ → List Call → List ℕ → List Report
 reports file [] m = []
 reports file (c ∷ cs) m = ifAllowed (ruling file c m) (report file c m) (reports file cs (memoryAfter file c m))

@@ -25,7 +25,7 @@ pub record Piece : Type 0 where
   pub code : List ℕ
   pub fields : List Field
 
--- the n code bytes of a piece
+-- how many code bytes a piece has
 abbrev pub size : Piece → ℕ
 size p = length (p .code)
 
@@ -45,7 +45,7 @@ limitOf Main = memorySize
 limitOf ZeroPage = 256
 limitOf Absolute = memorySize
 
--- the bytes of a field
+-- how many bytes a field has
 abbrev pub width : Field → ℕ
 width f = widthOf (f .fixup)
 
@@ -60,8 +60,8 @@ amountBy b lsb High = (lsb + b .main) / 256
 unfoldable pub amountOf : Bases → Field → ℕ
 amountOf b f = amountBy b (f .lsb) (f .fixup)
 
--- a run of code bytes in which g has replaced the number of each field, the first field first: what the laws about loads and the definition
--- of a move go by
+-- a run of code bytes in which g has replaced the number of each field, the first field first: what a load does to code that was placed
+-- (`play-adjustments`), and what a move does to code that lives
 unfoldable pub edited : (Field → ℕ → ℕ) → List Field → List ℕ → List ℕ
 edited g [] bytes = bytes
 edited g (f ∷ fs) bytes = edited g fs (change (width f) (g f) bytes (f .index))
