@@ -168,4 +168,5 @@ module _ (form : ℕ) (b : Bases) (file : List ℕ) (x : Bool) (m p : List ℕ) 
 
 -- "a file is accepted exactly if it follows the .. ACX rules of document 01 and fits"
 pub accepted-exactly : Claim
-accepted-exactly form b file x m p r m′ p′ d = (call-demand2 form b file x m p r m′ p′ d, call-accepts form b file x m p r m′ p′ d)
+accepted-exactly form b file x m p r m′ p′ d =
+    record { only = call-demand2 form b file x m p r m′ p′ d; all = call-accepts form b file x m p r m′ p′ d }

@@ -74,14 +74,19 @@ pub record AcceptedCall (form : ℕ) (b : Bases) (file : List ℕ) (answerSized 
   pub follows : judged (formOf form) file b .answer ≡ accepted pieces start
   pub leaves : Demand2 file b pieces m m′ p′ placed adjusted
 
--- "With settings and buffers as document 01 asks, a file is accepted exactly if it follows the .. ACX rules of document 01 and fits": of every
--- call that keeps the loader's contract. An acceptance is of a call as asked and of a file that the rules accept, and leaves what demand 2
--- says; and of a call as asked, every file that the rules accept is accepted, with its start and the counts of its pieces.
+-- "With settings and buffers as document 01 asks, a file is accepted exactly if it follows the .. ACX rules of document 01 and fits": of a call
+-- that found memory m and the map p, answered r and left m′ and p′
+pub record Exactly (form : ℕ) (b : Bases) (file : List ℕ) (answerSized : Bool) (m p : List ℕ) (r : Outcome) (m′ p′ : List ℕ) : Type 0 where
+  -- only if: an acceptance is of a call as asked and of a file that the rules accept, and leaves what demand 2 says
+  pub only : (start : Start) (placed adjusted names low : ℕ) → r ≡ Accepted start placed adjusted names low
+      → AcceptedCall form b file answerSized m p start placed adjusted m′ p′
+  -- if: a call as asked accepts every file that the rules accept, with its start and the counts of its pieces
+  pub all : Asked form b file answerSized m p → (ps : List Piece) (start : Start) → judged (formOf form) file b .answer ≡ accepted ps start
+      → r ≡ Accepted start (total size ps) (total (λ p. length (p .fields)) ps) 0 0
+
+-- The claim: of every file, all settings, whatever is lent, and every call that keeps the loader's contract.
 abbrev pub Claim : Type 0
 Claim =
     (form : ℕ) (b : Bases) (file : List ℕ) (answerSized : Bool) (m p : List ℕ) (r : Outcome) (m′ p′ : List ℕ)
     → Loaded form b file (answerSized && sized m p) m p r m′ p′
-    → ((start : Start) (placed adjusted names low : ℕ) → r ≡ Accepted start placed adjusted names low
-    → AcceptedCall form b file answerSized m p start placed adjusted m′ p′)
-    × (Asked form b file answerSized m p → (ps : List Piece) (start : Start) → judged (formOf form) file b .answer ≡ accepted ps start
-    → r ≡ Accepted start (total size ps) (total (λ p. length (p .fields)) ps) 0 0)
+    → Exactly form b file answerSized m p r m′ p′
