@@ -9,21 +9,22 @@ use borrow.Author.Tests.{eq-eqb, ne-eqb}
 use lib.Dec.{eqb}
 use lib.ListN.{length}
 use Rattle.acx.specs.Call.{sized, call as acxCall, Loaded}
+use Rattle.answer.proofs.Checks.{and-false}
 use Rattle.answer.specs.Checks.{need, pick}
 use Rattle.answer.specs.Report.{numberOf, numberReturned, answerBytes}
 use Rattle.answer.specs.declared.Fault.the-variants.{WrongBuffer}
 use Rattle.answer.specs.declared.Outcome.{Outcome}
 use Rattle.answer.specs.declared.Outcome.the-variants.{Refused}
 use Rattle.moves.specs.Call.{callOf, sized as moveSized, ruling, outcomeOf, memoryAfter, mapAfter, scratchAfter, Moved}
+use Rattle.pairs.proofs.Pairs.{loads-wrong}
+use Rattle.pairs.specs.Pairs.{Loads}
+use Rattle.passes.specs.Rooms.{Rooms}
+use Rattle.passes.specs.Walk.{Given}
 use Rattle.pieces.specs.declared.Bases.{Bases}
 use Rattle.calls.specs.Answer.{answerSized, Told}
 use Rattle.calls.specs.Acx.{Called as AcxCalled}
 use Rattle.calls.specs.Move.{Called as MoveCalled}
-
--- where the second of two tests fails, both do
-pub and-false : (c d : Bool) → d ≡ false → c && d ≡ false
-and-false true d e = e
-and-false false d e = refl
+use Rattle.calls.specs.Sdx.{Called as SdxCalled}
 
 -- ---- the answer
 
@@ -31,7 +32,7 @@ pub tells : (o : Outcome) (a : List ℕ) (r : ℕ) (a′ : List ℕ) → length 
 unfolding pick
 tells o a r a′ h er ea = record { returned = er; answer = rw (eq-eqb _ _ h) ea }
 
-pub untold : (a : List ℕ) (r : ℕ) → (length a ≡ 36 → ⊥) → r ≡ numberOf WrongBuffer → Told (Refused WrongBuffer 0 0) a r a
+untold : (a : List ℕ) (r : ℕ) → (length a ≡ 36 → ⊥) → r ≡ numberOf WrongBuffer → Told (Refused WrongBuffer 0 0) a r a
 unfolding pick
 untold a r h er = record { returned = er; answer = rw (ne-eqb _ _ h) refl }
 
@@ -76,3 +77,14 @@ module _ {file : List ℕ} {form : ℕ} {old new : Bases} {m p s a : List ℕ} {
   pub move-told : {o : Outcome} {m′ p′ s′ a′ : List ℕ} → length a ≡ 36 → Moved file (callOf form old new p s true) m o m′ p′ s′ → Told o a r a′
       → MoveCalled file (callOf form old new p s (answerSized a)) m a r m′ p′ s′ a′
   move-told {o} h d t = record { outcome = o; moved = rw (eq-eqb _ _ h) d; told = t }
+
+-- ---- the SDX loader
+
+module _ {file : List ℕ} {g : Given} {b : Rooms} {a : List ℕ} {r : ℕ} where
+  pub sdx-untold : (length a ≡ 36 → ⊥) → r ≡ numberOf WrongBuffer → SdxCalled file g b a r b a
+  sdx-untold h e =
+      record { outcome = Refused WrongBuffer 0 0; loads = loads-wrong refl _ (rw (ne-eqb _ _ h) refl); told = untold a r h e }
+
+  pub sdx-told : {o : Outcome} {b′ : Rooms} {a′ : List ℕ} → length a ≡ 36 → Loads file g true b o b′ → Told o a r a′
+      → SdxCalled file g b a r b′ a′
+  sdx-told {o} h d t = record { outcome = o; loads = rw (eq-eqb _ _ h) d; told = t }

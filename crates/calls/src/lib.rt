@@ -3,9 +3,7 @@
 use answer::Fault;
 use answer::Outcome;
 use mover::Site;
-ghost use mathlib.Core.Bool.{Bool};
 ghost use mathlib.Core.Path.{_≡_};
-ghost use Prim.Native.Nat.{_≤_};
 ghost use lib.ListN.{length};
 ghost use Rattle.acx.specs.Call.{usual as usualBases};
 ghost use Rattle.pieces.specs.Pieces.{basesAt};
@@ -14,20 +12,13 @@ ghost use Rattle.answer.specs.Report.{answerLength};
 ghost use Rattle.passes.specs.Rooms.{rooms};
 ghost use Rattle.passes.specs.Walk.{given};
 ghost use Rattle.sdx.specs.Call.{usual};
-ghost use Rattle.calls.specs.Answer.{answerSized, Told, paired};
+ghost use Rattle.calls.specs.Answer.{answerSized, Told};
 ghost use Rattle.calls.specs.Acx.{Called as AcxCalled};
 ghost use Rattle.calls.specs.Move.{Called as MoveCalled};
-ghost use Rattle.calls.specs.Sdx.{Loads, Called as SdxCalled};
+ghost use Rattle.calls.specs.Sdx.{Called as SdxCalled};
 
 // The length of the answer.
 const ANSWER: usize = 36;
-
-// The most known addresses, and the new ones: how many, and their bytes.
-const KNOWN: usize = 256;
-
-const NEW: usize = 32;
-
-const NEW_BYTES: usize = 64;
 
 // Loads an ACX file at its bases.
 pub fn acx_load(
@@ -117,7 +108,7 @@ pub fn sdx_load(
     if answer.len() != ANSWER {
         return answer::fault_number(Fault::WrongBuffer);
     }
-    let outcome = load_pairs(
+    let outcome = pairs::load(
         file,
         low,
         high,
@@ -165,83 +156,4 @@ fn tell(outcome: Outcome, answer: &mut [u8]) -> u32
 {
     answer::write(outcome, answer);
     answer::number(outcome)
-}
-
-// Loads a file whose address lists are byte pairs.
-fn load_pairs(
-    file: &[u8],
-    low: u32,
-    high: u32,
-    known_names: &[u8],
-    known_addresses: &[u8],
-    memory: &mut [u8],
-    map: &mut [u8],
-    new_names: &mut [u8],
-    new_addresses: &mut [u8],
-) -> Outcome
-    ensures { λ r. ⌜ Loads (now (file .entry)) (given (now («known_names» .entry)) (now («known_addresses» .entry)) low high) Bool.true (rooms (now (memory .entry)) (now (map .entry)) (now («new_names» .entry)) (now («new_addresses» .entry))) r (rooms (now (memory .exit)) (now (map .exit)) (now («new_names» .exit)) (now («new_addresses» .exit))) ⌝ }
-{
-    let size = known_addresses.len();
-    if size % 2 != 0 {
-        return answer::refused(Fault::WrongBuffer);
-    }
-    if 2 * KNOWN < size {
-        return answer::refused(Fault::WrongBuffer);
-    }
-    if new_addresses.len() != NEW_BYTES {
-        return answer::refused(Fault::WrongBuffer);
-    }
-    load_words(
-        file,
-        low,
-        high,
-        known_names,
-        known_addresses,
-        memory,
-        map,
-        new_names,
-        new_addresses,
-    )
-}
-
-// Loads it over the words of the pairs. On an acceptance the new addresses go back as pairs.
-fn load_words(
-    file: &[u8],
-    low: u32,
-    high: u32,
-    known_names: &[u8],
-    known_addresses: &[u8],
-    memory: &mut [u8],
-    map: &mut [u8],
-    new_names: &mut [u8],
-    new_addresses: &mut [u8],
-) -> Outcome
-    requires { ⌜ (paired (now «known_addresses») ≡ Bool.true) × (length (now «known_addresses») ≤ 512) × (length (now «new_addresses») ≡ 64) ⌝ }
-    ensures { λ r. ⌜ Loads (now (file .entry)) (given (now («known_names» .entry)) (now («known_addresses» .entry)) low high) Bool.true (rooms (now (memory .entry)) (now (map .entry)) (now («new_names» .entry)) (now («new_addresses» .entry))) r (rooms (now (memory .exit)) (now (map .exit)) (now («new_names» .exit)) (now («new_addresses» .exit))) ⌝ }
-{
-    let mut known = [0u16; KNOWN];
-    words::decode_words(&mut known, known_addresses);
-    let count = known_addresses.len() / 2;
-    let mut new = [0u16; NEW];
-    let outcome = sdx::load(
-        file,
-        low,
-        high,
-        known_names,
-        &known[..count],
-        memory,
-        map,
-        new_names,
-        &mut new,
-    );
-    if let Outcome::Accepted {
-        start,
-        placed,
-        adjusted,
-        new_names: named,
-        low: after,
-    } = outcome {
-        words::encode_words(new_addresses, &new);
-    }
-    outcome
 }

@@ -1,7 +1,7 @@
 -- `calls::sdx_load` meets its contract: with an answer to write it is a load that is told.
 -- Assumes nothing.
 use borrow.Author.Needs.{needs}
-use Rattle.calls.proofs.Pairs.{sdx-untold, sdx-told}
+use Rattle.calls.proofs.Telling.{sdx-untold, sdx-told}
 use Rattle.calls.proofs.sdx_load.Statement.{statement}
 use Rattle.calls.proofs.sdx_load.Tie as tie
 
@@ -11,8 +11,8 @@ fault-number-requires c κs = search needs
 returns : tie.Need-returns
 returns c = sdx-untold (c .before .if1 .taken) (c .fault-number .ensures)
 
-load-pairs-requires : tie.Need-load-pairs-requires
-load-pairs-requires c κs = search needs
+load-requires : tie.Need-load-requires
+load-requires c κs = search needs
 
 tell-requires : tie.Need-tell-requires
 tell-requires c κs = search needs
@@ -35,7 +35,7 @@ same-length-5 c = search needs
 returns-2 : tie.Need-returns-2
 returns-2 c =
     let c12 = c .before .before .before .before .before .before .before .before .before .before .before .before in
-    sdx-told (c12 .before .before .before .before .before .if1 .left) (c12 .load-pairs .ensures) (c .before .before .tell .ensures)
+    sdx-told (c12 .before .before .before .before .before .if1 .left) (c12 .load .ensures) (c .before .before .tell .ensures)
 
 pub sdx-load-spec : {M : Type 1} → statement M
 sdx-load-spec =
@@ -43,7 +43,7 @@ sdx-load-spec =
     (tie.spec
     fault-number-requires
     returns
-    load-pairs-requires
+    load-requires
     tell-requires
     same-length
     same-length-2

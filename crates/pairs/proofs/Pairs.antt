@@ -5,12 +5,11 @@ use mathlib.Core.List.{List}
 use mathlib.Core.Path.{_≡_, refl, sym, ap, _∙_}
 use Prim.Native.Nat.{ℕ, _/_, _%_, _≤_, _<_}
 use native.Mathlib.Omega.{arith}
-use borrow.Author.Tests.{eqb-true, eq-eqb, ne-eqb, lt-leb}
+use borrow.Author.Tests.{eqb-true, ne-eqb, lt-leb}
 use lib.Dec.{eqb}
 use lib.ListN.{length, replicate, take}
 use Rattle.answer.proofs.Outcomes.{isRefused}
 use Rattle.answer.specs.Checks.{need, pick}
-use Rattle.answer.specs.Report.{numberOf}
 use Rattle.answer.specs.declared.Fault.{Fault}
 use Rattle.answer.specs.declared.Fault.the-variants.{WrongBuffer}
 use Rattle.answer.specs.declared.Outcome.{Outcome}
@@ -24,9 +23,8 @@ use Rattle.words.proofs.Numbers.{length-decoded}
 use Rattle.words.proofs.Runs.{front-holds}
 use Rattle.words.specs.Numbers.{encoded}
 use Rattle.words.specs.Runs.{part, put}
-use Rattle.calls.proofs.Telling.{and-false, untold}
-use Rattle.calls.specs.Answer.{Told, paired, addressesIn}
-use Rattle.calls.specs.Sdx.{asWords, withAddresses, inWords, bothPaired, pairsAfter, Loads, Called}
+use Rattle.answer.proofs.Checks.{and-false}
+use Rattle.pairs.specs.Pairs.{paired, addressesIn, asWords, withAddresses, inWords, bothPaired, pairsAfter, Loads}
 
 -- ---- lengths that are wrong
 
@@ -162,13 +160,3 @@ module _ (file : List ℕ) (g : Given) (b b′ : Rooms) (o : Outcome) (known new
           absurd (false≢true (sym (ap isRefused (sym e ∙ d .outcome ∙ ap (λ (v : Verdict). report (b .memory) v (ran .events)) h))))
       by (refused k z) h =
           loads (addressesIn (b .addresses)) (sym (ap (λ (v : Verdict). addressesAfter v (addressesIn (b .addresses))) h)) (rw e f)
-
--- ---- the answer
-
-module _ {file : List ℕ} {g : Given} {b : Rooms} {a : List ℕ} {r : ℕ} where
-  pub sdx-untold : (length a ≡ 36 → ⊥) → r ≡ numberOf WrongBuffer → Called file g b a r b a
-  sdx-untold h e =
-      record { outcome = Refused WrongBuffer 0 0; loads = loads-wrong refl _ (rw (ne-eqb _ _ h) refl); told = untold a r h e }
-
-  pub sdx-told : {o : Outcome} {b′ : Rooms} {a′ : List ℕ} → length a ≡ 36 → Loads file g true b o b′ → Told o a r a′ → Called file g b a r b′ a′
-  sdx-told {o} h d t = record { outcome = o; loads = rw (eq-eqb _ _ h) d; told = t }

@@ -1,4 +1,4 @@
--- `calls::load_words` meets its contract: the words of the pairs are what the loader gets, and what it writes goes back as pairs.
+-- `pairs::load_words` meets its contract: the words of the pairs are what the loader gets, and what it writes goes back as pairs.
 -- Assumes nothing.
 use mathlib.Core.Path.{refl, sym}
 use native.Mathlib.Omega.{arith}
@@ -6,9 +6,9 @@ use borrow.Author.Needs.{needs}
 use lib.Seq.{length-take-le}
 use Rattle.passes.specs.Rooms.{rooms}
 use Rattle.passes.specs.Walk.{given}
-use Rattle.calls.proofs.Pairs.{known-front, loads-accepted, loads-refused}
-use Rattle.calls.proofs.load_words.Statement.{statement}
-use Rattle.calls.proofs.load_words.Tie as tie
+use Rattle.pairs.proofs.Pairs.{known-front, loads-accepted, loads-refused}
+use Rattle.pairs.proofs.load_words.Statement.{statement}
+use Rattle.pairs.proofs.load_words.Tie as tie
 
 slice-aggregate-decode-words : tie.Need-slice-aggregate-decode-words
 slice-aggregate-decode-words c = search needs

@@ -1,11 +1,11 @@
--- `calls::load_pairs` meets its contract: the lengths of the address lists decide, then the words in them.
+-- `pairs::load` meets its contract: the lengths of the address lists decide, then the words in them.
 -- Assumes nothing.
 use native.Mathlib.Omega.{arith}
 use borrow.Author.Needs.{needs}
 use borrow.Author.Tests.{eq-eqb}
-use Rattle.calls.proofs.Pairs.{loads-odd, loads-many, loads-other}
-use Rattle.calls.proofs.load_pairs.Statement.{statement}
-use Rattle.calls.proofs.load_pairs.Tie as tie
+use Rattle.pairs.proofs.Pairs.{loads-odd, loads-many, loads-other}
+use Rattle.pairs.proofs.load.Statement.{statement}
+use Rattle.pairs.proofs.load.Tie as tie
 
 refused-requires : tie.Need-refused-requires
 refused-requires c κs = search needs
@@ -21,6 +21,9 @@ refused-requires-2 c κs = search needs
 
 returns-2 : tie.Need-returns-2
 returns-2 c = loads-many (c .refused2 .ensures) (c .before .before .if1 .left) (c .before .if2 .taken)
+
+mul-if3 : tie.Need-mul-if3
+mul-if3 c = search needs
 
 refused-requires-3 : tie.Need-refused-requires-3
 refused-requires-3 c κs = search needs
@@ -48,8 +51,8 @@ same-length-4 c = search needs
 returns-4 : tie.Need-returns-4
 returns-4 c = search needs
 
-pub load-pairs-spec : {M : Type 1} → statement M
-load-pairs-spec =
+pub load-spec : {M : Type 1} → statement M
+load-spec =
     tie.close
     (tie.spec
     refused-requires
@@ -57,6 +60,7 @@ load-pairs-spec =
     mul-if2
     refused-requires-2
     returns-2
+    mul-if3
     refused-requires-3
     returns-3
     load-words-requires

@@ -1,0 +1,51 @@
+-- An SDX load whose address lists are byte pairs (document 01, "What the bench lends", "C calls"): here the addresses of what is given, and of the
+-- rooms, are bytes.
+-- Assumes nothing.
+use mathlib.Core.Bool.{Bool, _&&_}
+use mathlib.Core.List.{List}
+use mathlib.Core.Path.{_≡_}
+use Prim.Native.Nat.{ℕ, _/_, _%_}
+use lib.Dec.{eqb}
+use lib.ListN.{length}
+use Rattle.answer.specs.declared.Outcome.{Outcome}
+use Rattle.answer.specs.declared.Outcome.the-variants.{Accepted, Refused}
+use Rattle.passes.specs.Rooms.{Rooms, rooms}
+use Rattle.passes.specs.Walk.{Given, given}
+use Rattle.sdx.specs.Call.{sized, Loaded}
+use Rattle.words.specs.Numbers.{decoded, encoded}
+
+-- "the two address lists as byte pairs, low byte first (an odd length is 1)"
+abbrev pub paired : List ℕ → Bool
+paired bytes = eqb (length bytes % 2) 0
+
+-- the addresses in such a list
+abbrev pub addressesIn : List ℕ → List ℕ
+addressesIn bytes = decoded 2 (length bytes / 2) bytes
+
+-- what is given, with the known addresses as words
+abbrev pub asWords : Given → Given
+asWords g = given (g .names) (addressesIn (g .addresses)) (g .low) (g .high)
+
+-- rooms with other addresses
+abbrev pub withAddresses : Rooms → List ℕ → Rooms
+withAddresses b addresses = rooms (b .memory) (b .map) (b .names) addresses
+
+-- the rooms, with the new addresses as words
+abbrev pub inWords : Rooms → Rooms
+inWords b = withAddresses b (addressesIn (b .addresses))
+
+-- "(an odd length is 1)": both address lists are pairs
+abbrev pub bothPaired : Given → Rooms → Bool
+bothPaired g b = paired (g .addresses) && paired (b .addresses)
+
+-- the room for new addresses after a load that left these words: pairs on an acceptance, and "as they were" on a refusal
+abbrev pub pairsAfter : Outcome → List ℕ → List ℕ → List ℕ
+pairsAfter (Accepted start placed adjusted named low) new bytes = encoded 2 new
+pairsAfter (Refused fault offset side) new bytes = bytes
+
+-- What a load over pairs does: it found the rooms b, comes to the outcome o, and leaves b′, as the loader does over the words. `right` says
+-- whether all else that is lent has its length (the answer, in a call from C).
+pub record Loads (file : List ℕ) (g : Given) (right : Bool) (b : Rooms) (o : Outcome) (b′ : Rooms) : Type 0 where
+  pub new : List ℕ
+  pub loaded : Loaded file (asWords g) ((right && bothPaired g b) && sized (asWords g) (inWords b)) (inWords b) o (withAddresses b′ new)
+  pub addresses : b′ .addresses ≡ pairsAfter o new (b .addresses)
