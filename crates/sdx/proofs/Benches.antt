@@ -1,6 +1,6 @@
 -- A refused call changes no memory, and two benches hold the same program: specs/Benches.antt, of every call that keeps the contract.
 -- Assumes nothing.
-use mathlib.Core.Bool.{Bool, true, false, false≢true}
+use mathlib.Core.Bool.{Bool, true, false, _&&_, false≢true}
 use mathlib.Core.List.{List, _∷_, _++_}
 use mathlib.Core.Path.{_≡_, refl, sym, ap, _∙_}
 use Prim.Native.Nat.{ℕ}
@@ -44,76 +44,77 @@ reported-later m (finished z) es h e = absurd (false≢true e)
 reported-later m (refused fault z) es h e = h .later
 
 -- a call with the right buffers is not refused with 1, one with others is
-module _ (file : List ℕ) (g : Given) (b b′ : Rooms) (r : Outcome) (d : Loaded file g (sized g b) b r b′) (fault : Fault) (offset side : ℕ)
+module _ (file : List ℕ) (g : Given) (right : Bool) (b b′ : Rooms) (r : Outcome) (d : Loaded file g right b r b′) (fault : Fault) (offset side : ℕ)
     (e : r ≡ Refused fault offset side) where
   -- the fault is the definition's
-  fault-is : (t : Bool) → sized g b ≡ t → fault ≡ faultIn (report (b .memory) (call file g t .answer) (call file g t .events))
+  fault-is : (t : Bool) → right ≡ t → fault ≡ faultIn (report (b .memory) (call file g t .answer) (call file g t .events))
   fault-is t h =
       ap faultIn (sym e ∙ d .outcome)
       ∙ ap (λ (s : Bool). faultIn (report (b .memory) (call file g s .answer) (call file g s .events))) h
 
-  was-refused : (t : Bool) → sized g b ≡ t → isRefused (report (b .memory) (call file g t .answer) (call file g t .events)) ≡ true
+  was-refused : (t : Bool) → right ≡ t → isRefused (report (b .memory) (call file g t .answer) (call file g t .events)) ≡ true
   was-refused t h =
       ap (λ (s : Bool). isRefused (report (b .memory) (call file g s .answer) (call file g s .events))) (sym h)
       ∙ ap isRefused (sym (d .outcome) ∙ e)
 
-  right-later : sized g b ≡ true → ¬ (fault ≡ WrongBuffer)
+  right-later : right ≡ true → ¬ (fault ≡ WrongBuffer)
   unfolding call need
   right-later h =
       later-not fault
       (rw (fault-is true h) (reported-later (b .memory) (load file g .answer) (load file g .events) (load-later file g) (was-refused true h)))
 
-  wrong-first : sized g b ≡ false → fault ≡ WrongBuffer
+  wrong-first : right ≡ false → fault ≡ WrongBuffer
   unfolding call need
   wrong-first h = fault-is false h
 
-  untouched : Untouched (call file g (sized g b) .answer) (call file g (sized g b) .events) (b .memory) (b .names) (b .addresses)
+  untouched : Untouched (call file g right .answer) (call file g right .events) (b .memory) (b .names) (b .addresses)
   untouched = refused-untouched _ _ (b .memory) (b .names) (b .addresses) (ap isRefused (sym (d .outcome) ∙ e))
 
-  map-is : (t : Bool) → sized g b ≡ t
-      → b′ .map ≡ pick t (mapAfter (call file g (sized g b) .answer) (call file g (sized g b) .events)) (b .map)
+  map-is : (t : Bool) → right ≡ t
+      → b′ .map ≡ pick t (mapAfter (call file g right .answer) (call file g right .events)) (b .map)
   map-is t h =
-      d .map ∙ ap (λ (s : Bool). pick s (mapAfter (call file g (sized g b) .answer) (call file g (sized g b) .events)) (b .map)) h
+      d .map ∙ ap (λ (s : Bool). pick s (mapAfter (call file g right .answer) (call file g right .events)) (b .map)) h
 
-  map-first : (t : Bool) → sized g b ≡ t → fault ≡ WrongBuffer → b′ .map ≡ b .map
+  map-first : (t : Bool) → right ≡ t → fault ≡ WrongBuffer → b′ .map ≡ b .map
   unfolding pick
   map-first true h f = absurd (right-later h f)
   map-first false h f = map-is false h
 
-  map-later : (t : Bool) → sized g b ≡ t → ¬ (fault ≡ WrongBuffer) → b′ .map ≡ blank
+  map-later : (t : Bool) → right ≡ t → ¬ (fault ≡ WrongBuffer) → b′ .map ≡ blank
   unfolding pick
   map-later true h f = map-is true h ∙ untouched .map
   map-later false h f = absurd (f (wrong-first h))
 
 -- a refused call
 pub call-refused : RefusedClaim
-call-refused file g b b′ r d fault offset side e =
-    let u = untouched file g b b′ r d fault offset side e in
+call-refused file g right b b′ r d fault offset side e =
+    let u = untouched file g right b b′ r d fault offset side e in
     record {
       memory = d .memory ∙ u .memory;
       names = d .names ∙ u .names;
       addresses = d .addresses ∙ u .addresses;
-      wrong-buffer = map-first file g b b′ r d fault offset side e (sized g b) refl;
-      other = map-later file g b b′ r d fault offset side e (sized g b) refl;
+      wrong-buffer = map-first file g right b b′ r d fault offset side e right refl;
+      other = map-later file g right b b′ r d fault offset side e right refl;
     }
 
 -- ---- two benches
 
 -- with the right buffers a call is a load
-call-load : (file : List ℕ) (g : Given) (b : Rooms) → sized g b ≡ true → call file g (sized g b) ≡ load file g
+call-load : (file : List ℕ) (g : Given) (right : Bool) → right ≡ true → call file g right ≡ load file g
 unfolding call need
-call-load file g b h = ap (λ (t : Bool). need (atOnce g) t WrongBuffer (load file g)) h
+call-load file g right h = ap (λ (t : Bool). need (atOnce g) t WrongBuffer (load file g)) h
 
 -- and a load that finished is of a call as asked
-load-asked : (file : List ℕ) (g : Given) (b : Rooms) (z : Progress) → sized g b ≡ true → load file g .answer ≡ finished z → Asked file g b
-load-asked file g b z h e = finished-asked file g b z (ap (λ (o : Ran Verdict). o .answer) (call-load file g b h) ∙ e)
+load-asked : (file : List ℕ) (g : Given) (x : Bool) (b : Rooms) (z : Progress) → x && sized g b ≡ true → load file g .answer ≡ finished z
+    → Asked file g x b
+load-asked file g x b z h e = finished-asked file g x b z (ap (λ (o : Ran Verdict). o .answer) (call-load file g (x && sized g b) h) ∙ e)
 
 -- and comes to what the file comes to
-load-judged : (file : List ℕ) (g : Given) (b : Rooms) → sized g b ≡ true → Asked file g b → load file g ≡ judged file g
-load-judged file g b h a = sym (call-load file g b h) ∙ asked-judged file g b a
+load-judged : (file : List ℕ) (g : Given) (x : Bool) (b : Rooms) → x && sized g b ≡ true → Asked file g x b → load file g ≡ judged file g
+load-judged file g x b h a = sym (call-load file g (x && sized g b) h) ∙ asked-judged file g x b a
 
-module _ (file : List ℕ) (g : Given) (b₁ b₂ b d : Rooms) (r t : Outcome) (first : Loaded file g (sized g b₁) b₁ r b) (second : Loaded file g (sized g b₂) b₂ t d)
-    (right₁ : sized g b₁ ≡ true) (right₂ : sized g b₂ ≡ true) (bytes : Bytes file) where
+module _ (file : List ℕ) (g : Given) (x y : Bool) (b₁ b₂ b d : Rooms) (r t : Outcome) (first : Loaded file g (x && sized g b₁) b₁ r b)
+    (second : Loaded file g (y && sized g b₂) b₂ t d) (right₁ : x && sized g b₁ ≡ true) (right₂ : y && sized g b₂ ≡ true) (bytes : Bytes file) where
   -- two calls of a file that is accepted
   record Both (z : Progress) : Type 0 where
     judged-so : load file g ≡ judged file g
@@ -126,30 +127,30 @@ module _ (file : List ℕ) (g : Given) (b₁ b₂ b d : Rooms) (r t : Outcome) (
   -- they leave the same events' memory, and names
   both : (z : Progress) → load file g .answer ≡ finished z → Both z
   both z e =
-      let a₁ = load-asked file g b₁ z right₁ e in
-      let a₂ = load-asked file g b₂ z right₂ e in
-      let j = load-judged file g b₁ right₁ a₁ in
+      let a₁ = load-asked file g x b₁ z right₁ e in
+      let a₂ = load-asked file g y b₂ z right₂ e in
+      let j = load-judged file g x b₁ right₁ a₁ in
       let f : judged file g .answer ≡ finished z = ap (λ (o : Ran Verdict). o .answer) (sym j) ∙ e in
       record {
         judged-so = j;
-        memory₁ = asked-memory file g b₁ a₁;
-        memory₂ = asked-memory file g b₂ a₂;
-        lawful = judged-keeps file g (asked-top file g b₁ a₁) bytes z f .lawful;
-        left₁ = call-leaves file g b₁ b r first a₁ z f;
-        left₂ = call-leaves file g b₂ d t second a₂ z f;
+        memory₁ = asked-memory file g x b₁ a₁;
+        memory₂ = asked-memory file g y b₂ a₂;
+        lawful = judged-keeps file g (asked-top file g x b₁ a₁) bytes z f .lawful;
+        left₁ = call-leaves file g x b₁ b r first a₁ z f;
+        left₂ = call-leaves file g y b₂ d t second a₂ z f;
       }
 
   module _ (z : Progress) (accepted : load file g .answer ≡ finished z) where
     -- one start, and so one outcome
     same-outcome : r ≡ t
     same-outcome =
-        let x = both z accepted in
+        let w = both z accepted in
         let es = judged file g .events in
-        let one = loaded-same (b₁ .memory) (b₂ .memory) (x .memory₁) (x .memory₂) es (x .lawful) in
-        x .left₁ .outcome
+        let one = loaded-same (b₁ .memory) (b₂ .memory) (w .memory₁) (w .memory₂) es (w .lawful) in
+        w .left₁ .outcome
         ∙ ap (λ (s : Start). Accepted s (placedIn es) (adjustedIn es) (length (z .addresses)) (z .cursor .low))
         (start-same (marks es blank) (play es (b₁ .memory)) (play es (b₂ .memory)) one)
-        ∙ sym (x .left₂ .outcome)
+        ∙ sym (w .left₂ .outcome)
 
     -- one program
     same-placed : (before after : List Event) (e : Event) (x : ℕ) → Among (load file g .events) before e after → Places x e
@@ -167,37 +168,37 @@ module _ (file : List ℕ) (g : Given) (b₁ b₂ b d : Rooms) (r t : Outcome) (
         ∙ ap (λ (m : List ℕ). getD m x 0) (sym (k .left₂ .memory))
 
 -- what a call with the right buffers reports of a file that is refused hangs on no memory
-refused-outcome : (file : List ℕ) (g : Given) (b b′ : Rooms) (r : Outcome) → Loaded file g (sized g b) b r b′ → sized g b ≡ true
+refused-outcome : (file : List ℕ) (g : Given) (right : Bool) (b b′ : Rooms) (r : Outcome) → Loaded file g right b r b′ → right ≡ true
     → (fault : Fault) (z : Progress)
     → load file g .answer ≡ refused fault z
     → r ≡ Refused fault (z .cursor .at) 0
-refused-outcome file g b b′ r d h fault z e =
+refused-outcome file g right b b′ r d h fault z e =
     d .outcome
-    ∙ ap (λ (o : Ran Verdict). report (b .memory) (o .answer) (o .events)) (call-load file g b h)
+    ∙ ap (λ (o : Ran Verdict). report (b .memory) (o .answer) (o .events)) (call-load file g right h)
     ∙ ap (λ (v : Verdict). report (b .memory) v (load file g .events)) e
 
 -- nor does its map
-the-map : (file : List ℕ) (g : Given) (b b′ : Rooms) (r : Outcome) → Loaded file g (sized g b) b r b′ → sized g b ≡ true
+the-map : (file : List ℕ) (g : Given) (right : Bool) (b b′ : Rooms) (r : Outcome) → Loaded file g right b r b′ → right ≡ true
     → b′ .map ≡ mapAfter (load file g .answer) (load file g .events)
 unfolding pick
-the-map file g b b′ r d h =
-    let o = call file g (sized g b) in
+the-map file g right b b′ r d h =
+    let o = call file g right in
     d .map
     ∙ ap (λ (t : Bool). pick t (mapAfter (o .answer) (o .events)) (b .map)) h
-    ∙ ap (λ (k : Ran Verdict). mapAfter (k .answer) (k .events)) (call-load file g b h)
+    ∙ ap (λ (k : Ran Verdict). mapAfter (k .answer) (k .events)) (call-load file g right h)
 
 -- two calls with the right buffers
 pub same-program : SameClaim
-same-program file bytes g b₁ b₂ b d r t h i f s =
-    let x = both file g b₁ b₂ b d r t f s h i bytes in
+same-program file bytes g x y b₁ b₂ b d r t h i f s =
+    let w = both file g x y b₁ b₂ b d r t f s h i bytes in
     record {
       outcome = by (load file g .answer) refl;
-      map = the-map file g b₁ b r f h ∙ sym (the-map file g b₂ d t s i);
-      program = same-placed file g b₁ b₂ b d r t f s h i bytes;
-      names = λ z e. x z e .left₁ .names ∙ sym (x z e .left₂ .names);
-      addresses = λ z e. x z e .left₁ .addresses ∙ sym (x z e .left₂ .addresses);
+      map = the-map file g _ b₁ b r f h ∙ sym (the-map file g _ b₂ d t s i);
+      program = same-placed file g x y b₁ b₂ b d r t f s h i bytes;
+      names = λ z e. w z e .left₁ .names ∙ sym (w z e .left₂ .names);
+      addresses = λ z e. w z e .left₁ .addresses ∙ sym (w z e .left₂ .addresses);
     }
   where
     by : (v : Verdict) → load file g .answer ≡ v → r ≡ t
-    by (finished z) e = same-outcome file g b₁ b₂ b d r t f s h i bytes z e
-    by (refused fault z) e = refused-outcome file g b₁ b r f h fault z e ∙ sym (refused-outcome file g b₂ d t s i fault z e)
+    by (finished z) e = same-outcome file g x y b₁ b₂ b d r t f s h i bytes z e
+    by (refused fault z) e = refused-outcome file g _ b₁ b r f h fault z e ∙ sym (refused-outcome file g _ b₂ d t s i fault z e)

@@ -1,6 +1,6 @@
 -- Demand 2 for SDX files, as specs/Demand2.antt states it.
 -- Assumes nothing.
-use mathlib.Core.Bool.{Bool, true, false, false≢true}
+use mathlib.Core.Bool.{Bool, true, false, _&&_, false≢true}
 use mathlib.Core.List.{List, _∷_, _++_}
 use mathlib.Core.Path.{_≡_, refl, sym, ap, _∙_}
 use Prim.Native.Nat.{ℕ, _≤_}
@@ -8,6 +8,7 @@ use native.Mathlib.Omega.{arith}
 use borrow.Author.Tests.{le-leb}
 use lib.ListN.{length, getD}
 use Rattle.answer.proofs.Outcomes.{isRefused}
+use Rattle.answer.proofs.Checks.{and-true}
 use Rattle.answer.specs.Checks.{need, pick}
 use Rattle.answer.specs.Report.{placedOf, adjustedOf}
 use Rattle.answer.specs.declared.Fault.the-variants.{WrongBuffer}
@@ -65,28 +66,35 @@ demand2 file g z m top bytes n e = kept-demand2 file g z (judged file g .events)
 -- ---- of every call
 
 -- an acceptance is of a call as asked
-pub finished-asked : (file : List ℕ) (g : Given) (b : Rooms) (z : Progress) → call file g (sized g b) .answer ≡ finished z → Asked file g b
+pub finished-asked : (file : List ℕ) (g : Given) (x : Bool) (b : Rooms) (z : Progress) → call file g (x && sized g b) .answer ≡ finished z
+    → Asked file g x b
 unfolding call load need
-finished-asked file g b z e = by (sized g b) (admitting file g) refl refl e
+finished-asked file g x b z e = by (x && sized g b) (admitting file g) refl refl e
   where
-    by : (t : Bool) (c : Check) → sized g b ≡ t → admitting file g ≡ c
+    by : (t : Bool) (c : Check) → x && sized g b ≡ t → admitting file g ≡ c
         → need (atOnce g) t WrongBuffer (opened g c (blocksOf file g)) .answer ≡ finished z
-        → Asked file g b
-    by true Passed h i f = let a = admitted file g i in record { buffers = h; settings = a .settings; fits = a .fits }
+        → Asked file g x b
+    by true Passed h i f =
+        let s = and-true x (sized g b) h in
+        let a = admitted file g i in
+        record { lengths = s .0; buffers = s .1; settings = a .settings; fits = a .fits }
     by true (Failed fault) h i f = absurd (refused-finished f)
     by false c h i f = absurd (refused-finished f)
 
 -- and comes to what the file comes to
-pub asked-judged : (file : List ℕ) (g : Given) (b : Rooms) → Asked file g b → call file g (sized g b) ≡ judged file g
+pub asked-judged : (file : List ℕ) (g : Given) (x : Bool) (b : Rooms) → Asked file g x b → call file g (x && sized g b) ≡ judged file g
 unfolding call load judged admitting need
-asked-judged file g b a = rw (a .buffers, a .settings, le-leb _ _ (a .fits)) refl
+asked-judged file g x b a = rw (a .lengths, a .buffers, a .settings, le-leb _ _ (a .fits)) refl
 
--- what was asked of memory and of the settings
-pub asked-memory : (file : List ℕ) (g : Given) (b : Rooms) → Asked file g b → length (b .memory) ≡ 65536
-asked-memory file g b a = right-sizes g b (a .buffers) .memory
+-- the lengths are right, memory's among them, and so are the settings
+pub asked-sized : {file : List ℕ} {g : Given} {x : Bool} {b : Rooms} → Asked file g x b → x && sized g b ≡ true
+asked-sized a = rw (a .lengths, a .buffers) refl
 
-pub asked-top : (file : List ℕ) (g : Given) (b : Rooms) → Asked file g b → g .high ≤ 65535
-asked-top file g b a = range-bounds g (a .settings) .1
+pub asked-memory : (file : List ℕ) (g : Given) (x : Bool) (b : Rooms) → Asked file g x b → length (b .memory) ≡ 65536
+asked-memory file g x b a = right-sizes g b (a .buffers) .memory
+
+pub asked-top : (file : List ℕ) (g : Given) (x : Bool) (b : Rooms) → Asked file g x b → g .high ≤ 65535
+asked-top file g x b a = range-bounds g (a .settings) .1
 
 -- What a call as asked answers and leaves, of a file that the rules accept.
 pub record Left (file : List ℕ) (g : Given) (z : Progress) (b : Rooms) (r : Outcome) (b′ : Rooms) : Type 0 where
@@ -97,20 +105,20 @@ pub record Left (file : List ℕ) (g : Given) (z : Progress) (b : Rooms) (r : Ou
   pub addresses : b′ .addresses ≡ filledUp addressesRoom (z .addresses)
 
 -- such a call leaves what its events make
-pub call-leaves : (file : List ℕ) (g : Given) (b b′ : Rooms) (r : Outcome) → Loaded file g (sized g b) b r b′ → Asked file g b → (z : Progress)
+pub call-leaves : (file : List ℕ) (g : Given) (x : Bool) (b b′ : Rooms) (r : Outcome) → Loaded file g (x && sized g b) b r b′ → Asked file g x b → (z : Progress)
     → judged file g .answer ≡ finished z
     → Left file g z b r b′
 unfolding pick
-call-leaves file g b b′ r d a z e =
-    let c = asked-judged file g b a in
-    let o = call file g (sized g b) in
+call-leaves file g x b b′ r d a z e =
+    let c = asked-judged file g x b a in
+    let o = call file g (x && sized g b) in
     let es = judged file g .events in
     let j : (A : Type 0) (f : Verdict → List Event → A) → f (o .answer) (o .events) ≡ f (finished z) es =
     λ A f. ap (λ (o : Ran Verdict). f (o .answer) (o .events)) c ∙ ap (λ (v : Verdict). f v es) e in
     record {
       outcome = d .outcome ∙ j Outcome (λ v fs. report (b .memory) v fs);
       memory = d .memory ∙ j (List ℕ) (λ v fs. memoryAfter v fs (b .memory));
-      map = d .map ∙ ap (λ (t : Bool). pick t (mapAfter (o .answer) (o .events)) (b .map)) (a .buffers) ∙ j (List ℕ) (λ v fs. mapAfter v fs);
+      map = d .map ∙ ap (λ (t : Bool). pick t (mapAfter (o .answer) (o .events)) (b .map)) (asked-sized a) ∙ j (List ℕ) (λ v fs. mapAfter v fs);
       names = d .names ∙ j (List ℕ) (λ v fs. namesAfter v (b .names));
       addresses = d .addresses ∙ j (List ℕ) (λ v fs. addressesAfter v (b .addresses));
     }
@@ -134,13 +142,13 @@ reported-finished m (finished z) es e = (z, refl)
 reported-finished m (refused fault z) es e = absurd (false≢true (sym e))
 
 -- a call as asked of a file that the rules accept
-accepted-call : (file : List ℕ) (g : Given) (b b′ : Rooms) (r : Outcome) (z : Progress) → Loaded file g (sized g b) b r b′ → Bytes file → Asked file g b
+accepted-call : (file : List ℕ) (g : Given) (x : Bool) (b b′ : Rooms) (r : Outcome) (z : Progress) → Loaded file g (x && sized g b) b r b′ → Bytes file → Asked file g x b
     → judged file g .answer ≡ finished z
     → (start : Start) (placed adjusted named low : ℕ)
     → r ≡ Accepted start placed adjusted named low
-    → AcceptedCall file g b b′ start placed adjusted named low
-accepted-call file g b b′ r z d bytes a f start placed adjusted named low e =
-    let l = call-leaves file g b b′ r d a z f in
+    → AcceptedCall file g x b b′ start placed adjusted named low
+accepted-call file g x b b′ r z d bytes a f start placed adjusted named low e =
+    let l = call-leaves file g x b b′ r d a z f in
     let s : Accepted start placed adjusted named low ≡ report (b .memory) (finished z) (judged file g .events) = sym e ∙ l .outcome in
     let ep : placed ≡ placedIn (judged file g .events) = ap placedOf s in
     let ea : adjusted ≡ adjustedIn (judged file g .events) = ap adjustedOf s in
@@ -148,7 +156,7 @@ accepted-call file g b b′ r z d bytes a f start placed adjusted named low e =
       asked = a;
       end = z;
       follows = f;
-      leaves = rw (l .memory, l .map, ep, ea) (demand2 file g z (b .memory) (asked-top file g b a) bytes (asked-memory file g b a) f);
+      leaves = rw (l .memory, l .map, ep, ea) (demand2 file g z (b .memory) (asked-top file g x b a) bytes (asked-memory file g x b a) f);
       start-is = rw (l .memory, l .map) (ap startOf s);
       new-names = l .names;
       new-addresses = l .addresses;
@@ -157,25 +165,24 @@ accepted-call file g b b′ r z d bytes a f start placed adjusted named low e =
     }
 
 -- an accepted call
-call-accepted : (file : List ℕ) (g : Given) (b b′ : Rooms) (r : Outcome) → Loaded file g (sized g b) b r b′ → Bytes file → (start : Start)
+call-accepted : (file : List ℕ) (g : Given) (x : Bool) (b b′ : Rooms) (r : Outcome) → Loaded file g (x && sized g b) b r b′ → Bytes file → (start : Start)
     (placed adjusted named low : ℕ)
     → r ≡ Accepted start placed adjusted named low
-    → AcceptedCall file g b b′ start placed adjusted named low
-call-accepted file g b b′ r d bytes start placed adjusted named low e =
-    let o = call file g (sized g b) in
-    let x = reported-finished (b .memory) (o .answer) (o .events) (ap isRefused (sym (d .outcome) ∙ e)) in
-    let a = finished-asked file g b (x .0) (x .1) in
-    let f = ap (λ (k : Ran Verdict). k .answer) (sym (asked-judged file g b a)) ∙ x .1 in
-    accepted-call file g b b′ r (x .0) d bytes a f start placed adjusted named low e
+    → AcceptedCall file g x b b′ start placed adjusted named low
+call-accepted file g x b b′ r d bytes start placed adjusted named low e =
+    let o = call file g (x && sized g b) in
+    let y = reported-finished (b .memory) (o .answer) (o .events) (ap isRefused (sym (d .outcome) ∙ e)) in
+    let a = finished-asked file g x b (y .0) (y .1) in
+    let f = ap (λ (k : Ran Verdict). k .answer) (sym (asked-judged file g x b a)) ∙ y .1 in
+    accepted-call file g x b b′ r (y .0) d bytes a f start placed adjusted named low e
 
 -- a call as asked accepts every file that the rules accept
-call-accepts : (file : List ℕ) (g : Given) (b b′ : Rooms) (r : Outcome) → Loaded file g (sized g b) b r b′ → Asked file g b → (z : Progress)
+call-accepts : (file : List ℕ) (g : Given) (x : Bool) (b b′ : Rooms) (r : Outcome) → Loaded file g (x && sized g b) b r b′ → Asked file g x b → (z : Progress)
     → judged file g .answer ≡ finished z
     → r ≡ Accepted (startIn (b′ .map) (b′ .memory)) (placedIn (judged file g .events)) (adjustedIn (judged file g .events)) (length (z .addresses))
     (z .cursor .low)
-call-accepts file g b b′ r d a z f = let l = call-leaves file g b b′ r d a z f in rw (l .memory, l .map) (l .outcome)
+call-accepts file g x b b′ r d a z f = let l = call-leaves file g x b b′ r d a z f in rw (l .memory, l .map) (l .outcome)
 
 -- Demand 2, of every call
 pub call-demand2 : Claim
-call-demand2 file bytes g b b′ r d =
-    record { accepted = call-accepted file g b b′ r d bytes; accepts = call-accepts file g b b′ r d }
+call-demand2 file bytes g x b b′ r d = record { only = call-accepted file g x b b′ r d bytes; all = call-accepts file g x b b′ r d }

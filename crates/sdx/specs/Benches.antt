@@ -1,7 +1,7 @@
 -- Two sentences of the user about every call, in terms of the loader's contract. The claims are proved in proofs/Benches.antt (`call-refused`,
 -- `same-program`).
 -- Assumes nothing.
-use mathlib.Core.Bool.{true}
+use mathlib.Core.Bool.{Bool, true, _&&_}
 use mathlib.Core.List.{List}
 use mathlib.Core.Path.{_≡_}
 use Prim.Native.Nat.{ℕ}
@@ -31,7 +31,7 @@ pub record RefusedCall (fault : Fault) (b b′ : Rooms) : Type 0 where
 -- The claim: of every file, whatever is given and lent, and of every call that keeps the loader's contract.
 abbrev pub RefusedClaim : Type 0
 RefusedClaim =
-    (file : List ℕ) (g : Given) (b b′ : Rooms) (r : Outcome) → Loaded file g (sized g b) b r b′ → (fault : Fault) (offset side : ℕ)
+    (file : List ℕ) (g : Given) (right : Bool) (b b′ : Rooms) (r : Outcome) → Loaded file g right b r b′ → (fault : Fault) (offset side : ℕ)
     → r ≡ Refused fault offset side
     → RefusedCall fault b b′
 
@@ -49,7 +49,7 @@ pub record SameProgram (file : List ℕ) (g : Given) (r t : Outcome) (b d : Room
 -- The claim: of every file, whatever is given, and of every two calls that keep the loader's contract, with buffers of the right lengths.
 abbrev pub SameClaim : Type 0
 SameClaim =
-    (file : List ℕ) → Bytes file → (g : Given) (b₁ b₂ b d : Rooms) (r t : Outcome) → sized g b₁ ≡ true → sized g b₂ ≡ true
-    → Loaded file g (sized g b₁) b₁ r b
-    → Loaded file g (sized g b₂) b₂ t d
+    (file : List ℕ) → Bytes file → (g : Given) (x y : Bool) (b₁ b₂ b d : Rooms) (r t : Outcome) → x && sized g b₁ ≡ true → y && sized g b₂ ≡ true
+    → Loaded file g (x && sized g b₁) b₁ r b
+    → Loaded file g (y && sized g b₂) b₂ t d
     → SameProgram file g r t b d

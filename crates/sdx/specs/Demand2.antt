@@ -1,7 +1,7 @@
 -- Demand 2 for SDX files, sentence by sentence: what a load leaves where it accepts. Proved in proofs/Demand2.antt of the definition
 -- (`demand2`), of every file, all settings and every memory; the claim at the end, of every call, by `call-demand2`.
 -- Assumes nothing.
-use mathlib.Core.Bool.{true, false}
+use mathlib.Core.Bool.{Bool, true, false, _&&_}
 use mathlib.Core.List.{List, [], _∷_, _++_}
 use mathlib.Core.Path.{_≡_}
 use Prim.Native.Nat.{ℕ, _+_, _*_, _≤_, _<_}
@@ -153,15 +153,17 @@ pub record Demand2 (file : List ℕ) (g : Given) (z : Progress) (es : List Event
   pub placed-fits : placed ≤ length file
   pub adjusted-fits : adjusted ≤ length file
 
--- "settings and buffers as document 01 asks"
-pub record Asked (file : List ℕ) (g : Given) (b : Rooms) : Type 0 where
+-- "settings and buffers as document 01 asks" (`others` says whether all else that is lent has its length: of a call from C the answer, and the
+-- address lists as pairs; of other calls there is nothing else)
+pub record Asked (file : List ℕ) (g : Given) (others : Bool) (b : Rooms) : Type 0 where
+  pub lengths : others ≡ true
   pub buffers : sized g b ≡ true
   pub settings : inRange g ≡ true
   pub fits : length file ≤ fileLimit
 
 -- A call that was accepted: it was as asked, the file follows the rules, and this is what it left and reported.
-pub record AcceptedCall (file : List ℕ) (g : Given) (b b′ : Rooms) (start : Start) (placed adjusted named low : ℕ) : Type 0 where
-  pub asked : Asked file g b
+pub record AcceptedCall (file : List ℕ) (g : Given) (others : Bool) (b b′ : Rooms) (start : Start) (placed adjusted named low : ℕ) : Type 0 where
+  pub asked : Asked file g others b
   pub end : Progress
   pub follows : judged file g .answer ≡ finished end
   pub leaves : Demand2 file g end (judged file g .events) (b .memory) (b′ .memory) (b′ .map) placed adjusted
@@ -175,17 +177,19 @@ pub record AcceptedCall (file : List ℕ) (g : Given) (b b′ : Rooms) (start : 
 
 -- "With settings and buffers as document 01 asks, a file is accepted exactly if it follows the SpartaDOS X .. rules of document 01 and fits": of a
 -- call that found the buffers b, answered r and left b′
-pub record Exactly (file : List ℕ) (g : Given) (b : Rooms) (r : Outcome) (b′ : Rooms) : Type 0 where
-  -- only if: an acceptance is one of those above
-  pub accepted : (start : Start) (placed adjusted named low : ℕ) → r ≡ Accepted start placed adjusted named low
-      → AcceptedCall file g b b′ start placed adjusted named low
+pub record Exactly (file : List ℕ) (g : Given) (others : Bool) (b : Rooms) (r : Outcome) (b′ : Rooms) : Type 0 where
+  -- only if: an acceptance is of a call as asked and of a file that the rules accept, and leaves what demand 2 says
+  pub only : (start : Start) (placed adjusted named low : ℕ) → r ≡ Accepted start placed adjusted named low
+      → AcceptedCall file g others b b′ start placed adjusted named low
   -- if: a call as asked accepts every file that the rules accept, with the start that map and memory show, the counts of its events, the number
   -- of its new names and low
-  pub accepts : Asked file g b → (z : Progress) → judged file g .answer ≡ finished z
+  pub all : Asked file g others b → (z : Progress) → judged file g .answer ≡ finished z
       → r
       ≡ Accepted (startIn (b′ .map) (b′ .memory)) (placedIn (judged file g .events)) (adjustedIn (judged file g .events)) (length (z .addresses))
       (z .cursor .low)
 
 -- The claim: of every file, whatever is given and lent, and of every call that keeps the loader's contract.
 abbrev pub Claim : Type 0
-Claim = (file : List ℕ) → Bytes file → (g : Given) (b b′ : Rooms) (r : Outcome) → Loaded file g (sized g b) b r b′ → Exactly file g b r b′
+Claim =
+    (file : List ℕ) → Bytes file → (g : Given) (others : Bool) (b b′ : Rooms) (r : Outcome) → Loaded file g (others && sized g b) b r b′
+    → Exactly file g others b r b′
