@@ -42,7 +42,7 @@ use Rattle.words.specs.Runs.{part, put}
 use Rattle.moves.proofs.Rulings.{follows, verdict, allows-is, both}
 use Rattle.moves.specs.Call.{rulingOf, Allows, piecesOf}
 use Rattle.moves.specs.Move.{shift, carried, transfer}
-use Rattle.mover.specs.Parts.{taken, Sound}
+use Rattle.transfers.specs.Scratch.{taken, Sound}
 
 -- ---- the file
 
