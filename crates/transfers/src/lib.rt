@@ -2,9 +2,9 @@
 // overlap in any way. They are gathered from memory into the scratch, where they lie at their new places and have their fields adjusted, and
 // only then go into memory.
 use acx::Cursor;
+use fields::Field;
+use fields::Fixup;
 use pieces::Bases;
-use records::Field;
-use records::Fixup;
 use records::Record;
 ghost use mathlib.Core.Path.{_≡_};
 ghost use Prim.Native.Nat.{_+_, _≤_};
@@ -12,7 +12,7 @@ ghost use lib.ListN.{length};
 ghost use Rattle.words.specs.Numbers.{on, off, change};
 ghost use Rattle.events.specs.Lists.{Each};
 ghost use Rattle.events.specs.Events.{blank};
-ghost use Rattle.records.specs.Fields.{fieldsOf};
+ghost use Rattle.fields.specs.Fields.{fieldsOf};
 ghost use Rattle.pieces.specs.Pieces.{width, edited};
 ghost use Rattle.pieces.specs.Places.{Inside};
 ghost use Rattle.acx.specs.Call.{load as loadOf};
@@ -114,10 +114,10 @@ fn shift_fields(items: &[u8], fixup: Fixup, old: Bases, new: Bases, code: &mut [
     requires { ⌜ (length (now items) ≤ 65536) × Each (Inside (length (now code))) (fieldsOf fixup (now items)) ⌝ }
     ensures { λ _. ⌜ now (code .exit) ≡ edited (shift old new) (fieldsOf fixup (now (items .entry))) (now (code .entry)) ⌝ }
 {
-    let step = records::item_size(fixup);
+    let step = fields::item_size(fixup);
     let mut i = 0;
     while i + step <= items.len() {
-        let field = records::field_at(items, i, fixup);
+        let field = fields::field_at(items, i, fixup);
         shift_field(
             code,
             field,
@@ -134,7 +134,7 @@ fn shift_field(code: &mut [u8], field: Field, old: u16, new: u16)
     ensures { λ _. ⌜ now (code .exit) ≡ change (width field) (λ v. on (width field) new (off (width field) old v)) (now (code .entry)) (field .index) ⌝ }
 {
     let fixup = field.fixup;
-    let width = records::width(fixup);
+    let width = fields::width(fixup);
     words::take_off(code, field.index, width, old);
     words::add(code, field.index, width, new);
 }

@@ -6,8 +6,8 @@ use native.Mathlib.Omega.{arith}
 use borrow.Author.Needs.{needs}
 use lib.ListN.{length, drop}
 use Rattle.pieces.proofs.Fields.{item-le, next-field, last-field}
-use Rattle.records.proofs.Listing.{item-some}
-use Rattle.records.specs.Fields.{itemSize, fieldsOf}
+use Rattle.fields.proofs.Listing.{item-some}
+use Rattle.fields.specs.Fields.{itemSize, fieldsOf}
 use Rattle.transfers.proofs.Shifting.{Shifting, shifting-none, shifting-here, shifting-more, shifting-end}
 use Rattle.transfers.proofs.shift_fields.Statement.{statement}
 use Rattle.transfers.proofs.shift_fields.Tie as tie
