@@ -15,9 +15,9 @@ use Rattle.answer.specs.declared.Start.{Start}
 use Rattle.events.specs.Events.{Event, marks, blank, placedIn, adjustedIn, Ran}
 use Rattle.events.specs.declared.Check.{Check}
 use Rattle.events.specs.declared.Check.the-variants.{Passed, Failed}
-use Rattle.records.specs.Fields.{fieldsOf}
+use Rattle.fields.specs.Fields.{fieldsOf}
 use Rattle.records.specs.Records.{read}
-use Rattle.records.specs.declared.Field.{Field}
+use Rattle.fields.specs.declared.Field.{Field}
 use Rattle.records.specs.declared.Last.{Last}
 use Rattle.records.specs.declared.Last.the-variants.{Nothing, Of}
 use Rattle.records.specs.declared.Record.{Record}

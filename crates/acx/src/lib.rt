@@ -163,7 +163,7 @@ pub fn advance(bases: Bases, cursor: Cursor, found: Record) -> Cursor
             place: cursor.place,
             size: cursor.size,
             placed: cursor.placed,
-            adjusted: cursor.adjusted + size / records::item_size(fixup),
+            adjusted: cursor.adjusted + size / fields::item_size(fixup),
         },
         Record::End { entry, next } => cursor,
         Record::Faulty(fault) => cursor,

@@ -17,9 +17,9 @@ use Rattle.answer.specs.declared.Start.the-variants.{At}
 use Rattle.events.proofs.Events.{length-blank}
 use Rattle.events.specs.Events.{marks, blank}
 use Rattle.events.specs.Lists.{Each}
-use Rattle.records.specs.Fields.{fieldsOf}
+use Rattle.fields.specs.Fields.{fieldsOf}
 use Rattle.records.specs.Records.{readCode, readItems, readFixups, readEnd, read}
-use Rattle.records.specs.declared.Fixup.the-variants.{Word}
+use Rattle.fields.specs.declared.Fixup.the-variants.{Word}
 use Rattle.records.specs.declared.Kind.the-variants.{Main}
 use Rattle.words.proofs.Numbers.{bytes-digits}
 use Rattle.words.specs.Numbers.{number, digits, value, store, on, off, change}

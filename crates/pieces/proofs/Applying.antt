@@ -16,9 +16,9 @@ use Rattle.events.proofs.Events.{reached-none, did-none}
 use Rattle.events.specs.Events.{failed, passed, Did}
 use Rattle.events.specs.declared.Check.{Check}
 use Rattle.events.specs.declared.Check.the-variants.{Failed}
-use Rattle.records.specs.Fields.{fieldsOf}
+use Rattle.fields.specs.Fields.{fieldsOf}
 use Rattle.records.specs.declared.Entry.{Entry}
-use Rattle.records.specs.declared.Fixup.{Fixup}
+use Rattle.fields.specs.declared.Fixup.{Fixup}
 use Rattle.records.specs.declared.Kind.{Kind}
 use Rattle.records.specs.declared.Record.{Record}
 use Rattle.records.specs.declared.Record.the-variants.{Code, Fixups, End, Faulty}

@@ -15,7 +15,7 @@ use Rattle.events.proofs.Events.{did-none, filled}
 use Rattle.events.specs.Events.{Event, place, play, adjustedMark, markOne, marks, Ran, failed, playIf, Reached, Did}
 use Rattle.events.specs.declared.Check.{Check}
 use Rattle.events.specs.declared.Check.the-variants.{Passed, Failed}
-use Rattle.records.specs.declared.Field.{Field}
+use Rattle.fields.specs.declared.Field.{Field}
 use Rattle.records.specs.declared.Kind.{Kind}
 use Rattle.records.specs.declared.Kind.the-variants.{Main, ZeroPage, Absolute}
 use Rattle.words.proofs.Lent.{lent-is, back-changed}

@@ -5,7 +5,7 @@ use mathlib.Core.Path.{_≡_, refl, ap, _∙_}
 use Prim.Native.Nat.{ℕ, _^_, _<_}
 use lib.ListN.{length, getD}
 use Rattle.events.specs.Lists.{Each, Pairwise}
-use Rattle.records.specs.declared.Field.{Field}
+use Rattle.fields.specs.declared.Field.{Field}
 use Rattle.words.proofs.Changes.{value-lt, length-change, bytes-change, change-outside, value-change, value-change-apart, change-change, change-same, change-none, change-comm}
 use Rattle.words.specs.Numbers.{value, change}
 use Rattle.words.specs.Runs.{Bytes}

@@ -12,7 +12,7 @@ use Rattle.events.specs.Events.{Ran, failed}
 use Rattle.events.specs.declared.Check.{Check}
 use Rattle.events.specs.declared.Check.the-variants.{Passed, Failed}
 use Rattle.records.specs.Records.{RecordType, code, fixups, end, unknown, types, readCode, readItems, readFixups, readEnd, readAs, read}
-use Rattle.records.specs.declared.Field.{Field}
+use Rattle.fields.specs.declared.Field.{Field}
 use Rattle.records.specs.declared.Last.{Last}
 use Rattle.records.specs.declared.Record.{Record}
 use Rattle.records.specs.declared.Record.the-variants.{Code, Fixups, End, Faulty}

@@ -15,11 +15,11 @@ use Rattle.events.specs.Walk.{after}
 use Rattle.events.specs.Events.{Event, markOne, marks, Ran, failed, passed, Reached, Did}
 use Rattle.events.specs.declared.Check.{Check}
 use Rattle.events.specs.declared.Check.the-variants.{Passed, Failed}
-use Rattle.records.proofs.Listing.{fields-more, fields-none}
-use Rattle.records.specs.Fields.{itemSize, fieldsOf}
-use Rattle.records.specs.declared.Field.{Field}
-use Rattle.records.specs.declared.Fixup.{Fixup}
-use Rattle.records.specs.declared.Fixup.the-variants.{Low, Page, Word, High}
+use Rattle.fields.proofs.Listing.{fields-more, fields-none}
+use Rattle.fields.specs.Fields.{itemSize, fieldsOf}
+use Rattle.fields.specs.declared.Field.{Field}
+use Rattle.fields.specs.declared.Fixup.{Fixup}
+use Rattle.fields.specs.declared.Fixup.the-variants.{Low, Page, Word, High}
 use Rattle.words.specs.Runs.{part, contains}
 use Rattle.pieces.proofs.Checks.{adjusting-all}
 use Rattle.pieces.specs.AtBases.{adjusting}

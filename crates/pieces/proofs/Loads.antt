@@ -7,7 +7,7 @@ use lib.ListN.{length, getD}
 use Rattle.events.proofs.Events.{play-append}
 use Rattle.events.specs.Events.{place, play}
 use Rattle.events.specs.Lists.{Each, Pairwise}
-use Rattle.records.specs.declared.Field.{Field}
+use Rattle.fields.specs.declared.Field.{Field}
 use Rattle.words.proofs.Changes.{length-change, change-in-put, value-part}
 use Rattle.words.proofs.Numbers.{on-lt}
 use Rattle.words.proofs.Runs.{length-put, put-outside, part-at, part-put, part-put-apart, bytes-put}

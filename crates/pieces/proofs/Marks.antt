@@ -12,7 +12,7 @@ use Rattle.events.proofs.Lists.{each-all, each-map, each-zip}
 use Rattle.events.specs.Events.{place, marks}
 use Rattle.events.specs.Lists.{Each, Pairwise}
 use Rattle.events.specs.declared.Check.the-variants.{Passed}
-use Rattle.records.specs.declared.Field.{Field}
+use Rattle.fields.specs.declared.Field.{Field}
 use Rattle.words.proofs.Runs.{within?, length-put, put-in-put, length-part, part-at, zero-at, contains-not}
 use Rattle.words.specs.Runs.{Within, part, put, allZero, contains}
 use Rattle.pieces.proofs.Checks.{adjusting-passed}

@@ -6,7 +6,7 @@ use Prim.Native.Nat.{ℕ}
 use native.Mathlib.Omega.{arith}
 use lib.ListN.{length}
 use Rattle.events.specs.Events.{Event, place, placedIn, adjustedIn}
-use Rattle.records.specs.declared.Field.{Field}
+use Rattle.fields.specs.declared.Field.{Field}
 use Rattle.pieces.specs.Pieces.{Piece, placeOf, adjustment, adjustments, events}
 use Rattle.pieces.specs.declared.Bases.{Bases}
 

@@ -13,10 +13,10 @@ use Rattle.answer.specs.declared.Start.the-variants.{Absent, At}
 use Rattle.events.specs.Events.{place, adjustedMark, markOne, Ran, failed, passed}
 use Rattle.events.specs.Walk.{after}
 use Rattle.events.specs.declared.Check.{Check}
-use Rattle.records.specs.Fields.{fieldsOf}
+use Rattle.fields.specs.Fields.{fieldsOf}
 use Rattle.records.specs.declared.Entry.{Entry}
 use Rattle.records.specs.declared.Entry.the-variants.{Nowhere, Fixed, Relative}
-use Rattle.records.specs.declared.Field.{Field}
+use Rattle.fields.specs.declared.Field.{Field}
 use Rattle.records.specs.declared.Record.{Record}
 use Rattle.records.specs.declared.Record.the-variants.{Code, Fixups, End, Faulty}
 use Rattle.words.specs.Runs.{part, allZero, contains}

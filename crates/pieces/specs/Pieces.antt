@@ -5,10 +5,10 @@ use Prim.Native.Nat.{ℕ, _+_, _/_}
 use lib.ListN.{length}
 use Rattle.events.specs.Events.{Event, place, adjust}
 use Rattle.events.specs.Sizes.{memorySize}
-use Rattle.records.specs.Fields.{widthOf}
-use Rattle.records.specs.declared.Field.{Field}
-use Rattle.records.specs.declared.Fixup.{Fixup}
-use Rattle.records.specs.declared.Fixup.the-variants.{Low, Page, Word, High}
+use Rattle.fields.specs.Fields.{widthOf}
+use Rattle.fields.specs.declared.Field.{Field}
+use Rattle.fields.specs.declared.Fixup.{Fixup}
+use Rattle.fields.specs.declared.Fixup.the-variants.{Low, Page, Word, High}
 use Rattle.records.specs.declared.Kind.{Kind}
 use Rattle.records.specs.declared.Kind.the-variants.{Main, ZeroPage, Absolute}
 use Rattle.words.specs.Numbers.{change}

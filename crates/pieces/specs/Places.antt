@@ -1,7 +1,7 @@
 -- Where pieces and fields lie: the words in which the theorems about loads and moves are stated.
 -- Assumes nothing.
 use Prim.Native.Nat.{ℕ, _+_, _≤_}
-use Rattle.records.specs.declared.Field.{Field}
+use Rattle.fields.specs.declared.Field.{Field}
 use Rattle.words.specs.Runs.{Within, Apart}
 use Rattle.pieces.specs.Pieces.{Piece, size, placeOf, width}
 use Rattle.pieces.specs.declared.Bases.{Bases}

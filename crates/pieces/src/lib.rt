@@ -2,9 +2,9 @@
 use answer::Fault;
 use answer::Start;
 use events::Check;
+use fields::Field;
+use fields::Fixup;
 use records::Entry;
-use records::Field;
-use records::Fixup;
 use records::Kind;
 use records::Record;
 ghost use mathlib.Core.List.{[], _∷_};
@@ -13,7 +13,7 @@ ghost use Prim.Native.Nat.{_+_, _<_, _≤_};
 ghost use lib.ListN.{length};
 ghost use Rattle.answer.specs.Report.{address as addressOf};
 ghost use Rattle.events.specs.Events.{playIf, Did};
-ghost use Rattle.records.specs.Fields.{fieldsOf};
+ghost use Rattle.fields.specs.Fields.{fieldsOf};
 ghost use Rattle.pieces.specs.Pieces.{placeAt, limitOf, amountOf, adjustment};
 ghost use Rattle.pieces.specs.Places.{Inside};
 ghost use Rattle.pieces.specs.AtBases.{placing, adjusting, ending, startOf, EndsBy, applied};
@@ -161,10 +161,10 @@ fn adjust_fields(
     requires { ⌜ (length (now items) ≤ 65536) × (place + size ≤ 65536) × (length (now memory) ≡ 65536) × (length (now map) ≡ 65536) ⌝ }
     ensures { λ r. ⌜ Did Check (adjusting bases place size (fieldsOf fixup (now (items .entry))) (now (map .entry))) write (now (memory .entry)) (now (map .entry)) r (now (memory .exit)) (now (map .exit)) ⌝ }
 {
-    let step = records::item_size(fixup);
+    let step = fields::item_size(fixup);
     let mut i = 0;
     while i + step <= items.len() {
-        let field = records::field_at(items, i, fixup);
+        let field = fields::field_at(items, i, fixup);
         let check = adjust_field(field, bases, place, size, write, memory, map);
         if let Check::Failed(fault) = check {
             return Check::Failed(fault);
@@ -188,7 +188,7 @@ fn adjust_field(
     ensures { λ r. ⌜ Did Check (adjusting bases place size (field ∷ []) (now (map .entry))) write (now (memory .entry)) (now (map .entry)) r (now (memory .exit)) (now (map .exit)) ⌝ }
 {
     let fixup = field.fixup;
-    let width = records::width(fixup);
+    let width = fields::width(fixup);
     if size < field.index + width {
         return Check::Failed(Fault::FieldNotLoaded);
     }
@@ -217,7 +217,7 @@ fn write_field(
 {
     if write {
         let fixup = field.fixup;
-        let width = records::width(fixup);
+        let width = fields::width(fixup);
         let end = place + size;
         words::add(
             &mut memory[place..end],

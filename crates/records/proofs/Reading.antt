@@ -11,7 +11,7 @@ use Rattle.answer.proofs.Checks.{on-need}
 use Rattle.answer.specs.declared.Fault.{Fault}
 use Rattle.words.specs.Runs.{Bytes}
 use Rattle.records.specs.Records.{RecordType, code, fixups, end, unknown, types, suits, readCode, readItems, readFixups, readEnd, readAs, read}
-use Rattle.records.specs.declared.Fixup.{Fixup}
+use Rattle.fields.specs.declared.Fixup.{Fixup}
 use Rattle.records.specs.declared.Kind.{Kind}
 use Rattle.records.specs.declared.Kind.the-variants.{Main, ZeroPage, Absolute}
 use Rattle.records.specs.declared.Last.{Last}

@@ -1,3 +1,2 @@
 -- What the contracts of `records` cite.
 pub mod Records
-pub mod Fields

@@ -11,8 +11,8 @@ use Rattle.answer.specs.declared.Fault.the-variants.{CutShort, NotKnown, Length
 use Rattle.words.specs.Numbers.{value}
 use Rattle.records.specs.declared.Entry.{Entry}
 use Rattle.records.specs.declared.Entry.the-variants.{Nowhere, Fixed, Relative}
-use Rattle.records.specs.declared.Fixup.{Fixup}
-use Rattle.records.specs.declared.Fixup.the-variants.{Low, Page, Word, High}
+use Rattle.fields.specs.declared.Fixup.{Fixup}
+use Rattle.fields.specs.declared.Fixup.the-variants.{Low, Page, Word, High}
 use Rattle.records.specs.declared.Kind.{Kind}
 use Rattle.records.specs.declared.Kind.the-variants.{Main, ZeroPage, Absolute}
 use Rattle.records.specs.declared.Last.{Last}

@@ -14,7 +14,7 @@ use Rattle.passes.specs.Rooms.{startIn}
 use Rattle.passes.specs.Walk.{carriedAt, turn, blocksFrom}
 use Rattle.pieces.specs.AtBases.{placing, adjusting, ending, applied}
 use Rattle.pieces.specs.Pieces.{amountOf, edited, adjustments, events}
-use Rattle.records.specs.Fields.{fieldsOf}
+use Rattle.fields.specs.Fields.{fieldsOf}
 use Rattle.records.specs.Records.{readCode, readItems, readFixups, readEnd, read}
 use Rattle.sdx.specs.Call.{opening as openingSdx, judged as judgedSdx, admitting, load as loadSdx, call as callSdx}
 use Rattle.updates.specs.Bodies.{adjusting as adjustingWord, turn as turnItem, items}

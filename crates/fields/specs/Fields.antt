@@ -2,9 +2,9 @@
 -- Assumes nothing.
 use mathlib.Core.List.{List, [], _∷_}
 use Prim.Native.Nat.{ℕ}
-use Rattle.records.specs.declared.Field.{Field}
-use Rattle.records.specs.declared.Fixup.{Fixup}
-use Rattle.records.specs.declared.Fixup.the-variants.{Low, Page, Word, High}
+use Rattle.fields.specs.declared.Field.{Field}
+use Rattle.fields.specs.declared.Fixup.{Fixup}
+use Rattle.fields.specs.declared.Fixup.the-variants.{Low, Page, Word, High}
 
 -- how many bytes a field has: 06 and 07 list words, all others bytes
 abbrev pub widthOf : Fixup → ℕ

@@ -1,11 +1,11 @@
--- `mover::carry` meets its contract: what is gathered in the scratch and taken from there by the map is the move.
+-- `transfers::carry` meets its contract: what is gathered in the scratch and taken from there by the map is the move.
 -- Assumes nothing.
 use mathlib.Core.Path.{_∙_}
 use borrow.Author.Needs.{needs}
 use Rattle.events.proofs.Events.{cleared}
-use Rattle.mover.proofs.Overlay.{length-map, overlaid-moved}
-use Rattle.mover.proofs.carry.Statement.{statement}
-use Rattle.mover.proofs.carry.Tie as tie
+use Rattle.transfers.proofs.Overlay.{length-map, overlaid-moved}
+use Rattle.transfers.proofs.carry.Statement.{statement}
+use Rattle.transfers.proofs.carry.Tie as tie
 
 gather-requires : tie.Need-gather-requires
 gather-requires c κs = search needs

@@ -1,10 +1,10 @@
--- `mover::take` meets its contract: the part of the scratch that is lent comes back with the code in it, or with its fields changed.
+-- `transfers::take` meets its contract: the part of the scratch that is lent comes back with the code in it, or with its fields changed.
 -- Assumes nothing.
 use native.Mathlib.Omega.{arith}
 use borrow.Author.Needs.{needs}
-use Rattle.mover.proofs.Gathering.{takes-lent, takes-code, takes-fields, takes-end, takes-fault, takes-sound}
-use Rattle.mover.proofs.take.Statement.{statement}
-use Rattle.mover.proofs.take.Tie as tie
+use Rattle.transfers.proofs.Gathering.{takes-lent, takes-code, takes-fields, takes-end, takes-fault, takes-sound}
+use Rattle.transfers.proofs.take.Statement.{statement}
+use Rattle.transfers.proofs.take.Tie as tie
 
 add-end : tie.Need-add-end
 add-end c = search needs

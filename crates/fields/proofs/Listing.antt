@@ -8,10 +8,10 @@ use lib.ListN.{length, getD, drop, length-drop, drop-of-length-le}
 use lib.Seq.{drop-cons}
 use Rattle.words.proofs.Runs.{part-one, part-two}
 use Rattle.words.specs.Runs.{part}
-use Rattle.records.specs.Fields.{itemSize, singles, pairs, fieldsOf}
-use Rattle.records.specs.declared.Field.{Field}
-use Rattle.records.specs.declared.Fixup.{Fixup}
-use Rattle.records.specs.declared.Fixup.the-variants.{Low, Page, Word, High}
+use Rattle.fields.specs.Fields.{itemSize, singles, pairs, fieldsOf}
+use Rattle.fields.specs.declared.Field.{Field}
+use Rattle.fields.specs.declared.Fixup.{Fixup}
+use Rattle.fields.specs.declared.Fixup.the-variants.{Low, Page, Word, High}
 
 -- an item has a byte at least
 pub item-some : (fixup : Fixup) → 1 ≤ itemSize fixup

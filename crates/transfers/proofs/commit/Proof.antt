@@ -1,4 +1,4 @@
--- `mover::commit` meets its contract: up to `x` the bytes are chosen by the map, and from there on they are as they were (`Overlaying`).
+-- `transfers::commit` meets its contract: up to `x` the bytes are chosen by the map, and from there on they are as they were (`Overlaying`).
 -- Assumes nothing.
 use mathlib.Core.Logic.{⊎-elim}
 use mathlib.Core.Path.{_≡_, refl}
@@ -6,9 +6,9 @@ use Prim.Native.Nat.{_≤_, _-_}
 use native.Mathlib.Omega.{arith}
 use borrow.Author.Needs.{needs}
 use lib.ListN.{length, length-set}
-use Rattle.mover.proofs.Overlay.{Overlaying, overlaying-none, overlaying-marked, overlaying-clear, overlaying-end}
-use Rattle.mover.proofs.commit.Statement.{statement}
-use Rattle.mover.proofs.commit.Tie as tie
+use Rattle.transfers.proofs.Overlay.{Overlaying, overlaying-none, overlaying-marked, overlaying-clear, overlaying-end}
+use Rattle.transfers.proofs.commit.Statement.{statement}
+use Rattle.transfers.proofs.commit.Tie as tie
 
 abbrev Inv-loop : tie.InvT-loop
 Inv-loop map scratch memory₀ x₀ memory x = (x ≤ 65536) × (length memory ≡ length memory₀) × Overlaying map scratch memory₀ x memory

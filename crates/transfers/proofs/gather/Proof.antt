@@ -1,4 +1,4 @@
--- `mover::gather` meets its contract: the definition's walks at both pairs of bases have come to the cursors, and the scratch holds the pieces so
+-- `transfers::gather` meets its contract: the definition's walks at both pairs of bases have come to the cursors, and the scratch holds the pieces so
 -- far (`Gathering`).
 -- Assumes nothing.
 use mathlib.Core.Path.{_≡_, ap, _∙_}
@@ -8,9 +8,9 @@ use borrow.Author.Needs.{needs}
 use lib.ListN.{length}
 use Rattle.acx.proofs.Cursors.{came-inside, came-counts, came-further, came-ends-by}
 use Rattle.acx.specs.Walk.{openingSize}
-use Rattle.mover.proofs.Gathering.{Walkable, walkable, Gathering, gathering-first, gathering-end, gathering-onward, gathering-on, gathering-sound, gathering-sizes, found-old, found-new, next-old, next-new}
-use Rattle.mover.proofs.gather.Statement.{statement}
-use Rattle.mover.proofs.gather.Tie as tie
+use Rattle.transfers.proofs.Gathering.{Walkable, walkable, Gathering, gathering-first, gathering-end, gathering-onward, gathering-on, gathering-sound, gathering-sizes, found-old, found-new, next-old, next-new}
+use Rattle.transfers.proofs.gather.Statement.{statement}
+use Rattle.transfers.proofs.gather.Tie as tie
 
 abbrev Inv-loop : tie.InvT-loop
 Inv-loop form file old new memory scratch₀ at source₀ target₀ scratch source target = (length scratch ≡ 65536) × Walkable form old new file at

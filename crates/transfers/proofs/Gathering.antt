@@ -28,11 +28,11 @@ use Rattle.events.specs.Lists.{Each}
 use Rattle.events.specs.declared.Check.the-variants.{Passed}
 use Rattle.records.proofs.Reading.{Moving, lies-as, fixups-after}
 use Rattle.records.proofs.Record.{the-type}
-use Rattle.records.specs.Fields.{fieldsOf}
+use Rattle.fields.specs.Fields.{fieldsOf}
 use Rattle.records.specs.Records.{read}
 use Rattle.records.specs.declared.Entry.{Entry}
-use Rattle.records.specs.declared.Field.{Field}
-use Rattle.records.specs.declared.Fixup.{Fixup}
+use Rattle.fields.specs.declared.Field.{Field}
+use Rattle.fields.specs.declared.Fixup.{Fixup}
 use Rattle.records.specs.declared.Kind.{Kind}
 use Rattle.records.specs.declared.Record.{Record}
 use Rattle.records.specs.declared.Record.the-variants.{Code, Fixups, End, Faulty}
@@ -42,7 +42,7 @@ use Rattle.words.specs.Runs.{part, put}
 use Rattle.moves.proofs.Rulings.{follows, verdict, allows-is, both}
 use Rattle.moves.specs.Call.{rulingOf, Allows, piecesOf}
 use Rattle.moves.specs.Move.{shift, carried, transfer}
-use Rattle.mover.specs.Parts.{taken, Sound}
+use Rattle.transfers.specs.Scratch.{taken, Sound}
 
 -- ---- the file
 

@@ -1,4 +1,4 @@
--- `mover::shift_fields` meets its contract: the definition's list of fields has come to the field at hand (`Shifting`).
+-- `transfers::shift_fields` meets its contract: the definition's list of fields has come to the field at hand (`Shifting`).
 -- Assumes nothing.
 use mathlib.Core.Path.{_≡_}
 use Prim.Native.Nat.{_≤_, _-_}
@@ -6,11 +6,11 @@ use native.Mathlib.Omega.{arith}
 use borrow.Author.Needs.{needs}
 use lib.ListN.{length, drop}
 use Rattle.pieces.proofs.Fields.{item-le, next-field, last-field}
-use Rattle.records.proofs.Listing.{item-some}
-use Rattle.records.specs.Fields.{itemSize, fieldsOf}
-use Rattle.mover.proofs.Shifting.{Shifting, shifting-none, shifting-here, shifting-more, shifting-end}
-use Rattle.mover.proofs.shift_fields.Statement.{statement}
-use Rattle.mover.proofs.shift_fields.Tie as tie
+use Rattle.fields.proofs.Listing.{item-some}
+use Rattle.fields.specs.Fields.{itemSize, fieldsOf}
+use Rattle.transfers.proofs.Shifting.{Shifting, shifting-none, shifting-here, shifting-more, shifting-end}
+use Rattle.transfers.proofs.shift_fields.Statement.{statement}
+use Rattle.transfers.proofs.shift_fields.Tie as tie
 
 abbrev Inv-loop : tie.InvT-loop
 Inv-loop items fixup old new code₀ step i₀ code i = (i ≤ length items) × (step ≡ itemSize fixup)

@@ -1,14 +1,14 @@
--- `records::field_at` meets its contract: each arm is the field of its variant, and an item as long as its variant asks lies in the items.
+-- `fields::field_at` meets its contract: each arm is the field of its variant, and an item as long as its variant asks lies in the items.
 -- Assumes nothing.
 use mathlib.Core.Path.{refl}
 use Prim.Native.Nat.{_+_, _≤_}
 use native.Mathlib.Omega.{arith}
 use borrow.Author.Needs.{needs}
 use lib.ListN.{length}
-use Rattle.records.proofs.Listing.{item-some, single-listed, pair-listed}
-use Rattle.records.proofs.field_at.Statement.{statement}
-use Rattle.records.proofs.field_at.Tie as tie
-use Rattle.records.specs.declared.Fixup.the-variants.{Low, Page, Word}
+use Rattle.fields.proofs.Listing.{item-some, single-listed, pair-listed}
+use Rattle.fields.proofs.field_at.Statement.{statement}
+use Rattle.fields.proofs.field_at.Tie as tie
+use Rattle.fields.specs.declared.Fixup.the-variants.{Low, Page, Word}
 
 shared-slice-read-wide : tie.Need-shared-slice-read-wide
 shared-slice-read-wide c =

@@ -1,10 +1,10 @@
--- `mover::shift_field` meets its contract: one change of the field after another is one, in either width.
+-- `transfers::shift_field` meets its contract: one change of the field after another is one, in either width.
 -- Assumes nothing.
 use mathlib.Core.Path.{sym}
 use borrow.Author.Needs.{needs}
-use Rattle.mover.proofs.Shifting.{shifted-field}
-use Rattle.mover.proofs.shift_field.Statement.{statement}
-use Rattle.mover.proofs.shift_field.Tie as tie
+use Rattle.transfers.proofs.Shifting.{shifted-field}
+use Rattle.transfers.proofs.shift_field.Statement.{statement}
+use Rattle.transfers.proofs.shift_field.Tie as tie
 
 width-requires : tie.Need-width-requires
 width-requires c κs = search needs

@@ -26,7 +26,7 @@ use Rattle.moves.proofs.Transfers.{length-transfer, transfer-outside, transfer-
 use Rattle.moves.specs.Call.{rulingOf, Allows, piecesOf, mapBy}
 use Rattle.moves.specs.Demand3.{AcceptedAt}
 use Rattle.moves.specs.Move.{transfer, moved}
-use Rattle.mover.specs.Parts.{chosen, Overlaid}
+use Rattle.transfers.specs.Scratch.{chosen, Overlaid}
 
 -- ---- the loop
 

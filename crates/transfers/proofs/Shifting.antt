@@ -8,7 +8,7 @@ use Rattle.pieces.specs.Places.{Inside}
 use Rattle.pieces.specs.Pieces.{width, amountOf, edited}
 use Rattle.pieces.specs.declared.Bases.{Bases}
 use Rattle.events.specs.Lists.{Each}
-use Rattle.records.specs.declared.Field.{Field}
+use Rattle.fields.specs.declared.Field.{Field}
 use Rattle.words.proofs.Changes.{length-change, change-change}
 use Rattle.words.proofs.Numbers.{off-lt}
 use Rattle.words.specs.Numbers.{value, on, off, change}

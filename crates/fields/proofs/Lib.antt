@@ -1,0 +1,2 @@
+-- Laws about the definitions of specs/, which the crates above cite.
+pub mod Listing

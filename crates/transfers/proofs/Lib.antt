@@ -1,0 +1,4 @@
+-- Laws by which `transfers` keeps its contracts.
+pub mod Shifting
+pub mod Gathering
+pub mod Overlay

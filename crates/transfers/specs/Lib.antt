@@ -1,0 +1,2 @@
+-- What the contracts of the inner functions of `transfers` cite beside the definitions of `moves`.
+pub mod Scratch

@@ -1,0 +1,140 @@
+// The bytes of a handler taken from their old places to the new ones, by way of the scratch: all at once, so that old and new places may
+// overlap in any way. They are gathered from memory into the scratch, where they lie at their new places and have their fields adjusted, and
+// only then go into memory.
+use acx::Cursor;
+use fields::Field;
+use fields::Fixup;
+use pieces::Bases;
+use records::Record;
+ghost use mathlib.Core.Path.{_≡_};
+ghost use Prim.Native.Nat.{_+_, _≤_};
+ghost use lib.ListN.{length};
+ghost use Rattle.words.specs.Numbers.{on, off, change};
+ghost use Rattle.events.specs.Lists.{Each};
+ghost use Rattle.events.specs.Events.{blank};
+ghost use Rattle.fields.specs.Fields.{fieldsOf};
+ghost use Rattle.pieces.specs.Pieces.{width, edited};
+ghost use Rattle.pieces.specs.Places.{Inside};
+ghost use Rattle.acx.specs.Call.{load as loadOf};
+ghost use Rattle.moves.specs.Move.{shift, transfer, moved};
+ghost use Rattle.moves.specs.Call.{rulingOf, Allows, piecesOf, mapBy};
+ghost use Rattle.transfers.specs.Scratch.{taken, Sound, Overlaid};
+
+// Carries the handler's bytes by way of the scratch, over the map of a load at the new bases.
+pub fn carry(
+    form: u32,
+    file: &[u8],
+    old: Bases,
+    new: Bases,
+    map: &[u8],
+    memory: &mut [u8],
+    scratch: &mut [u8],
+)
+    requires { ⌜ Allows (rulingOf form old new (now file)) × (now map ≡ mapBy (loadOf form new (now file)) (rulingOf form old new (now file))) × (length (now memory) ≡ 65536) × (length (now scratch) ≡ 65536) ⌝ }
+    ensures { λ _. ⌜ (now (memory .exit) ≡ moved old new (piecesOf (rulingOf form old new (now (file .entry)))) (now (memory .entry))) × (now (scratch .exit) ≡ blank) ⌝ }
+{
+    gather(form, file, old, new, memory, scratch);
+    commit(map, scratch, memory);
+    words::fill(scratch, 0);
+}
+
+// Puts the scratch's bytes into memory, at every address that the map marks.
+fn commit(map: &[u8], scratch: &[u8], memory: &mut [u8])
+    requires { ⌜ (length (now memory) ≡ 65536) × (length (now map) ≡ 65536) × (length (now scratch) ≡ 65536) ⌝ }
+    ensures { λ _. ⌜ Overlaid (now (map .entry)) (now (scratch .entry)) (now (memory .entry)) (now (memory .exit)) ⌝ }
+{
+    let mut x = 0;
+    while x < events::MEMORY {
+        if map[x] != 0 {
+            memory[x] = scratch[x];
+        }
+        x += 1;
+    }
+}
+
+// Gathers the pieces from their old places in memory into the scratch, at their new places and adjusted: record by record, with a cursor
+// for each pair of bases.
+fn gather(form: u32, file: &[u8], old: Bases, new: Bases, memory: &[u8], scratch: &mut [u8])
+    requires { ⌜ Allows (rulingOf form old new (now file)) × (length (now memory) ≡ 65536) × (length (now scratch) ≡ 65536) ⌝ }
+    ensures { λ _. ⌜ now (scratch .exit) ≡ transfer old new (piecesOf (rulingOf form old new (now (file .entry)))) (now (memory .entry)) (now (scratch .entry)) ⌝ }
+{
+    let at = acx::opening_size(acx::form_of(form));
+    let mut source = acx::begin(at);
+    let mut target = acx::begin(at);
+    loop {
+        let last = source.last;
+        let found = records::read(file, source.at, last);
+        if let Record::End { entry, next } = found {
+            return;
+        }
+        source = acx::advance(old, source, found);
+        target = acx::advance(new, target, found);
+        take(file, found, old, new, source, target, memory, scratch);
+    }
+}
+
+// Takes to the scratch what a record brings: its code from memory, or a change of the fields that it lists.
+fn take(
+    file: &[u8],
+    found: Record,
+    old: Bases,
+    new: Bases,
+    source: Cursor,
+    target: Cursor,
+    memory: &[u8],
+    scratch: &mut [u8],
+)
+    requires { ⌜ Sound (now file) (target .size) found × (source .place + source .size ≤ length (now memory)) × (target .place + target .size ≤ length (now scratch)) × (source .size ≡ target .size) × (length (now file) ≤ 65536) ⌝ }
+    ensures { λ _. ⌜ now (scratch .exit) ≡ taken (now (file .entry)) old new source target (now (memory .entry)) (now (scratch .entry)) found ⌝ }
+{
+    let begin = target.place;
+    let end = begin + target.size;
+    match found {
+        Record::Code {
+            kind,
+            address,
+            from,
+            size,
+        } => {
+            let place = source.place;
+            let past = place + source.size;
+            words::copy(&mut scratch[begin..end], &memory[place..past]);
+        }
+        Record::Fixups { fixup, from, size } => {
+            let next = from + size;
+            shift_fields(&file[from..next], fixup, old, new, &mut scratch[begin..end]);
+        }
+        Record::End { entry, next } => {}
+        Record::Faulty(fault) => {}
+    }
+}
+
+// Shifts the fields that a fixup record lists, one by one: the amounts of the old bases off, those of the new on.
+fn shift_fields(items: &[u8], fixup: Fixup, old: Bases, new: Bases, code: &mut [u8])
+    requires { ⌜ (length (now items) ≤ 65536) × Each (Inside (length (now code))) (fieldsOf fixup (now items)) ⌝ }
+    ensures { λ _. ⌜ now (code .exit) ≡ edited (shift old new) (fieldsOf fixup (now (items .entry))) (now (code .entry)) ⌝ }
+{
+    let step = fields::item_size(fixup);
+    let mut i = 0;
+    while i + step <= items.len() {
+        let field = fields::field_at(items, i, fixup);
+        shift_field(
+            code,
+            field,
+            pieces::amount(old, field),
+            pieces::amount(new, field),
+        );
+        i += step;
+    }
+}
+
+// Takes one amount off a field of the code and puts another on.
+fn shift_field(code: &mut [u8], field: Field, old: u16, new: u16)
+    requires { ⌜ Inside (length (now code)) field ⌝ }
+    ensures { λ _. ⌜ now (code .exit) ≡ change (width field) (λ v. on (width field) new (off (width field) old v)) (now (code .entry)) (field .index) ⌝ }
+{
+    let fixup = field.fixup;
+    let width = fields::width(fixup);
+    words::take_off(code, field.index, width, old);
+    words::add(code, field.index, width, new);
+}
