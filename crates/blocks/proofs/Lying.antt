@@ -11,11 +11,11 @@ use lib.ListN.{length, getD}
 use Rattle.answer.proofs.Checks.{on-need, on-pick, and-true}
 use Rattle.answer.specs.Checks.{need}
 use Rattle.answer.specs.declared.Fault.{Fault}
+use Rattle.items.specs.Items.{slotAt}
 use Rattle.names.proofs.Searching.{own-inside, lent-inside}
 use Rattle.names.specs.Names.{lookUp}
 use Rattle.names.specs.declared.Definition.{Definition}
 use Rattle.names.specs.declared.Definition.the-variants.{Missing, Own, Lent}
-use Rattle.updates.specs.Items.{slotAt}
 use Rattle.words.specs.Numbers.{value}
 use Rattle.words.specs.Runs.{part}
 use Rattle.blocks.specs.Blocks.{readPlain, mostBlocks, readRoom, readRelocatable, readUpdate, byDefinition, readNames, readAddress, readNewName, read}

@@ -11,11 +11,11 @@ use Rattle.answer.proofs.Checks.{on-need}
 use Rattle.answer.specs.Checks.{need, pick}
 use Rattle.answer.specs.declared.Fault.{Fault}
 use Rattle.answer.specs.declared.Fault.the-variants.{CutShort, NotKnown, BlockTaken, BlockMissing, LengthNotAllowed, DoesNotFit, TooManyNames, NameOutsideBlock}
+use Rattle.items.specs.Items.{slotAt}
+use Rattle.items.specs.declared.Slot.{Slot}
 use Rattle.names.specs.Names.{lookUp}
 use Rattle.names.specs.declared.Definition.{Definition}
 use Rattle.names.specs.declared.Definition.the-variants.{Missing, Own, Lent}
-use Rattle.updates.specs.Items.{slotAt}
-use Rattle.updates.specs.declared.Slot.{Slot}
 use Rattle.words.proofs.Numbers.{off-is}
 use Rattle.words.specs.Numbers.{value}
 use Rattle.words.specs.Runs.{part}

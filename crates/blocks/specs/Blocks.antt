@@ -1,5 +1,5 @@
 -- The blocks of an SDX file as document 01 reads them, "SDX blocks, checks in order": what stands at an offset of a file, with no map in mind.
--- Cited by `blocks::read`; what is left to check, in the bodies and against the map, stands in `updates`.
+-- Cited by `blocks::read`; what is left to check stands in `items` (the items of a body) and in `updates` (against the map).
 -- Assumes nothing.
 use mathlib.Core.Bool.{Bool, true, false, not, _&&_, _||_}
 use mathlib.Core.List.{List}
@@ -8,11 +8,11 @@ use lib.Dec.{ltb, leb, eqb}
 use lib.ListN.{length, getD}
 use Rattle.answer.specs.Checks.{need, pick}
 use Rattle.answer.specs.declared.Fault.the-variants.{CutShort, NotKnown, BlockTaken, BlockMissing, LengthNotAllowed, DoesNotFit, NameUnknown, TooManyNames, NameOutsideBlock}
+use Rattle.items.specs.Items.{slotAt, lastNumber}
+use Rattle.items.specs.declared.Slot.{Slot}
 use Rattle.names.specs.Names.{nameSize, lookUp}
 use Rattle.names.specs.declared.Definition.{Definition}
 use Rattle.names.specs.declared.Definition.the-variants.{Missing, Own, Lent}
-use Rattle.updates.specs.Items.{slotAt, lastNumber}
-use Rattle.updates.specs.declared.Slot.{Slot}
 use Rattle.words.specs.Numbers.{value, off}
 use Rattle.words.specs.Runs.{part}
 use Rattle.blocks.specs.declared.Block.{Block}

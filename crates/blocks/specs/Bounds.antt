@@ -5,9 +5,9 @@ use mathlib.Core.List.{List}
 use mathlib.Core.Path.{_≡_}
 use Prim.Native.Nat.{ℕ, _+_, _≤_, _<_}
 use Rattle.events.specs.Sizes.{memorySize}
+use Rattle.items.specs.Items.{slotAt}
+use Rattle.items.specs.declared.Slot.{Slot}
 use Rattle.names.specs.Names.{nameSize}
-use Rattle.updates.specs.Items.{slotAt}
-use Rattle.updates.specs.declared.Slot.{Slot}
 use Rattle.blocks.specs.Blocks.{dataSize, mostBlocks, mostNames}
 use Rattle.blocks.specs.declared.Block.{Block}
 use Rattle.blocks.specs.declared.Block.the-variants.{Plain, Relocatable, Update, NewName, Faulty}

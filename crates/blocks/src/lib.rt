@@ -1,7 +1,7 @@
 // The blocks of an SDX file, read: what the block at a cursor says, or its first fault.
 use answer::Fault;
+use items::Slot;
 use names::Definition;
-use updates::Slot;
 ghost use mathlib.Core.Path.{_≡_};
 ghost use Prim.Native.Nat.{_+_, _<_, _≤_};
 ghost use lib.ListN.{length};
@@ -133,7 +133,7 @@ fn read_relocatable(file: &[u8], high: u16, cursor: Cursor) -> Block
         return Block::Faulty(Fault::CutShort);
     }
     let number = words::wide(file[at + 2]);
-    if updates::LAST_NUMBER < number {
+    if items::LAST_NUMBER < number {
         return Block::Faulty(Fault::NotKnown);
     }
     let id = file[at + 3];
@@ -184,7 +184,7 @@ fn read_update(file: &[u8], cursor: Cursor) -> Block
         return Block::Faulty(Fault::CutShort);
     }
     let number = words::wide(file[cursor.at + 2]);
-    if updates::LAST_NUMBER < number {
+    if items::LAST_NUMBER < number {
         return Block::Faulty(Fault::NotKnown);
     }
     let table = cursor.table;
@@ -232,7 +232,7 @@ fn read_new_name(file: &[u8], cursor: Cursor) -> Block
         return Block::Faulty(Fault::CutShort);
     }
     let number = words::wide(file[cursor.at + 2]);
-    if updates::LAST_NUMBER < number {
+    if items::LAST_NUMBER < number {
         return Block::Faulty(Fault::NotKnown);
     }
     let table = cursor.table;

@@ -14,8 +14,8 @@ use Rattle.blocks.specs.Bounds.{Packed, Fits}
 use Rattle.blocks.specs.declared.Block.{Block}
 use Rattle.blocks.specs.declared.Block.the-variants.{Plain, Relocatable, Update, NewName, Faulty}
 use Rattle.blocks.specs.declared.Cursor.{Cursor}
-use Rattle.updates.specs.Items.{emptySlot, slotAt}
-use Rattle.updates.specs.declared.Slot.{Slot}
+use Rattle.items.specs.Items.{emptySlot, slotAt}
+use Rattle.items.specs.declared.Slot.{Slot}
 use Rattle.words.proofs.Lent.{lent-is}
 use Rattle.words.proofs.Runs.{put-append, length-part}
 use Rattle.words.specs.Runs.{part, put}

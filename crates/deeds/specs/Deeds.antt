@@ -9,9 +9,9 @@ use Rattle.blocks.specs.declared.Block.{Block}
 use Rattle.blocks.specs.declared.Block.the-variants.{Plain, Relocatable, Update, NewName, Faulty}
 use Rattle.blocks.specs.declared.Cursor.{Cursor}
 use Rattle.events.specs.Events.{place, reserve, Ran}
+use Rattle.items.specs.Items.{emptySlot}
 use Rattle.names.specs.Names.{nameSize}
 use Rattle.updates.specs.Bodies.{Stop, broken, done, body}
-use Rattle.updates.specs.Items.{emptySlot}
 use Rattle.words.specs.Runs.{part}
 
 -- "Placed there."

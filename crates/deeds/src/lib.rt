@@ -1,8 +1,8 @@
 // One block of an SDX file carried out: data placed, room reserved, words adjusted, a new name noted; and the cursor after it.
 use blocks::Block;
 use blocks::Cursor;
+use items::Slot;
 use updates::Ended;
-use updates::Slot;
 ghost use mathlib.Core.Path.{_≡_};
 ghost use Prim.Native.Nat.{_+_, _<_, _≤_};
 ghost use lib.ListN.{length};

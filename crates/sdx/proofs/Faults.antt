@@ -20,6 +20,12 @@ use Rattle.events.specs.Events.{Event, marks, blank, Ran, failed}
 use Rattle.events.specs.Walk.{Turn, ends}
 use Rattle.events.specs.declared.Check.{Check}
 use Rattle.events.specs.declared.Check.the-variants.{Passed, Failed}
+use Rattle.items.specs.Items.{adding, setting, aiming, skipping, read as read-item}
+use Rattle.items.specs.declared.Counter.{Counter}
+use Rattle.items.specs.declared.Counter.the-variants.{Unset, Set}
+use Rattle.items.specs.declared.Item.{Item}
+use Rattle.items.specs.declared.Item.the-variants.{Faulty as FaultyItem, End, Move, Adjust}
+use Rattle.items.specs.declared.Slot.{Slot}
 use Rattle.names.specs.Names.{nameSize, lookUp}
 use Rattle.names.specs.declared.Definition.{Definition}
 use Rattle.names.specs.declared.Definition.the-variants.{Missing, Own, Lent}
@@ -27,12 +33,6 @@ use Rattle.passes.proofs.Turning.{turn-falls as walk-falls}
 use Rattle.passes.specs.Walk.{Given, Progress, Verdict, finished, refused, judge as judge-block, blockAt, carriedAt, turn as turn-block, blocksFrom, begun as begun-walk, blocksOf}
 use Rattle.updates.proofs.Turning.{turn-falls}
 use Rattle.updates.specs.Bodies.{adjusting, applied, BodyState, Stop, broken, done, judge, turn, bytesLeft, items, begun, body}
-use Rattle.updates.specs.Items.{adding, setting, aiming, skipping, read as read-item}
-use Rattle.updates.specs.declared.Counter.{Counter}
-use Rattle.updates.specs.declared.Counter.the-variants.{Unset, Set}
-use Rattle.updates.specs.declared.Item.{Item}
-use Rattle.updates.specs.declared.Item.the-variants.{Faulty as FaultyItem, End, Move, Adjust}
-use Rattle.updates.specs.declared.Slot.{Slot}
 use Rattle.words.specs.Runs.{part}
 use Rattle.sdx.proofs.Calling.{admitted, range-bounds}
 use Rattle.sdx.specs.Call.{opening, opened, admitting, load}

@@ -15,23 +15,23 @@ use Rattle.blocks.specs.declared.Block.the-variants.{Plain, Relocatable, Update
 use Rattle.blocks.specs.declared.Cursor.{Cursor}
 use Rattle.blocks.specs.declared.Source.{Source}
 use Rattle.blocks.specs.declared.Source.the-variants.{Number, LentName, OwnName}
+use Rattle.deeds.proofs.Ending.{carried-ends, advanced-at, Behind, behind-first, behind-on}
+use Rattle.deeds.proofs.Rooms.{Counted, counted-first, counted-on, Tabled, tabled-first, tabled-on}
+use Rattle.deeds.specs.Deeds.{carried, advanced, nameIn, addressIn}
 use Rattle.events.proofs.Events.{length-marks, length-blank}
 use Rattle.events.proofs.Lists.{each-map}
 use Rattle.events.specs.Events.{Event, place, reserve, marks, blank, Ran}
 use Rattle.events.specs.Lists.{Each}
 use Rattle.events.specs.Walk.{leads}
+use Rattle.items.specs.Items.{emptySlot, slotAt}
+use Rattle.items.specs.declared.Slot.{Slot}
+use Rattle.passes.proofs.Turning.{turn-led, block-fits}
+use Rattle.passes.specs.Walk.{stepped, Given, Deed, Progress, finished, blockAt, carriedAt, turn, begun}
 use Rattle.updates.proofs.Bounds.{body-each}
 use Rattle.updates.proofs.Turning.{Adjusts, broken-done}
 use Rattle.updates.specs.Bodies.{Stop, done}
-use Rattle.updates.specs.Items.{emptySlot, slotAt}
-use Rattle.updates.specs.declared.Slot.{Slot}
 use Rattle.words.proofs.Runs.{length-part}
 use Rattle.words.specs.Runs.{Bytes, part}
-use Rattle.deeds.proofs.Ending.{carried-ends, advanced-at, Behind, behind-first, behind-on}
-use Rattle.deeds.proofs.Rooms.{Counted, counted-first, counted-on, Tabled, tabled-first, tabled-on}
-use Rattle.deeds.specs.Deeds.{carried, advanced, nameIn, addressIn}
-use Rattle.passes.proofs.Turning.{turn-led, block-fits}
-use Rattle.passes.specs.Walk.{stepped, Given, Deed, Progress, finished, blockAt, carriedAt, turn, begun}
 use Rattle.sdx.proofs.Calling.{judged-holds}
 use Rattle.sdx.proofs.Lawful.{Lawful, lawful-append}
 use Rattle.sdx.proofs.Passing.{Granted, read-granted, body-lawful}

@@ -12,16 +12,16 @@ use Rattle.answer.specs.declared.Start.{Start}
 use Rattle.blocks.specs.Blocks.{amountOf}
 use Rattle.blocks.specs.declared.Block.{Block}
 use Rattle.blocks.specs.declared.Block.the-variants.{Plain, Relocatable, Update, NewName, Faulty}
-use Rattle.events.specs.Events.{Event, place, reserve, adjust, marks, blank, placedMark, reservedMark, adjustedMark, placedIn, adjustedIn}
-use Rattle.events.specs.Sizes.{fileLimit}
-use Rattle.events.specs.Lists.{Each}
-use Rattle.updates.specs.Bodies.{done}
-use Rattle.updates.specs.Items.{slotAt}
-use Rattle.words.specs.Numbers.{value, digits, on}
-use Rattle.words.specs.Runs.{Bytes, Within, part}
 use Rattle.deeds.specs.Deeds.{nameIn, addressIn}
+use Rattle.events.specs.Events.{Event, place, reserve, adjust, marks, blank, placedMark, reservedMark, adjustedMark, placedIn, adjustedIn}
+use Rattle.events.specs.Lists.{Each}
+use Rattle.events.specs.Sizes.{fileLimit}
+use Rattle.items.specs.Items.{slotAt}
 use Rattle.passes.specs.Rooms.{Rooms, namesRoom, addressesRoom, filledUp, startIn}
 use Rattle.passes.specs.Walk.{Given, Deed, Progress, finished, stepped, blockAt, carriedAt, begun}
+use Rattle.updates.specs.Bodies.{done}
+use Rattle.words.specs.Numbers.{value, digits, on}
+use Rattle.words.specs.Runs.{Bytes, Within, part}
 use Rattle.sdx.specs.Call.{inRange, sized, judged, Loaded}
 
 -- ---- events at an address

@@ -7,6 +7,7 @@ use Rattle.answer.specs.Checks.{need, pick}
 use Rattle.blocks.specs.Blocks.{readPlain, readRoom, readRelocatable, readUpdate, readNames, readAddress, readNewName, read as readBlock}
 use Rattle.events.specs.Events.{play, marks, blank, placedIn, adjustedIn}
 use Rattle.events.specs.Walk.{walk as walkTurns, from as fromTurns}
+use Rattle.items.specs.Items.{setting, aiming, read as readItem}
 use Rattle.moves.specs.Call.{ruling, outcomeOf, memoryAfter, mapAfter, scratchAfter}
 use Rattle.moves.specs.Move.{carried, transfer, moved}
 use Rattle.names.specs.Names.{same, newestOf, newest, lookUp}
@@ -18,7 +19,6 @@ use Rattle.fields.specs.Fields.{fieldsOf}
 use Rattle.records.specs.Records.{readCode, readItems, readFixups, readEnd, read}
 use Rattle.sdx.specs.Call.{opening as openingSdx, judged as judgedSdx, admitting, load as loadSdx, call as callSdx}
 use Rattle.updates.specs.Bodies.{adjusting as adjustingWord, turn as turnItem, items}
-use Rattle.updates.specs.Items.{setting, aiming, read as readItem}
 use Rattle.words.specs.Numbers.{number, value, digits, store, on, off, change}
 use Rattle.words.specs.Runs.{part, put, allZero, contains}
 use Rattle.table.specs.Table.{Bench}

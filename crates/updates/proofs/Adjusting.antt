@@ -12,11 +12,11 @@ use Rattle.events.proofs.Events.{did-none}
 use Rattle.events.specs.Events.{adjust, adjustedMark, Reached, Did}
 use Rattle.events.specs.declared.Check.{Check}
 use Rattle.events.specs.declared.Check.the-variants.{Passed, Failed}
+use Rattle.items.specs.declared.Item.{Item}
+use Rattle.items.specs.declared.Item.the-variants.{Faulty, End, Move, Adjust}
 use Rattle.words.proofs.Lent.{lent-is}
 use Rattle.words.specs.Runs.{part, contains}
 use Rattle.updates.specs.Bodies.{wordLoaded, adjusting, applied}
-use Rattle.updates.specs.declared.Item.{Item}
-use Rattle.updates.specs.declared.Item.the-variants.{Faulty, End, Move, Adjust}
 
 -- ---- a word adjusted
 

@@ -16,19 +16,19 @@ use Rattle.events.specs.Events.{Event, marks, adjustedIn, Ran, Reached, Did}
 use Rattle.events.specs.Walk.{Turn, ends, leads, after}
 use Rattle.events.specs.declared.Check.{Check}
 use Rattle.events.specs.declared.Check.the-variants.{Passed, Failed}
-use Rattle.updates.proofs.Item.{the-type}
-use Rattle.updates.proofs.Reading.{lies-as}
+use Rattle.items.proofs.Item.{the-type}
+use Rattle.items.proofs.Reading.{lies-as}
+use Rattle.items.specs.Items.{read}
+use Rattle.items.specs.declared.Counter.{Counter}
+use Rattle.items.specs.declared.Item.{Item}
+use Rattle.items.specs.declared.Item.the-variants.{Faulty, End, Move, Adjust}
+use Rattle.items.specs.declared.Slot.{Slot}
 use Rattle.updates.proofs.Turning.{Onward, adjusts, applied-counts, turn-falls, turn-further}
 use Rattle.updates.specs.Bodies.{applied, BodyState, Stop, broken, done, judge, turn, bytesLeft, items, body, ended}
 use Rattle.updates.specs.Cursor.{cursorAt, advanced}
-use Rattle.updates.specs.Items.{read}
-use Rattle.updates.specs.declared.Counter.{Counter}
 use Rattle.updates.specs.declared.Cursor.{Cursor}
 use Rattle.updates.specs.declared.Ended.{Ended}
 use Rattle.updates.specs.declared.Ended.the-variants.{Broken, Done}
-use Rattle.updates.specs.declared.Item.{Item}
-use Rattle.updates.specs.declared.Item.the-variants.{Faulty, End, Move, Adjust}
-use Rattle.updates.specs.declared.Slot.{Slot}
 
 -- ---- the cursor
 

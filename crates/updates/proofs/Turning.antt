@@ -13,12 +13,12 @@ use Rattle.events.specs.Lists.{Each}
 use Rattle.events.specs.Walk.{ends, leads}
 use Rattle.events.specs.declared.Check.{Check}
 use Rattle.events.specs.declared.Check.the-variants.{Passed, Failed}
-use Rattle.updates.proofs.Reading.{Where, lies-as}
+use Rattle.items.proofs.Reading.{Where, lies-as}
+use Rattle.items.specs.Items.{read}
+use Rattle.items.specs.declared.Item.{Item}
+use Rattle.items.specs.declared.Item.the-variants.{Faulty, End, Move, Adjust}
+use Rattle.items.specs.declared.Slot.{Slot}
 use Rattle.updates.specs.Bodies.{adjusting, applied, BodyState, Stop, broken, done, judge, turn, bytesLeft}
-use Rattle.updates.specs.Items.{read}
-use Rattle.updates.specs.declared.Item.{Item}
-use Rattle.updates.specs.declared.Item.the-variants.{Faulty, End, Move, Adjust}
-use Rattle.updates.specs.declared.Slot.{Slot}
 
 -- ---- what is adjusted
 

@@ -12,15 +12,15 @@ use Rattle.events.specs.Events.{Event, adjust, placedMark, adjustedMark, adjust
 use Rattle.events.specs.Walk.{Turn, ends, leads, from}
 use Rattle.events.specs.declared.Check.{Check}
 use Rattle.events.specs.declared.Check.the-variants.{Passed, Failed}
+use Rattle.items.specs.Items.{read}
+use Rattle.items.specs.declared.Counter.{Counter}
+use Rattle.items.specs.declared.Counter.the-variants.{Unset, Set}
+use Rattle.items.specs.declared.Item.{Item}
+use Rattle.items.specs.declared.Item.the-variants.{Faulty, End, Move, Adjust}
+use Rattle.items.specs.declared.Slot.{Slot}
 use Rattle.words.specs.Runs.{part, contains}
-use Rattle.updates.specs.Items.{read}
-use Rattle.updates.specs.declared.Counter.{Counter}
-use Rattle.updates.specs.declared.Counter.the-variants.{Unset, Set}
 use Rattle.updates.specs.declared.Ended.{Ended}
 use Rattle.updates.specs.declared.Ended.the-variants.{Broken, Done}
-use Rattle.updates.specs.declared.Item.{Item}
-use Rattle.updates.specs.declared.Item.the-variants.{Faulty, End, Move, Adjust}
-use Rattle.updates.specs.declared.Slot.{Slot}
 
 -- "marked 1 or 3"
 abbrev pub isLoaded : ℕ → Bool

@@ -1,42 +1,16 @@
 // Update bodies: the items that move a counter through memory and adjust the words there, over a lent memory and map.
 use answer::Fault;
 use events::Check;
+use items::Counter;
+use items::Item;
+use items::Slot;
 ghost use mathlib.Core.Path.{_≡_};
 ghost use Prim.Native.Nat.{ℕ, _+_, _≤_};
 ghost use lib.ListN.{length};
 ghost use Rattle.events.specs.Events.{Did};
-ghost use Rattle.updates.specs.Items.{adding, setting, aiming, skipping, read as readOf};
+ghost use Rattle.items.specs.declared.Item.the-variants.{Adjust};
 ghost use Rattle.updates.specs.Bodies.{isLoaded, wordLoaded, adjusting, applied, body as bodyOf, ended};
 ghost use Rattle.updates.specs.Cursor.{cursorAt, advanced};
-ghost use Rattle.updates.specs.declared.Item.the-variants.{Adjust};
-
-// The highest block number.
-pub const LAST_NUMBER: usize = 7;
-
-// What FF adds to the counter.
-const SKIP: usize = 250;
-
-// The slot of a relocatable block: whether there is one of this number, its address, its offset and its size.
-pub struct Slot {
-    pub taken: bool,
-    pub address: u16,
-    pub offset: u16,
-    pub size: u16,
-}
-
-// The counter of a body.
-pub enum Counter {
-    Unset,
-    Set(u16),
-}
-
-// What an item says: the body's end, a counter that only moves, or one where a word is adjusted; and where the next item begins.
-pub enum Item {
-    Faulty(Fault),
-    End(usize),
-    Move { counter: u16, next: usize },
-    Adjust { counter: u16, next: usize },
-}
 
 // How a body ends: at a fault, or with the offset after it and the number of words adjusted.
 pub enum Ended {
@@ -67,7 +41,7 @@ pub fn body(
     let mut cursor = begin(at);
     loop {
         let counter = cursor.counter;
-        let item = read(file, table, cursor.at, counter);
+        let item = items::read(file, table, cursor.at, counter);
         let check = apply(item, amount, write, memory, map);
         if let Check::Failed(fault) = check {
             return Ended::Broken(fault);
@@ -102,101 +76,6 @@ fn is_loaded(mark: u8) -> bool
         events::PLACED => true,
         events::ADJUSTED => true,
         _ => false,
-    }
-}
-
-// The item at `at`.
-fn read(file: &[u8], table: [Slot; 8], at: usize, counter: Counter) -> Item
-    requires { ⌜ length (now file) ≤ 65536 ⌝ }
-    ensures { λ r. ⌜ r ≡ readOf (now (file .entry)) table at counter ⌝ }
-{
-    if file.len() <= at {
-        return Item::Faulty(Fault::CutShort);
-    }
-    let byte = file[at];
-    match byte {
-        0..=251 => add(byte, at + 1, counter),
-        252 => Item::End(at + 1),
-        253 => set(file, at),
-        254 => aim(file, table, at),
-        255 => skip(at + 1, counter),
-    }
-}
-
-// 00 to FB: the amount on the counter, where a word is then adjusted.
-fn add(amount: u8, next: usize, counter: Counter) -> Item
-    ensures { λ r. ⌜ r ≡ adding amount next counter ⌝ }
-{
-    match counter {
-        Counter::Unset => Item::Faulty(Fault::CounterUnusable),
-        Counter::Set(from) => {
-            let to = from as usize + amount as usize;
-            if 65534 < to {
-                return Item::Faulty(Fault::CounterUnusable);
-            }
-            Item::Adjust {
-                counter: to as u16,
-                next,
-            }
-        }
-    }
-}
-
-// FD: the counter set by a word, and the word there adjusted.
-fn set(file: &[u8], at: usize) -> Item
-    requires { ⌜ (at ≤ length (now file)) × (length (now file) ≤ 65536) ⌝ }
-    ensures { λ r. ⌜ r ≡ setting (now (file .entry)) at ⌝ }
-{
-    let next = at + 3;
-    if file.len() < next {
-        return Item::Faulty(Fault::CutShort);
-    }
-    let counter = words::word_at(file, at + 1);
-    if 65534 < counter {
-        return Item::Faulty(Fault::CounterUnusable);
-    }
-    Item::Adjust { counter, next }
-}
-
-// FE: the counter set to the address of a block.
-fn aim(file: &[u8], table: [Slot; 8], at: usize) -> Item
-    requires { ⌜ (at ≤ length (now file)) × (length (now file) ≤ 65536) ⌝ }
-    ensures { λ r. ⌜ r ≡ aiming (now (file .entry)) table at ⌝ }
-{
-    let next = at + 2;
-    if file.len() < next {
-        return Item::Faulty(Fault::CutShort);
-    }
-    let number = words::wide(file[at + 1]);
-    if LAST_NUMBER < number {
-        return Item::Faulty(Fault::NotKnown);
-    }
-    let slot = table[number];
-    if !slot.taken {
-        return Item::Faulty(Fault::BlockMissing);
-    }
-    Item::Move {
-        counter: slot.address,
-        next,
-    }
-}
-
-// FF: the counter further on.
-fn skip(next: usize, counter: Counter) -> Item
-    ensures { λ r. ⌜ r ≡ skipping next counter ⌝ }
-{
-    match counter {
-        Counter::Unset => Item::Faulty(Fault::CounterUnusable),
-        Counter::Set(from) => {
-            let to = from as usize + SKIP;
-            if 65535 < to {
-                return Item::Faulty(Fault::CounterUnusable);
-            }
-            Item::Move {
-                counter: to as u16,
-                next,
-            }
-        }
     }
 }
 

@@ -1,9 +1,9 @@
--- `updates::skip` meets its contract: a counter that is set and a sum that is an address, or the fault.
+-- `items::skip` meets its contract: a counter that is set and a sum that is an address, or the fault.
 -- Assumes nothing.
 use borrow.Author.Needs.{needs}
-use Rattle.updates.proofs.Reading.{skipping-unset, skipping-high, skipping-there}
-use Rattle.updates.proofs.skip.Statement.{statement}
-use Rattle.updates.proofs.skip.Tie as tie
+use Rattle.items.proofs.Reading.{skipping-unset, skipping-high, skipping-there}
+use Rattle.items.proofs.skip.Statement.{statement}
+use Rattle.items.proofs.skip.Tie as tie
 
 enum-told : tie.Need-enum-told
 enum-told c = search needs

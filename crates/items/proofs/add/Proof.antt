@@ -1,9 +1,9 @@
--- `updates::add` meets its contract: a counter that is set and a sum that leaves room for a word, or the fault.
+-- `items::add` meets its contract: a counter that is set and a sum that leaves room for a word, or the fault.
 -- Assumes nothing.
 use borrow.Author.Needs.{needs}
-use Rattle.updates.proofs.Reading.{adding-unset, adding-high, adding-there}
-use Rattle.updates.proofs.add.Statement.{statement}
-use Rattle.updates.proofs.add.Tie as tie
+use Rattle.items.proofs.Reading.{adding-unset, adding-high, adding-there}
+use Rattle.items.proofs.add.Statement.{statement}
+use Rattle.items.proofs.add.Tie as tie
 
 enum-told : tie.Need-enum-told
 enum-told c = search needs

@@ -12,12 +12,12 @@ use Rattle.answer.specs.Checks.{need, pick}
 use Rattle.answer.specs.declared.Fault.{Fault}
 use Rattle.answer.specs.declared.Fault.the-variants.{CutShort, NotKnown, BlockMissing, CounterUnusable}
 use Rattle.words.specs.Numbers.{value}
-use Rattle.updates.specs.Items.{slotAt, adding, setting, aiming, skipped, skipping, read}
-use Rattle.updates.specs.declared.Counter.{Counter}
-use Rattle.updates.specs.declared.Counter.the-variants.{Unset, Set}
-use Rattle.updates.specs.declared.Item.{Item}
-use Rattle.updates.specs.declared.Item.the-variants.{Faulty, End, Move, Adjust}
-use Rattle.updates.specs.declared.Slot.{Slot}
+use Rattle.items.specs.Items.{slotAt, adding, setting, aiming, skipped, skipping, read}
+use Rattle.items.specs.declared.Counter.{Counter}
+use Rattle.items.specs.declared.Counter.the-variants.{Unset, Set}
+use Rattle.items.specs.declared.Item.{Item}
+use Rattle.items.specs.declared.Item.the-variants.{Faulty, End, Move, Adjust}
+use Rattle.items.specs.declared.Slot.{Slot}
 
 -- ---- 00 to FB
 

@@ -1,9 +1,9 @@
--- `updates::set` meets its contract: the tests are those of the definition, in its order, and the word is the one after the byte.
+-- `items::set` meets its contract: the tests are those of the definition, in its order, and the word is the one after the byte.
 -- Assumes nothing.
 use borrow.Author.Needs.{needs}
-use Rattle.updates.proofs.Reading.{setting-cut, setting-high, setting-there}
-use Rattle.updates.proofs.set.Statement.{statement}
-use Rattle.updates.proofs.set.Tie as tie
+use Rattle.items.proofs.Reading.{setting-cut, setting-high, setting-there}
+use Rattle.items.proofs.set.Statement.{statement}
+use Rattle.items.proofs.set.Tie as tie
 
 add-next : tie.Need-add-next
 add-next c = search needs

@@ -1,10 +1,10 @@
--- `updates::aim` meets its contract: the tests are those of the definition, in its order, and the slot is that of the number.
+-- `items::aim` meets its contract: the tests are those of the definition, in its order, and the slot is that of the number.
 -- Assumes nothing.
 use borrow.Author.Needs.{needs}
 use borrow.Author.Tests.{not-true, not-false}
-use Rattle.updates.proofs.Reading.{aiming-cut, aiming-unknown, aiming-missing, aiming-there}
-use Rattle.updates.proofs.aim.Statement.{statement}
-use Rattle.updates.proofs.aim.Tie as tie
+use Rattle.items.proofs.Reading.{aiming-cut, aiming-unknown, aiming-missing, aiming-there}
+use Rattle.items.proofs.aim.Statement.{statement}
+use Rattle.items.proofs.aim.Tie as tie
 
 add-next : tie.Need-add-next
 add-next c = search needs
