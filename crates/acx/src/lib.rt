@@ -23,9 +23,6 @@ ghost use Rattle.acx.specs.Walk.{from, opening as openingOf, openingSize
 ghost use Rattle.acx.specs.Cursor.{begun, advanced};
 ghost use Rattle.acx.specs.Call.{formOf, usual, inRange, sized, load as loadOf, Loaded};
 
-// The most bytes that a file has.
-const FILE_LIMIT: usize = 65536;
-
 // The bases of the short call.
 pub const USUAL_MAIN_BASE: u32 = 8192;
 
@@ -93,7 +90,7 @@ pub fn walk_call(
     if !ranged {
         return answer::refused(Fault::SettingOutOfRange);
     }
-    if FILE_LIMIT < file.len() {
+    if events::FILE < file.len() {
         return answer::refused(Fault::FileTooLong);
     }
     let bases = Bases {

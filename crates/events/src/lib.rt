@@ -10,6 +10,9 @@ ghost use Rattle.events.specs.Events.{place as placeOf, reserve as reser
 // The length of memory and of the map.
 pub const MEMORY: usize = 65536;
 
+// The most bytes that a file has.
+pub const FILE: usize = 65536;
+
 // The marks of the map.
 pub const PLACED: u8 = 1;
 

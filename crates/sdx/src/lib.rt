@@ -14,9 +14,6 @@ ghost use Rattle.passes.specs.Walk.{given};
 ghost use Rattle.passes.specs.Rooms.{rooms};
 ghost use Rattle.sdx.specs.Call.{usual, inRange, sized, opening as openingOf, admitting, Loaded};
 
-// The most bytes that a file has.
-const FILE: usize = 65536;
-
 // The most names that are lent.
 pub const KNOWN: usize = 256;
 
@@ -127,7 +124,7 @@ fn admit(file: &[u8], low: u32, high: u32) -> Check
     if !in_range(low, high) {
         return Check::Failed(Fault::SettingOutOfRange);
     }
-    if FILE < file.len() {
+    if events::FILE < file.len() {
         return Check::Failed(Fault::FileTooLong);
     }
     opening(file)
