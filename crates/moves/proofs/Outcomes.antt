@@ -25,7 +25,7 @@ use Rattle.moves.proofs.Demand3.{demand3}
 use Rattle.moves.proofs.Rulings.{allows-is, accepted-allows, ruling-allows, memory-moved, report-told}
 use Rattle.moves.proofs.Transfers.{stays}
 use Rattle.moves.specs.Call.{Call, piecesOf, Ruling, allows, refuses, sides, beforehand, rulingOf, sized, ruling, outcomeBy, memoryBy, mapBy, outcomeOf, memoryAfter, mapAfter, scratchAfter, Moved}
-use Rattle.moves.specs.Demand3.{after, reached, ifAllowed, last, Linked, Chained, Report, Memory, Demand3}
+use Rattle.moves.specs.Demand3.{afterCalls, reached, ifAllowed, last, Linked, Chained, Report, Memory, Demand3}
 use Rattle.moves.specs.Outcomes.{AcceptedClaim, RefusedMove, RefusedClaim}
 
 -- ---- accepted
@@ -34,7 +34,7 @@ module _ (file : List ℕ) (c : Call) (m : List ℕ) where
   -- the call as a list of one
   only : Bytes file → Memory m → (ps : List Piece) → ruling file c m ≡ allows ps
       → Demand3 file (c .form) ps (c .old) (c .new) (c ∷ []) m (memoryAfter file c m)
-  unfolding after reached
+  unfolding afterCalls reached
   only b y ps e =
       let x = ruling-allows file c m ps e in
       let z : last (c .old) (ifAllowed (ruling file c m) (c .new) []) ≡ c .new = ap (λ (v : Ruling). last (c .old) (ifAllowed v (c .new) [])) e in
