@@ -58,16 +58,8 @@ pub fn apply(
             size: count,
         } => {
             let next = from + count;
-            adjust_fields(
-                &file[from..next],
-                fixup,
-                bases,
-                place,
-                size,
-                write,
-                memory,
-                map,
-            )
+            let items = &file[from..next];
+            adjust_fields(items, fixup, bases, place, size, write, memory, map)
         }
         Record::End { entry, next } => end(bases, entry, next, file.len()),
         Record::Faulty(fault) => Check::Failed(fault),

@@ -1,5 +1,5 @@
 -- ACX records as document 01 reads them, "ACX records, checks in order": what stands at an offset of a file, with no base in mind.
--- Cited by `records::read`; what is left to check, at the bases and against the map, stands in `acx`.
+-- Cited by `records::read`; what is left to check, at the bases and against the map, stands in `pieces`.
 -- Assumes nothing.
 use mathlib.Core.Bool.{Bool, true, false, _&&_}
 use mathlib.Core.List.{List, [], _∷_}

@@ -49,14 +49,14 @@ add-next-2 c =
     let w = rw (c .before .found2 .given .1) at (s .pre .1) in
     omega (arith, w, s .pre .0)
 
-sub-adjust-fields : tie.Need-sub-adjust-fields
-sub-adjust-fields c = search needs
+sub-items : tie.Need-sub-items
+sub-items c = search needs
 
-part-adjust-fields-start : tie.Need-part-adjust-fields-start
-part-adjust-fields-start c = search needs
+part-items-start : tie.Need-part-items-start
+part-items-start c = search needs
 
-part-adjust-fields-end : tie.Need-part-adjust-fields-end
-part-adjust-fields-end c =
+part-items-end : tie.Need-part-items-end
+part-items-end c =
     let s = c .before .before .before .before .before .before in
     let w = rw (c .before .found2 .given .1) at (s .pre .1) in
     omega (arith, w)
@@ -121,9 +121,9 @@ apply-spec =
     place-code-requires
     enum-known-found-2
     add-next-2
-    sub-adjust-fields
-    part-adjust-fields-start
-    part-adjust-fields-end
+    sub-items
+    part-items-start
+    part-items-end
     adjust-fields-requires
     enum-known-found-3
     end-requires
