@@ -140,8 +140,8 @@ module _ (file : List ℕ) (g : Given) (b b′ : Rooms) (o : Outcome) (known new
       }
 
   pub loads-accepted : (start : Start) (i j k l : ℕ) → o ≡ Accepted start i j k l → b′ .addresses ≡ encoded 2 new
-      → Loads file g true b (Accepted start i j k l) b′
-  loads-accepted start i j k l e f = rw (← e) (by (ran .answer) refl)
+      → Loads file g true b o b′
+  loads-accepted start i j k l e f = by (ran .answer) refl
     where
       by : (v : Verdict) → ran .answer ≡ v → Loads file g true b o b′
       by (finished z) h =
@@ -152,8 +152,9 @@ module _ (file : List ℕ) (g : Given) (b b′ : Rooms) (o : Outcome) (known new
       by (refused fault z) h =
           absurd (false≢true (ap isRefused (sym e ∙ d .outcome ∙ ap (λ (v : Verdict). report (b .memory) v (ran .events)) h)))
 
-  pub loads-refused : (fault : Fault) (at side : ℕ) → o ≡ Refused fault at side → b′ .addresses ≡ b .addresses → Loads file g true b o b′
-  loads-refused fault at side e f = by (ran .answer) refl
+  pub loads-refused : (fault : Fault) (at side : ℕ) → o ≡ Refused fault at side → b′ .addresses ≡ b .addresses
+      → Loads file g true b (Refused fault at side) b′
+  loads-refused fault at side e f = rw (← e) (by (ran .answer) refl)
     where
       by : (v : Verdict) → ran .answer ≡ v → Loads file g true b o b′
       by (finished z) h =

@@ -78,14 +78,13 @@ fn load_words(
         new_names,
         &mut new,
     );
-    if let Outcome::Accepted {
-        start,
-        placed,
-        adjusted,
-        new_names: named,
-        low: after,
+    if let Outcome::Refused {
+        fault,
+        offset,
+        side,
     } = outcome {
-        words::encode_words(new_addresses, &new);
+        return outcome;
     }
+    words::encode_words(new_addresses, &new);
     outcome
 }

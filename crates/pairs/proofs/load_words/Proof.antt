@@ -31,15 +31,6 @@ load-requires c κs = search needs
 enum-known-outcome : tie.Need-enum-known-outcome
 enum-known-outcome c = search needs
 
-slice-aggregate-encode-words : tie.Need-slice-aggregate-encode-words
-slice-aggregate-encode-words c = search needs
-
-encode-words-requires : tie.Need-encode-words-requires
-encode-words-requires c κs = search needs
-
-enum-told : tie.Need-enum-told
-enum-told c = search needs
-
 same-length : tie.Need-same-length
 same-length c = search needs
 
@@ -49,19 +40,28 @@ same-length-2 c = search needs
 same-length-3 : tie.Need-same-length-3
 same-length-3 c = search needs
 
-same-length-4 : tie.Need-same-length-4
-same-length-4 c = search needs
-
 returns : tie.Need-returns
 returns c =
-    let c15 = c .before .before .before .before .before .before .before .before .before .before .before .before .before .before .before in
-    let c31 = c15 .before .before .before .before .before .before .before .before .before .before .before .before .before .before .before .before in
-    let a = c31 .args in
-    let k = c15 .before .before .before .before .before .before .before .decode-words in
-    loads-accepted (a .file .now) (given (a .known-names .now) (a .known-addresses .now) (a .low) (a .high))
-    (rooms (a .memory .now) (a .map .now) (a .new-names .now) (a .new-addresses .now)) _ _ _ _ (c31 .pre .0) (c31 .pre .2)
-    (known-front (a .known-addresses .now) (k .last .0) _ (k .ensures) (omega (arith, c31 .pre .1))) (c15 .load .ensures)
-    _ _ _ _ _ (c .before .before .before .before .before .before .outcome .given .1) (c .before .before .encode-words .ensures)
+    let l = c .before .before .before .before .before .before .before .before .before .before in
+    let s = l .before .before .before .before .before .before .before .before .before .before .before .before .before .before .before .before in
+    let a = s .args in
+    let k = l .before .before .before .before .before .before .before .decode-words in
+    loads-refused (a .file .now) (given (a .known-names .now) (a .known-addresses .now) (a .low) (a .high))
+    (rooms (a .memory .now) (a .map .now) (a .new-names .now) (a .new-addresses .now)) _ _ _ _ (s .pre .0) (s .pre .2)
+    (known-front (a .known-addresses .now) (k .last .0) _ (k .ensures) (omega (arith, s .pre .1))) (l .load .ensures)
+    _ _ _ (c .before .outcome .given .1) refl
+
+enum-told : tie.Need-enum-told
+enum-told c = search needs
+
+slice-aggregate-encode-words : tie.Need-slice-aggregate-encode-words
+slice-aggregate-encode-words c = search needs
+
+encode-words-requires : tie.Need-encode-words-requires
+encode-words-requires c κs = search needs
+
+same-length-4 : tie.Need-same-length-4
+same-length-4 c = search needs
 
 same-length-5 : tie.Need-same-length-5
 same-length-5 c = search needs
@@ -74,14 +74,14 @@ same-length-7 c = search needs
 
 returns-2 : tie.Need-returns-2
 returns-2 c =
-    let c9 = c .before .before .before .before .before .before .before .before .before in
-    let c25 = c9 .before .before .before .before .before .before .before .before .before .before .before .before .before .before .before .before in
-    let a = c25 .args in
-    let k = c9 .before .before .before .before .before .before .before .decode-words in
-    loads-refused (a .file .now) (given (a .known-names .now) (a .known-addresses .now) (a .low) (a .high))
-    (rooms (a .memory .now) (a .map .now) (a .new-names .now) (a .new-addresses .now)) _ _ _ _ (c25 .pre .0) (c25 .pre .2)
-    (known-front (a .known-addresses .now) (k .last .0) _ (k .ensures) (omega (arith, c25 .pre .1))) (c9 .load .ensures)
-    _ _ _ (c .enum-told .given .1) refl
+    let l = c .before .before .before .before .before .before .before .before .before .before .before .before .before .before in
+    let s = l .before .before .before .before .before .before .before .before .before .before .before .before .before .before .before .before in
+    let a = s .args in
+    let k = l .before .before .before .before .before .before .before .decode-words in
+    loads-accepted (a .file .now) (given (a .known-names .now) (a .known-addresses .now) (a .low) (a .high))
+    (rooms (a .memory .now) (a .map .now) (a .new-names .now) (a .new-addresses .now)) _ _ _ _ (s .pre .0) (s .pre .2)
+    (known-front (a .known-addresses .now) (k .last .0) _ (k .ensures) (omega (arith, s .pre .1))) (l .load .ensures)
+    _ _ _ _ _ (c .before .before .before .before .before .enum-told .given .1) (c .before .before .encode-words .ensures)
 
 pub load-words-spec : {M : Type 1} → statement M
 load-words-spec =
@@ -94,14 +94,14 @@ load-words-spec =
     slice-aggregate-load-2
     load-requires
     enum-known-outcome
-    slice-aggregate-encode-words
-    encode-words-requires
-    enum-told
     same-length
     same-length-2
     same-length-3
-    same-length-4
     returns
+    enum-told
+    slice-aggregate-encode-words
+    encode-words-requires
+    same-length-4
     same-length-5
     same-length-6
     same-length-7
