@@ -1,7 +1,7 @@
 -- A load as a whole, over plain values: the opening, the settings and the file's length, the two walks and the lengths of the buffers.
 -- Assumes nothing.
 use mathlib.Core.Bool.{Bool, true, false, _&&_, false≢true}
-use mathlib.Core.List.{List, []}
+use mathlib.Core.List.{List}
 use mathlib.Core.Path.{_≡_, refl, sym, ap, _∙_, subst}
 use Prim.Native.Nat.{ℕ, zero, suc, _≤_, _<_}
 use native.Mathlib.Omega.{arith}
@@ -22,10 +22,11 @@ use Rattle.events.specs.Events.{Event, play, marks, blank, Ran, Did}
 use Rattle.events.specs.declared.Check.{Check}
 use Rattle.events.specs.declared.Check.the-variants.{Passed, Failed}
 use Rattle.acx.proofs.Standing.{Stands, stands-first, stands-on}
-use Rattle.acx.proofs.Walking.{refused-accepted, accepted-keeps}
+use Rattle.acx.proofs.Turning.{refused-accepted}
+use Rattle.acx.proofs.Walking.{accepted-keeps}
 use Rattle.acx.specs.Call.{formOf, inRange, sized, load, call, memoryAfter, mapAfter, Loaded}
 use Rattle.pieces.specs.Pieces.{Piece}
-use Rattle.acx.specs.Walk.{Verdict, accepted, refused, atOnce, from, opening, openingSize, judged, report, reported}
+use Rattle.acx.specs.Walk.{Verdict, accepted, refused, atOnce, recordsOf, opening, openingSize, judged, report, reported}
 use Rattle.pieces.specs.declared.Bases.{Bases}
 use Rattle.acx.specs.declared.Form.{Form}
 use Rattle.acx.specs.declared.Form.the-variants.{Device}
@@ -45,7 +46,7 @@ module _ (form : Form) (file : List ℕ) (b : Bases) (write : Bool) (m : List �
       rw (f, er, ep) (did-none _ write m blank)
 
   pub file-walked : (n : ℕ) (r : Outcome) (m′ p′ : List ℕ) → c ≡ Passed → n ≡ openingSize form
-      → Did Outcome (reported (from file b n [])) write m blank r m′ p′
+      → Did Outcome (reported (recordsOf file b n)) write m blank r m′ p′
       → Did Outcome (reported (judged form file b)) write m blank r m′ p′
   unfolding judged
   file-walked n r m′ p′ e en d =
@@ -95,8 +96,8 @@ load-follows form b file ps start e = by (inRange form b) (leb (length file) 655
         → need atOnce c SettingOutOfRange (need atOnce d FileTooLong o) .answer ≡ accepted ps start
         → Follows form b file
     by true true h k e = record { range = h; fits = leb-true _ _ k; by-rules = rw (h, k) refl }
-    by true false h k e = absurd (refused-accepted FileTooLong 0 ps start e)
-    by false d h k e = absurd (refused-accepted SettingOutOfRange 0 ps start e)
+    by true false h k e = absurd (refused-accepted e)
+    by false d h k e = absurd (refused-accepted e)
 
 -- ---- the counts
 
@@ -107,9 +108,9 @@ judged-counts form file b = by (judged form file b .answer) refl
     by : (v : Verdict) → judged form file b .answer ≡ v
         → (placedOf (report v (judged form file b .events)) ≤ length file) × (adjustedOf (report v (judged form file b .events)) ≤ length file)
     by (accepted ps start) e =
-        let k = accepted-keeps file b (Stands b) (λ at ps r l h. stands-on file b at ps r l h) form ps start (stands-first b _) e in
-        let c = k .2 .counts in
-        (rw (k .3) (omega (arith, c, k .1)), rw (k .3) (omega (arith, c, k .1)))
+        let k = accepted-keeps file b (Stands b) (λ s r. stands-on file b s _ r) form ps start (stands-first b _) e in
+        let c = k .held .counts in
+        (rw (k .events) (omega (arith, c, k .inside)), rw (k .events) (omega (arith, c, k .inside)))
     by (refused fault at) e = (omega arith, omega arith)
 
 -- neither count of an outcome exceeds the file's length

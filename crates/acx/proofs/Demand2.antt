@@ -36,7 +36,7 @@ use Rattle.acx.specs.declared.Form.{Form}
 -- the pieces of an accepted file make a handler
 pub handler-of : (form : Form) (file : List ℕ) (b : Bases) (ps : List Piece) (start : Start) → judged form file b .answer ≡ accepted ps start
     → Handler file b ps
-handler-of form file b ps start e = handled file b form ps start e .2 .0
+handler-of form file b ps start e = handled file b form ps start e .held .0
 
 -- the counts of the events of pieces are sums over the pieces
 placed-total : (b : Bases) (ps : List Piece) → placedIn (events b ps) ≡ total size ps
@@ -54,7 +54,8 @@ adjusted-total b (p ∷ ps) =
     ∙ omega (arith, adjusted-total b ps, adjusted-adjustments b (placeOf b p) (p .fields))
 
 -- what the events of a handler make of memory and map
-loads : (file : List ℕ) (b : Bases) (ps : List Piece) (at : ℕ) (m : List ℕ) → Handler file b ps → at ≤ length file → Stands b at ps
+loads : (file : List ℕ) (b : Bases) (ps : List Piece) (at : ℕ) (m : List ℕ) → Handler file b ps → at ≤ length file
+    → Stands b (record { at = at; pieces = ps })
     → length m ≡ 65536 → Demand2 file b ps m (play (events b ps) m) (marks (events b ps) blank) (placedIn (events b ps)) (adjustedIn (events b ps))
 loads file b ps at m h l s n =
     let fits = fits-memory b (length m) ps n (h .fits) in
@@ -81,7 +82,7 @@ pub demand2 : (form : Form) (file : List ℕ) (b : Bases) (ps : List Piece) (sta
     (placedIn (judged form file b .events)) (adjustedIn (judged form file b .events))
 demand2 form file b ps start e m n =
     let x = handled file b form ps start e in
-    rw (x .3) (loads file b ps (x .0) m (x .2 .0) (x .1) (x .2 .1) n)
+    rw (x .events) (loads file b ps (x .at) m (x .held .0) (x .inside) (x .held .1) n)
 
 -- ---- of every call
 
@@ -162,7 +163,7 @@ module _ (form : ℕ) (b : Bases) (file : List ℕ) (x : Bool) (m p : List ℕ) 
       loaded-right t d .0
       ∙ ap (λ (k : Ran Verdict). reported k .answer) (asked-judged form b file (a .settings) (a .fits))
       ∙ ap (λ (v : Verdict). report v (o .events)) e
-      ∙ ap (λ (es : List Event). report (accepted ps start) es) (h .3)
+      ∙ ap (λ (es : List Event). report (accepted ps start) es) (h .events)
       ∙ ap (λ (n : ℕ). Accepted start n (adjustedIn (events b ps)) 0 0) (placed-total b ps)
       ∙ ap (λ (n : ℕ). Accepted start (total size ps) n 0 0) (adjusted-total b ps)
 

@@ -1,24 +1,26 @@
 -- No file is refused with 1: that number is left to the lengths of what is lent.
 -- Assumes nothing.
-use mathlib.Core.List.{List, []}
-use mathlib.Core.Path.{_≡_, subst}
-use Prim.Native.Nat.{ℕ, zero, suc, _-_, _<_}
+use mathlib.Core.List.{List}
+use mathlib.Core.Path.{_≡_, sym, subst}
+use Prim.Native.Nat.{ℕ, _<_}
 use native.Mathlib.Omega.{arith}
-use lib.ListN.{length}
 use Rattle.answer.specs.Report.{numberOf}
 use Rattle.answer.specs.declared.Fault.{Fault}
+use Rattle.answer.specs.declared.Fault.the-variants.{CutShort}
 use Rattle.answer.specs.declared.Outcome.{Outcome}
 use Rattle.answer.specs.declared.Outcome.the-variants.{Accepted, Refused}
-use Rattle.events.specs.Events.{Event, Ran}
+use Rattle.events.proofs.Walks.{ends-leads, ends-same, walk-keeps}
+use Rattle.events.specs.Events.{Event, marks, blank, Ran}
+use Rattle.events.specs.Walk.{ends, bytesLeft}
 use Rattle.events.specs.declared.Check.{Check}
 use Rattle.events.specs.declared.Check.the-variants.{Passed, Failed}
 use Rattle.pieces.proofs.Faults.{of-need, lateOf, LateCheck, LateRecord, read-late, applied-late}
-use Rattle.pieces.specs.Pieces.{Piece}
 use Rattle.pieces.specs.declared.Bases.{Bases}
 use Rattle.records.specs.declared.Record.{Record}
 use Rattle.records.specs.declared.Record.the-variants.{Code, Fixups, End, Faulty}
+use Rattle.acx.proofs.Turning.{turn-falls}
 use Rattle.acx.specs.Call.{load}
-use Rattle.acx.specs.Walk.{Verdict, accepted, refused, lastOf, recordAt, checked, judge, walk, from, opening, openingSize, atOnce, opened, judged, report, reported}
+use Rattle.acx.specs.Walk.{Verdict, accepted, refused, Progress, begun, lastOf, lastPlace, lastSize, recordAt, checked, judge, turn, recordsFrom, recordsOf, opening, openingSize, atOnce, opened, judged, report, reported}
 use Rattle.acx.specs.declared.Form.{Form}
 use Rattle.acx.specs.declared.Form.the-variants.{Disk, Device}
 
@@ -31,22 +33,28 @@ record Late (o : Ran Verdict) : Type 0 where
   late : lateIn (o .answer)
 
 -- one record
-judge-late : (go : ℕ → List Piece → Ran Verdict) → ((e : ℕ) (qs : List Piece) → Late (go e qs)) → (file : List ℕ) (b : Bases) (at : ℕ)
-    (ps : List Piece) (es : List Event) (c : Check) (r : Record) → lateOf c → LateRecord r → Late (judge go file b at ps es c r)
-judge-late go h file b at ps es (Failed fault) r k l = record { late = k }
-judge-late go h file b at ps es Passed (Code kind address from n) k l = h _ _
-judge-late go h file b at ps es Passed (Fixups fixup from n) k l = h _ _
-judge-late go h file b at ps es Passed (End entry next) k l = record { late = tt }
-judge-late go h file b at ps es Passed (Faulty fault) k l = record { late = l .late }
+judge-late : (file : List ℕ) (b : Bases) (s : Progress) (c : Check) (r : Record) (v : Verdict) → lateOf c → LateRecord r → judge file b s c r ≡ ends v
+    → lateIn v
+judge-late file b s (Failed fault) r v k l e = rw (← ends-same e) k
+judge-late file b s Passed (Code kind address from n) v k l e = absurd (ends-leads (sym e))
+judge-late file b s Passed (Fixups fixup from n) v k l e = absurd (ends-leads (sym e))
+judge-late file b s Passed (End entry next) v k l e = rw (← ends-same e) tt
+judge-late file b s Passed (Faulty fault) v k l e = rw (← ends-same e) (l .late)
+
+turn-late : (file : List ℕ) (b : Bases) (s : Progress) (map : List ℕ) (v : Verdict) → turn file b s map .answer ≡ ends v → lateIn v
+unfolding turn checked
+turn-late file b s map v e =
+    let l = read-late file (s .at) (lastOf (s .pieces)) in
+    judge-late file b s (checked file b s map .answer) (recordAt file s) v
+    (applied-late file b (lastPlace b (s .pieces)) (lastSize (s .pieces)) (recordAt file s) map l .late) l e
 
 -- all records
-walk-late : (k : ℕ) (file : List ℕ) (b : Bases) (at : ℕ) (ps : List Piece) → Late (walk k file b at ps)
-unfolding walk checked
-walk-late zero file b at ps = record { late = omega arith }
-walk-late (suc k) file b at ps =
-    judge-late (λ e qs. walk k file b e qs) (λ e qs. walk-late k file b e qs) file b at ps (checked file b at ps .events)
-    (checked file b at ps .answer) (recordAt file at ps)
-    (applied-late file b _ _ (recordAt file at ps) _ (read-late file at (lastOf ps)) .late) (read-late file at (lastOf ps))
+records-late : (file : List ℕ) (b : Bases) (at : ℕ) → Late (recordsOf file b at)
+unfolding recordsFrom
+records-late file b at =
+    let x = walk-keeps (turn file b) (λ z. refused CutShort (z .at)) (λ z. bytesLeft file (z .at)) (turn-falls file b) (λ s es. Unit {0}) blank
+    (λ s z es h e. tt) (begun at) tt in
+    record { late = turn-late file b (x .state) (marks (x .before) blank) _ (x .answer) }
 
 -- the opening
 opening-late : (form : Form) (file : List ℕ) → LateCheck (opening form file)
@@ -58,11 +66,11 @@ opening-late Device file = record { late = tt }
 
 -- the whole file
 judged-late : (form : Form) (file : List ℕ) (b : Bases) → Late (judged form file b)
-unfolding judged from
+unfolding judged
 judged-late form file b = by (opening form file) (opening-late form file)
   where
-    by : (c : Check) → LateCheck c → Late (opened c (from file b (openingSize form) []))
-    by Passed h = walk-late (suc (length file - openingSize form)) file b (openingSize form) []
+    by : (c : Check) → LateCheck c → Late (opened c (recordsOf file b (openingSize form)))
+    by Passed h = records-late file b (openingSize form)
     by (Failed fault) h = record { late = h .late }
 
 -- and the settings

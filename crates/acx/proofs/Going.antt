@@ -2,7 +2,7 @@
 -- Assumes nothing.
 use mathlib.Core.Bool.{Bool}
 use mathlib.Core.List.{List, [], _∷_, _++_, append-nil}
-use mathlib.Core.Path.{_≡_, refl, sym, ap, _∙_}
+use mathlib.Core.Path.{_≡_, refl, sym, ap, _∙_, subst}
 use Prim.Native.Nat.{ℕ, _+_, _≤_}
 use types.Run.{OneOf}
 use denote.Enum.Declared.{tagOf}
@@ -22,13 +22,12 @@ use Rattle.records.specs.declared.Entry.{Entry}
 use Rattle.records.specs.declared.Record.{Record}
 use Rattle.records.specs.declared.Record.the-variants.{End}
 use Rattle.pieces.proofs.Checks.{failed-passed, need-passed}
-use Rattle.acx.proofs.Cursors.{Came, came-first, came-found, came-on, came-further, came-ends-by, onward-by-tag}
-use Rattle.acx.proofs.Standing.{events-after}
-use Rattle.acx.proofs.Walking.{piecesAfter, Onward, from-step, end-none}
+use Rattle.acx.proofs.Cursors.{Came, came-first, came-found, came-ends, came-on, came-further, came-ends-by, onward-by-tag}
+use Rattle.acx.proofs.Turning.{Onward, turn-is, end-none, events-after}
 use Rattle.pieces.specs.AtBases.{startOf, ending, applied, EndsBy}
-use Rattle.acx.specs.Cursor.{begun, advanced}
-use Rattle.pieces.specs.Pieces.{Piece, events}
-use Rattle.acx.specs.Walk.{Verdict, accepted, lastSize, recordAt, checked, judge, from, reported}
+use Rattle.acx.specs.Cursor.{firstCursor, advanced}
+use Rattle.pieces.specs.Pieces.{events}
+use Rattle.acx.specs.Walk.{Progress, begun, recordAt, checked, stepped, recordsOf, reported}
 use Rattle.pieces.specs.declared.Bases.{Bases}
 use Rattle.acx.specs.declared.Cursor.{Cursor}
 
@@ -36,52 +35,52 @@ use Rattle.acx.specs.declared.Cursor.{Cursor}
 
 -- the walk began at an offset with memory m₀ and a clear map, and stands at the cursor c with m and p
 pub record Going (file : List ℕ) (b : Bases) (first : ℕ) (write : Bool) (m₀ : List ℕ) (c : Cursor) (m p : List ℕ) : Type 0 where
-  pub pieces : List Piece
-  pub came : Came file b first c pieces
-  pub reached : Reached (events b pieces) write m₀ blank m p
+  pub progress : Progress
+  pub came : Came file b first c progress
+  pub reached : Reached (events b (progress .pieces)) write m₀ blank m p
 
 module _ {file : List ℕ} {b : Bases} {first : ℕ} {write : Bool} {m₀ : List ℕ} where
-  pub going-first : {p : List ℕ} → p ≡ blank → first ≤ length file → Going file b first write m₀ (begun first) m₀ p
+  pub going-first : {p : List ℕ} → p ≡ blank → first ≤ length file → Going file b first write m₀ (firstCursor first) m₀ p
   unfolding events
-  going-first e l = record { pieces = []; came = came-first l; reached = rw e (reached-none write m₀ blank) }
+  going-first e l = record { progress = begun first; came = came-first l; reached = rw e (reached-none write m₀ blank) }
 
   module _ {c : Cursor} {m p : List ℕ} (x : Going file b first write m₀ c m p) where
     module _ {found : Record} {r : Check} {m′ p′ : List ℕ} (is : found ≡ read file (c .at) (c .last))
         (d : Did Check (applied file b (c .place) (c .size) found p) write m p r m′ p′) where
-      found-is : recordAt file (c .at) (x .pieces) ≡ found
+      -- the definition's progress, its events and what they left in the map
+      abbrev here : Progress
+      here = x .progress
+
+      abbrev before : List Event
+      before = events b (here .pieces)
+
+      abbrev there : List ℕ
+      there = marks before blank
+
+      found-is : recordAt file here ≡ found
       found-is = came-found (x .came) is
 
-      checked-is : checked file b (c .at) (x .pieces) ≡ applied file b (c .place) (c .size) found p
+      checked-is : checked file b here there ≡ applied file b (c .place) (c .size) found p
       unfolding checked
       checked-is =
-          ap (λ (i : ℕ). applied file b i (lastSize (x .pieces)) (recordAt file (c .at) (x .pieces)) (marks (events b (x .pieces)) blank))
-          (sym (ap (λ (k : Cursor). k .place) (x .came .here)))
-          ∙ ap (λ (i : ℕ). applied file b (c .place) i (recordAt file (c .at) (x .pieces)) (marks (events b (x .pieces)) blank))
-          (sym (ap (λ (k : Cursor). k .size) (x .came .here)))
-          ∙ ap (λ (q : Record). applied file b (c .place) (c .size) q (marks (events b (x .pieces)) blank)) found-is
+          ap (λ (k : Cursor). applied file b (k .place) (k .size) (recordAt file here) there) (sym (x .came .here))
+          ∙ ap (λ (q : Record). applied file b (c .place) (c .size) q there) found-is
           ∙ ap (λ (l : List ℕ). applied file b (c .place) (c .size) found l) (sym (x .reached .map))
 
-      answer-is : checked file b (c .at) (x .pieces) .answer ≡ r
+      answer-is : checked file b here there .answer ≡ r
       answer-is = ap (λ (o : Ran Check). o .answer) checked-is ∙ sym (d .answer)
 
-      now : Reached (events b (x .pieces) ++ checked file b (c .at) (x .pieces) .events) write m₀ blank m′ p′
-      now = rw checked-is (reached-more (events b (x .pieces)) write m₀ blank m p m′ p′ _ r (x .reached) d)
+      now : Reached (before ++ checked file b here there .events) write m₀ blank m′ p′
+      now = rw checked-is (reached-more before write m₀ blank m p m′ p′ _ r (x .reached) d)
 
-      one : from file b first [] ≡ judge (λ e qs. from file b e qs) file b (c .at) (x .pieces) (checked file b (c .at) (x .pieces) .events) r found
-      one =
-          let go : ℕ → List Piece → Ran Verdict = λ e qs. from file b e qs in
-          let es = checked file b (c .at) (x .pieces) .events in
-          x .came .same
-          ∙ from-step file b (c .at) (x .pieces) (x .came .in-file)
-          ∙ ap (λ (k : Check). judge go file b (c .at) (x .pieces) es k (recordAt file (c .at) (x .pieces))) answer-is
-          ∙ ap (λ (q : Record). judge go file b (c .at) (x .pieces) es r q) found-is
-
+      -- a fault ends the walk there
       pub going-fails : {fault : Fault} → r ≡ Failed fault
-          → Did Outcome (reported (from file b first [])) write m₀ blank (Refused fault (c .at) 0) m′ p′
-      going-fails e =
-          let go : ℕ → List Piece → Ran Verdict = λ e qs. from file b e qs in
-          let o = one ∙ ap (λ (k : Check). judge go file b (c .at) (x .pieces) (checked file b (c .at) (x .pieces) .events) k found) e in
-          rw o (record { answer = refl; reached = now })
+          → Did Outcome (reported (recordsOf file b first)) write m₀ blank (Refused fault (c .at) 0) m′ p′
+      going-fails {fault} e =
+          let o = came-ends (x .came) _ (turn-is file b here there (Failed fault) _ (answer-is ∙ e) refl) in
+          subst (λ (a : ℕ). Did Outcome (reported (recordsOf file b first)) write m₀ blank (Refused fault a 0) m′ p′)
+          (sym (ap (λ (k : Cursor). k .at) (x .came .here)))
+          (rw o (record { answer = refl; reached = now }))
 
       -- the start of an end record that passed is an address
       pub going-start : {entry : Entry} {next : ℕ} → r ≡ Passed → found ≡ End entry next → address (startOf b entry) ≤ 65535
@@ -91,30 +90,27 @@ module _ {file : List ℕ} {b : Bases} {first : ℕ} {write : Bool} {m₀ : List
           ap (λ (q : Record). applied file b (c .place) (c .size) q p .answer) (sym f) ∙ sym (d .answer) ∙ e in
           leb-true _ _ (need-passed _ _ _ a .0)
 
+      -- such a record ends the walk with an acceptance
       pub going-ends : {entry : Entry} {next : ℕ} → r ≡ Passed → found ≡ End entry next
-          → Did Outcome (reported (from file b first [])) write m₀ blank (Accepted (startOf b entry) (c .placed) (c .adjusted) 0 0) m′ p′
+          → Did Outcome (reported (recordsOf file b first)) write m₀ blank (Accepted (startOf b entry) (c .placed) (c .adjusted) 0 0) m′ p′
       going-ends {entry} {next} e f =
-          let go : ℕ → List Piece → Ran Verdict = λ e qs. from file b e qs in
-          let ps = x .pieces in
-          let es = events b ps ++ checked file b (c .at) ps .events in
-          let o : from file b first [] ≡ record { answer = accepted ps (startOf b entry); events = es } =
-          one
-          ∙ ap (λ (k : Check). judge go file b (c .at) ps (checked file b (c .at) ps .events) k found) e
-          ∙ ap (λ (q : Record). judge go file b (c .at) ps (checked file b (c .at) ps .events) Passed q) f in
-          let z : es ≡ events b ps = ap (λ (l : List Event). events b ps ++ l) (end-none file b (c .at) ps entry next (found-is ∙ f))
-          ∙ append-nil (events b ps) in
-          let pl : c .placed ≡ placedIn es = ap (λ (k : Cursor). k .placed) (x .came .here) ∙ ap placedIn (sym z) in
-          let ad : c .adjusted ≡ adjustedIn es = ap (λ (k : Cursor). k .adjusted) (x .came .here) ∙ ap adjustedIn (sym z) in
-          rw (o, pl, ad) (record { answer = refl; reached = now })
+          let o = came-ends (x .came) _ (turn-is file b here there Passed (End entry next) (answer-is ∙ e) (found-is ∙ f)) in
+          let z : before ++ checked file b here there .events ≡ before =
+          ap (λ (l : List Event). before ++ l) (end-none file b here there entry next (found-is ∙ f)) ∙ append-nil before in
+          let es = before ++ checked file b here there .events in
+          let counts : Accepted (startOf b entry) (c .placed) (c .adjusted) 0 0 ≡ Accepted (startOf b entry) (placedIn es) (adjustedIn es) 0 0 =
+          ap (λ (k : Cursor). Accepted (startOf b entry) (k .placed) (k .adjusted) 0 0) (x .came .here)
+          ∙ ap (λ (l : List Event). Accepted (startOf b entry) (placedIn l) (adjustedIn l) 0 0) (sym z) in
+          rw o (record { answer = counts; reached = now })
 
+      -- any other leads on
       pub going-on : r ≡ Passed → Onward found → Going file b first write m₀ (advanced b c found) m′ p′
       going-on e o =
-          let ps = x .pieces in
-          let ok : checked file b (c .at) ps .answer ≡ Passed = answer-is ∙ e in
+          let ok : checked file b here there .answer ≡ Passed = answer-is ∙ e in
           record {
-            pieces = piecesAfter file found ps;
+            progress = stepped file here found;
             came = came-on (x .came) found-is o ok;
-            reached = rw (events-after file b (c .at) ps found found-is o ok) now;
+            reached = rw (events-after file b here there found found-is o ok) now;
           }
 
       pub going-further : Onward found → c .at + 2 ≤ advanced b c found .at

@@ -1,9 +1,8 @@
 -- A file, record by record: "Then records to the end record".
--- The records are walked by a count that the file's length bounds; `from-step` (proofs/Walking.antt) is the equation to read, and nothing
--- after it looks at the count.
+-- The records are a walk by turns (`events`, specs/Walk.antt), one record to a turn.
 -- Assumes nothing.
 use mathlib.Core.List.{List, [], _∷_, _++_}
-use Prim.Native.Nat.{ℕ, zero, suc, _+_, _-_}
+use Prim.Native.Nat.{ℕ, _+_}
 use lib.Dec.{leb, eqb}
 use lib.ListN.{length}
 use Rattle.answer.specs.Checks.{need}
@@ -12,7 +11,8 @@ use Rattle.answer.specs.declared.Fault.the-variants.{WrongOpening, CutShort}
 use Rattle.answer.specs.declared.Outcome.{Outcome}
 use Rattle.answer.specs.declared.Outcome.the-variants.{Accepted, Refused}
 use Rattle.answer.specs.declared.Start.{Start}
-use Rattle.events.specs.Events.{Event, marks, blank, placedIn, adjustedIn, Ran}
+use Rattle.events.specs.Events.{Event, blank, placedIn, adjustedIn, Ran}
+use Rattle.events.specs.Walk.{Turn, ends, leads, from, bytesLeft}
 use Rattle.events.specs.declared.Check.{Check}
 use Rattle.events.specs.declared.Check.the-variants.{Passed, Failed}
 use Rattle.fields.specs.Fields.{fieldsOf}
@@ -25,7 +25,7 @@ use Rattle.records.specs.declared.Record.the-variants.{Code, Fixups, End, Fault
 use Rattle.words.specs.Numbers.{value}
 use Rattle.words.specs.Runs.{part}
 use Rattle.pieces.specs.AtBases.{startOf, applied}
-use Rattle.pieces.specs.Pieces.{Piece, size, placeOf, events}
+use Rattle.pieces.specs.Pieces.{Piece, size, placeOf}
 use Rattle.pieces.specs.declared.Bases.{Bases}
 use Rattle.acx.specs.declared.Form.{Form}
 use Rattle.acx.specs.declared.Form.the-variants.{Disk, Device}
@@ -35,7 +35,16 @@ pub data Verdict : Type 0 where
   accepted : List Piece → Start → Verdict
   refused : Fault → ℕ → Verdict
 
--- ---- where the walk stands after some pieces
+-- ---- one record
+
+-- where a walk stands: the next record's offset, and the pieces so far, latest first
+pub record Progress : Type 0 where
+  pub at : ℕ
+  pub pieces : List Piece
+
+-- before the first record
+abbrev pub begun : ℕ → Progress
+begun at = record { at = at; pieces = [] }
 
 -- "the last code record before it"
 abbrev pub lastOf : List Piece → Last
@@ -53,38 +62,48 @@ lastSize [] = 0
 lastSize (p ∷ ps) = size p
 
 -- the next record
-abbrev pub recordAt : List ℕ → ℕ → List Piece → Record
-recordAt file at ps = read file at (lastOf ps)
+abbrev pub recordAt : List ℕ → Progress → Record
+recordAt file s = read file (s .at) (lastOf (s .pieces))
 
--- what it comes to at the bases, over the map of the pieces so far
-unfoldable pub checked : List ℕ → Bases → ℕ → List Piece → Ran Check
-checked file b at ps = applied file b (lastPlace b ps) (lastSize ps) (recordAt file at ps) (marks (events b ps) blank)
+-- what it comes to at the bases, over the map so far
+unfoldable pub checked : List ℕ → Bases → Progress → List ℕ → Ran Check
+checked file b s map = applied file b (lastPlace b (s .pieces)) (lastSize (s .pieces)) (recordAt file s) map
 
 -- the fields of a fixup record are the last piece's
 abbrev pub withFields : List Field → List Piece → List Piece
 withFields fs [] = []
 withFields fs (p ∷ ps) = record { kind = p .kind; address = p .address; code = p .code; fields = p .fields ++ fs } ∷ ps
 
+-- where the walk stands after a record that passed: code is a piece more, fixups are fields more
+abbrev pub stepped : List ℕ → Progress → Record → Progress
+stepped file s (Code kind address from n) =
+    record { at = from + n; pieces = record { kind = kind; address = address; code = part file from n; fields = [] } ∷ s .pieces }
+stepped file s (Fixups fixup from n) = record { at = from + n; pieces = withFields (fieldsOf fixup (part file from n)) (s .pieces) }
+stepped file s (End entry next) = s
+stepped file s (Faulty fault) = s
+
+-- where a record leads: on, to the end of the file, or there at its fault
+abbrev pub judge : List ℕ → Bases → Progress → Check → Record → Turn Progress Verdict
+judge file b s (Failed fault) r = ends (refused fault (s .at))
+judge file b s Passed (Code kind address from n) = leads (stepped file s (Code kind address from n))
+judge file b s Passed (Fixups fixup from n) = leads (stepped file s (Fixups fixup from n))
+judge file b s Passed (End entry next) = ends (accepted (s .pieces) (startOf b entry))
+judge file b s Passed (Faulty fault) = ends (refused fault (s .at))
+
+-- one record: read, checked at the bases, and where that leads
+unfoldable pub turn : List ℕ → Bases → Progress → List ℕ → Ran (Turn Progress Verdict)
+turn file b s map =
+    record { answer = judge file b s (checked file b s map .answer) (recordAt file s); events = checked file b s map .events }
+
 -- ---- the walk
 
--- a record that passed is followed by the next one, or was the last; at a fault the walk ends
-abbrev pub judge : (ℕ → List Piece → Ran Verdict) → List ℕ → Bases → ℕ → List Piece → List Event → Check → Record → Ran Verdict
-judge go file b at ps es (Failed fault) r = record { answer = refused fault at; events = events b ps ++ es }
-judge go file b at ps es Passed (Code kind address from n) =
-    go (from + n) (record { kind = kind; address = address; code = part file from n; fields = [] } ∷ ps)
-judge go file b at ps es Passed (Fixups fixup from n) = go (from + n) (withFields (fieldsOf fixup (part file from n)) ps)
-judge go file b at ps es Passed (End entry next) = record { answer = accepted ps (startOf b entry); events = events b ps ++ es }
-judge go file b at ps es Passed (Faulty fault) = record { answer = refused fault at; events = events b ps ++ es }
+-- the records from some progress on
+unfoldable pub recordsFrom : List ℕ → Bases → Progress → List ℕ → Ran Verdict
+recordsFrom file b s map = from (turn file b) (λ z. refused CutShort (z .at)) (λ z. bytesLeft file (z .at)) s map
 
--- at most so many records, from an offset on, after the pieces ps (by `from-step` the count never runs out)
-unfoldable pub walk : ℕ → List ℕ → Bases → ℕ → List Piece → Ran Verdict
-walk zero file b at ps = record { answer = refused CutShort at; events = events b ps }
-walk (suc k) file b at ps =
-    judge (λ e qs. walk k file b e qs) file b at ps (checked file b at ps .events) (checked file b at ps .answer) (recordAt file at ps)
-
--- the records from an offset on: each takes a byte at least, so there are no more of them than bytes left
-unfoldable pub from : List ℕ → Bases → ℕ → List Piece → Ran Verdict
-from file b at ps = walk (suc (length file - at)) file b at ps
+-- all records from an offset on, over a clear map
+abbrev pub recordsOf : List ℕ → Bases → ℕ → Ran Verdict
+recordsOf file b at = recordsFrom file b (begun at) blank
 
 -- "Disk form opens F0 FF (under two bytes 5, else 4); device form has no opening." (F0 FF, low byte first, is the word FFF0)
 unfoldable pub opening : Form → List ℕ → Check
@@ -107,7 +126,7 @@ opened (Failed fault) rest = atOnce fault
 
 -- the whole file in its form, at its bases
 unfoldable pub judged : Form → List ℕ → Bases → Ran Verdict
-judged form file b = opened (opening form file) (from file b (openingSize form) [])
+judged form file b = opened (opening form file) (recordsOf file b (openingSize form))
 
 -- ---- what is reported
 

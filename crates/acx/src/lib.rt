@@ -10,7 +10,6 @@ use records::Entry;
 use records::Last;
 use records::Record;
 ghost use mathlib.Core.Bool.{true};
-ghost use mathlib.Core.List.{[]};
 ghost use mathlib.Core.Path.{_≡_};
 ghost use Prim.Native.Nat.{_≤_};
 ghost use lib.ListN.{length};
@@ -19,8 +18,8 @@ ghost use Rattle.answer.specs.declared.Outcome.the-variants.{Accepted};
 ghost use Rattle.events.specs.Events.{blank, Did};
 ghost use Rattle.pieces.specs.Pieces.{basesAt};
 ghost use Rattle.pieces.specs.AtBases.{startOf, EndsBy};
-ghost use Rattle.acx.specs.Walk.{from, opening as openingOf, openingSize, judged, reported};
-ghost use Rattle.acx.specs.Cursor.{begun, advanced};
+ghost use Rattle.acx.specs.Walk.{recordsOf, opening as openingOf, openingSize, judged, reported};
+ghost use Rattle.acx.specs.Cursor.{firstCursor, advanced};
 ghost use Rattle.acx.specs.Call.{formOf, usual, inRange, sized, load as loadOf, Loaded};
 
 // The bases of the short call.
@@ -122,7 +121,7 @@ pub fn opening_size(form: Form) -> usize
 
 // The cursor of a walk that begins at `at`.
 pub fn begin(at: usize) -> Cursor
-    ensures { λ r. ⌜ r ≡ begun at ⌝ }
+    ensures { λ r. ⌜ r ≡ firstCursor at ⌝ }
 {
     Cursor {
         at,
@@ -256,7 +255,7 @@ fn walk(
     map: &mut [u8],
 ) -> Outcome
     requires { ⌜ (length (now file) ≤ 65536) × (at ≤ length (now file)) × (length (now memory) ≡ 65536) × (length (now map) ≡ 65536) × (now map ≡ blank) ⌝ }
-    ensures { λ r. ⌜ Did Outcome (reported (from (now (file .entry)) bases at [])) write (now (memory .entry)) blank r (now (memory .exit)) (now (map .exit)) ⌝ }
+    ensures { λ r. ⌜ Did Outcome (reported (recordsOf (now (file .entry)) bases at)) write (now (memory .entry)) blank r (now (memory .exit)) (now (map .exit)) ⌝ }
 {
     let mut cursor = begin(at);
     loop {

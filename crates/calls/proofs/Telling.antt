@@ -1,6 +1,6 @@
 -- A call with an answer to write does what the loader or the mover does, and tells it; one without does nothing, and is refused with 1.
 -- Assumes nothing.
-use mathlib.Core.Bool.{Bool, true, false, _&&_}
+use mathlib.Core.Bool.{true, false, _&&_}
 use mathlib.Core.List.{List}
 use mathlib.Core.Path.{_≡_, refl}
 use Prim.Native.Nat.{ℕ}

@@ -12,26 +12,14 @@ use Rattle.events.specs.Walk.{Turn, ends, leads, after, onward, walk, fr
 -- ---- turns told apart
 
 module _ {S A : Type 0} where
-  abbrev isLeads : Turn S A → ℕ
-  isLeads (ends a) = 0
-  isLeads (leads s) = 1
-
   pub ends-leads : {a : A} {z : S} → _≡_ {A = Turn S A} (ends a) (leads z) → ⊥
-  ends-leads e = let n : _≡_ {A = ℕ} 0 1 = ap isLeads e in omega arith
-
-  abbrev whither : S → Turn S A → S
-  whither d (ends a) = d
-  whither d (leads s) = s
+  ends-leads e = let n : _≡_ {A = ℕ} 0 1 = cc in omega arith
 
   pub leads-same : {s z : S} → _≡_ {A = Turn S A} (leads s) (leads z) → s ≡ z
-  leads-same {s} e = ap (whither s) e
-
-  abbrev answerOf : A → Turn S A → A
-  answerOf d (ends a) = a
-  answerOf d (leads s) = d
+  leads-same e = cc
 
   pub ends-same : {a b : A} → _≡_ {A = Turn S A} (ends a) (ends b) → a ≡ b
-  ends-same {a} e = ap (answerOf a) e
+  ends-same e = cc
 
 -- ---- turn after turn
 

@@ -3,7 +3,8 @@
 -- brings its state's measure down, and nothing after it looks at the count.
 -- Assumes nothing.
 use mathlib.Core.List.{List, [], _++_}
-use Prim.Native.Nat.{ℕ, zero, suc}
+use Prim.Native.Nat.{ℕ, zero, suc, _-_}
+use lib.ListN.{length}
 use Rattle.events.specs.Events.{Event, marks, Ran}
 
 -- what a turn comes to: it ends the walk with an answer, or leads to another state
@@ -28,3 +29,7 @@ walk turn last (suc k) s map = onward (λ z p. walk turn last k z p) map (turn s
 -- all turns from a state, of which there are no more than its measure says
 unfoldable pub from : {S A : Type 0} → (S → List ℕ → Ran (Turn S A)) → (S → A) → (S → ℕ) → S → List ℕ → Ran A
 from turn last measure s map = walk turn last (suc (measure s)) s map
+
+-- the bytes of a file from an offset on, by which the turns of a walk over it are counted down (nothing is read past the file's end)
+abbrev pub bytesLeft : List ℕ → ℕ → ℕ
+bytesLeft file at = length file - at

@@ -65,7 +65,7 @@ module _ (file : List ℕ) (form : ℕ) (ps : List Piece) (b : Bases) (h : Accep
 
   -- its events are those of the pieces
   pub events-at : load form b file .events ≡ events b ps
-  events-at = ap (λ (o : Ran Verdict). o .events) (follows .by-rules) ∙ handled file b (formOf form) ps (h .0) verdict .3
+  events-at = ap (λ (o : Ran Verdict). o .events) (follows .by-rules) ∙ handled file b (formOf form) ps (h .0) verdict .events
 
   -- it leaves the pieces in memory
   pub load-laid : (r : List ℕ) → length r ≡ 65536 → loadInto file form b r ≡ laid b ps r

@@ -16,7 +16,7 @@ use Rattle.answer.specs.declared.Outcome.{Outcome}
 use Rattle.answer.specs.declared.Outcome.the-variants.{Accepted, Refused}
 use Rattle.answer.specs.declared.Start.{Start}
 use Rattle.events.specs.Events.{Ran}
-use Rattle.passes.specs.Rooms.{Rooms, rooms}
+use Rattle.passes.specs.Rooms.{Rooms}
 use Rattle.passes.specs.Walk.{Given, given, Verdict, finished, refused}
 use Rattle.sdx.specs.Call.{sized, call, report, addressesAfter, Loaded}
 use Rattle.words.proofs.Numbers.{length-decoded}

@@ -16,8 +16,8 @@ use Rattle.blocks.specs.declared.Cursor.{Cursor}
 use Rattle.events.proofs.Events.{placed-append, adjusted-append, reached-none, reached-more}
 use Rattle.events.proofs.Walks.{came-on, came-end}
 use Rattle.events.specs.Events.{Event, marks, blank, placedIn, adjustedIn, Ran, Reached, Did}
-use Rattle.events.specs.Walk.{Turn, ends, leads, after}
-use Rattle.updates.specs.Bodies.{Stop, broken, done, counted, ended, bytesLeft}
+use Rattle.events.specs.Walk.{Turn, ends, leads, after, bytesLeft}
+use Rattle.updates.specs.Bodies.{Stop, broken, done, counted, ended}
 use Rattle.updates.specs.declared.Ended.{Ended}
 use Rattle.updates.specs.declared.Ended.the-variants.{Broken, Done}
 use Rattle.words.proofs.Runs.{front-holds}

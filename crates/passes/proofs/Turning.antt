@@ -15,8 +15,8 @@ use Rattle.blocks.proofs.Lying.{read-lies}
 use Rattle.blocks.specs.Bounds.{Fits}
 use Rattle.events.proofs.Walks.{ends-leads, leads-same, ends-same, walk-keeps}
 use Rattle.events.specs.Events.{Event, marks, blank, Ran}
-use Rattle.events.specs.Walk.{Turn, ends, leads}
-use Rattle.updates.specs.Bodies.{Stop, broken, done, bytesLeft}
+use Rattle.events.specs.Walk.{Turn, ends, leads, bytesLeft}
+use Rattle.updates.specs.Bodies.{Stop, broken, done}
 use Rattle.deeds.proofs.Ending.{Ends, carried-ends, advanced-at}
 use Rattle.passes.specs.Parts.{progressOf}
 use Rattle.passes.specs.Walk.{Given, Progress, Verdict, finished, refused, judge, blockAt, carriedAt, turn, blocksFrom, begun, blocksOf, stepped}

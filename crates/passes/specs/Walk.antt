@@ -12,8 +12,8 @@ use Rattle.blocks.specs.declared.Block.{Block}
 use Rattle.blocks.specs.declared.Cursor.{Cursor}
 use Rattle.deeds.specs.Deeds.{carried, firstCursor, advanced, nameIn, addressIn}
 use Rattle.events.specs.Events.{Event, blank, Ran}
-use Rattle.events.specs.Walk.{Turn, ends, leads, from}
-use Rattle.updates.specs.Bodies.{Stop, broken, done, bytesLeft}
+use Rattle.events.specs.Walk.{Turn, ends, leads, from, bytesLeft}
+use Rattle.updates.specs.Bodies.{Stop, broken, done}
 
 -- "SDX: known names .., beside a list of as many 16-bit addresses ..; low and high"
 pub record Given : Type 0 where

@@ -17,7 +17,7 @@ use Rattle.blocks.specs.declared.Cursor.{Cursor}
 use Rattle.deeds.specs.Deeds.{carried}
 use Rattle.events.proofs.Walks.{ends-leads, ends-same, walk-keeps}
 use Rattle.events.specs.Events.{Event, marks, blank, Ran, failed}
-use Rattle.events.specs.Walk.{Turn, ends}
+use Rattle.events.specs.Walk.{Turn, ends, bytesLeft}
 use Rattle.events.specs.declared.Check.{Check}
 use Rattle.events.specs.declared.Check.the-variants.{Passed, Failed}
 use Rattle.items.specs.Items.{adding, setting, aiming, skipping, read as read-item}
@@ -32,7 +32,7 @@ use Rattle.names.specs.declared.Definition.the-variants.{Missing, Own, Lent}
 use Rattle.passes.proofs.Turning.{turn-falls as walk-falls}
 use Rattle.passes.specs.Walk.{Given, Progress, Verdict, finished, refused, judge as judge-block, blockAt, carriedAt, turn as turn-block, blocksFrom, begun as begun-walk, blocksOf}
 use Rattle.updates.proofs.Turning.{turn-falls}
-use Rattle.updates.specs.Bodies.{adjusting, applied, BodyState, Stop, broken, done, judge, turn, bytesLeft, items, begun, body}
+use Rattle.updates.specs.Bodies.{adjusting, applied, BodyState, Stop, broken, done, judge, turn, items, begun, body}
 use Rattle.words.specs.Runs.{part}
 use Rattle.sdx.proofs.Calling.{admitted, range-bounds}
 use Rattle.sdx.specs.Call.{opening, opened, admitting, load}

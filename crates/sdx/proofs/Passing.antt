@@ -20,6 +20,7 @@ use Rattle.blocks.specs.declared.Source.the-variants.{Number, LentName, OwnName
 use Rattle.events.proofs.Events.{length-marks}
 use Rattle.events.proofs.Walks.{walk-keeps}
 use Rattle.events.specs.Events.{Event, marks, failed}
+use Rattle.events.specs.Walk.{bytesLeft}
 use Rattle.items.proofs.Reading.{Where, lies-as}
 use Rattle.items.specs.Items.{slotAt, read as read-item}
 use Rattle.items.specs.declared.Item.{Item}
@@ -29,7 +30,7 @@ use Rattle.names.specs.Names.{lookUp}
 use Rattle.names.specs.declared.Definition.{Definition}
 use Rattle.names.specs.declared.Definition.the-variants.{Missing, Own, Lent}
 use Rattle.updates.proofs.Turning.{turn-falls}
-use Rattle.updates.specs.Bodies.{isLoaded, wordLoaded, adjusting, applied, BodyState, broken, turn, bytesLeft, items, begun, body}
+use Rattle.updates.specs.Bodies.{isLoaded, wordLoaded, adjusting, applied, BodyState, broken, turn, items, begun, body}
 use Rattle.words.proofs.Changes.{value-lt}
 use Rattle.words.proofs.Runs.{length-part, part-at, contains-not}
 use Rattle.words.specs.Numbers.{value}

@@ -2,11 +2,11 @@
 -- Assumes nothing.
 use mathlib.Core.Path.{refl}
 use Rattle.acx.specs.Call.{load, call}
-use Rattle.acx.specs.Walk.{checked, walk, from, opening, judged}
+use Rattle.acx.specs.Walk.{checked, turn as turnRecord, recordsFrom, opening, judged}
 use Rattle.answer.specs.Checks.{need, pick}
 use Rattle.blocks.specs.Blocks.{readPlain, readRoom, readRelocatable, readUpdate, readNames, readAddress, readNewName, read as readBlock}
 use Rattle.events.specs.Events.{play, marks, blank, placedIn, adjustedIn}
-use Rattle.events.specs.Walk.{walk as walkTurns, from as fromTurns}
+use Rattle.events.specs.Walk.{walk, from}
 use Rattle.items.specs.Items.{setting, aiming, read as readItem}
 use Rattle.moves.specs.Call.{ruling, outcomeOf, memoryAfter, mapAfter, scratchAfter}
 use Rattle.moves.specs.Move.{carried, transfer, moved}
@@ -24,5 +24,5 @@ use Rattle.words.specs.Runs.{part, put, allZero, contains}
 use Rattle.table.specs.Table.{Bench}
 
 pub bench : Bench
-unfolding number value digits store on off change part put allZero contains need pick play marks blank placedIn adjustedIn fieldsOf readCode readItems readFixups readEnd read amountOf edited adjustments events placing adjusting ending applied checked walk from opening judged load call carried transfer moved ruling outcomeOf memoryAfter mapAfter scratchAfter same newestOf newest lookUp setting aiming readItem adjustingWord turnItem items readPlain readRoom readRelocatable readUpdate readNames readAddress readNewName readBlock walkTurns fromTurns carriedAt turn blocksFrom openingSdx judgedSdx admitting loadSdx callSdx startIn
+unfolding number value digits store on off change part put allZero contains need pick play marks blank placedIn adjustedIn fieldsOf readCode readItems readFixups readEnd read amountOf edited adjustments events placing adjusting ending applied checked turnRecord recordsFrom walk from opening judged load call carried transfer moved ruling outcomeOf memoryAfter mapAfter scratchAfter same newestOf newest lookUp setting aiming readItem adjustingWord turnItem items readPlain readRoom readRelocatable readUpdate readNames readAddress readNewName readBlock carriedAt turn blocksFrom openingSdx judgedSdx admitting loadSdx callSdx startIn
 bench = refl

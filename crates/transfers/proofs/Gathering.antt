@@ -8,24 +8,23 @@ use types.Run.{OneOf}
 use denote.Enum.Declared.{tagOf}
 use borrow.Rule.Slice.PartMut.{midOf, putMid}
 use lib.ListN.{length}
-use Rattle.acx.proofs.Cursors.{Came, advanced-at, came-first, came-found, came-on, came-passes, came-to-end, came-onward}
+use Rattle.acx.proofs.Cursors.{Came, came-first, came-found, came-on, came-passes, came-to-end, came-onward}
 use Rattle.pieces.proofs.Edits.{length-edited, edited-append}
 use Rattle.pieces.proofs.Marks.{fields-fresh}
-use Rattle.acx.proofs.Standing.{fixups-passed}
-use Rattle.acx.proofs.Walking.{piecesAfter, Onward, judged-accepted}
+use Rattle.acx.proofs.Turning.{Onward, fixups-passed}
+use Rattle.acx.proofs.Walking.{Passes, judged-opens}
 use Rattle.acx.specs.Call.{formOf}
-use Rattle.acx.specs.Cursor.{begun, advanced}
+use Rattle.acx.specs.Cursor.{firstCursor, advanced}
 use Rattle.pieces.specs.Places.{Inside}
 use Rattle.pieces.specs.Pieces.{Piece, size, placeAt, placeOf, edited, events}
-use Rattle.acx.specs.Walk.{accepted, lastOf, lastPlace, lastSize, recordAt, checked, withFields, from, openingSize}
+use Rattle.acx.specs.Walk.{Verdict, accepted, Progress, begun, lastOf, lastPlace, lastSize, recordAt, withFields, stepped, recordsOf, openingSize}
 use Rattle.pieces.specs.declared.Bases.{Bases}
 use Rattle.acx.specs.declared.Cursor.{Cursor}
 use Rattle.answer.specs.declared.Fault.{Fault}
 use Rattle.answer.specs.declared.Start.{Start}
 use Rattle.events.proofs.Events.{length-marks, length-blank}
-use Rattle.events.specs.Events.{marks, blank}
+use Rattle.events.specs.Events.{marks, blank, Ran}
 use Rattle.events.specs.Lists.{Each}
-use Rattle.events.specs.declared.Check.the-variants.{Passed}
 use Rattle.records.proofs.Reading.{Moving, lies-as, fixups-after}
 use Rattle.records.proofs.Record.{the-type}
 use Rattle.fields.specs.Fields.{fieldsOf}
@@ -52,24 +51,26 @@ pub record Walkable (form : ℕ) (old new : Bases) (file : List ℕ) (first : �
   pub opens : first ≤ length file
   pub start : Start
   pub start′ : Start
-  pub yes-old : from file old first [] .answer ≡ accepted (piecesOf (rulingOf form old new file)) start
-  pub yes-new : from file new first [] .answer ≡ accepted (piecesOf (rulingOf form old new file)) start′
+  pub yes-old : recordsOf file old first .answer ≡ accepted (piecesOf (rulingOf form old new file)) start
+  pub yes-new : recordsOf file new first .answer ≡ accepted (piecesOf (rulingOf form old new file)) start′
 
 pub walkable : (form : ℕ) (old new : Bases) (file : List ℕ) (first : ℕ) → first ≡ openingSize (formOf form)
     → Allows (rulingOf form old new file) → Walkable form old new file first
 walkable form old new file first e h =
     let ps = piecesOf (rulingOf form old new file) in
     let x = both form old new file ps (allows-is (rulingOf form old new file) h) in
-    let u = judged-accepted (formOf form) file old ps (x .0 .0) (verdict file form ps old (x .0)) in
-    let v = judged-accepted (formOf form) file new ps (x .1 .0) (verdict file form ps new (x .1)) in
+    let yes-old = verdict file form ps old (x .0) in
+    let yes-new = verdict file form ps new (x .1) in
+    let u = judged-opens (formOf form) file old ps (x .0 .0) yes-old in
+    let v = judged-opens (formOf form) file new ps (x .1 .0) yes-new in
     rw e
     (record {
       fits = follows file form ps old (x .0) .fits;
       opens = u .0;
       start = x .0 .0;
       start′ = x .1 .0;
-      yes-old = u .1;
-      yes-new = v .1;
+      yes-old = ap (λ (o : Ran Verdict). o .answer) (sym (u .1)) ∙ yes-old;
+      yes-new = ap (λ (o : Ran Verdict). o .answer) (sym (v .1)) ∙ yes-new;
     })
 
 -- ---- one record
@@ -109,47 +110,50 @@ fields-taken old new m t₀ fs (p ∷ ps) t h i j e =
     ∙ ap (put u a) (sym (edited-append g (p .fields) fs bs))
 
 -- the fields of a record that passed lie in the last code
-fields-inside : (file : List ℕ) (b : Bases) (at : ℕ) (ps : List Piece) (fixup : Fixup) (from n : ℕ) → lastPlace b ps + lastSize ps ≤ 65536
-    → recordAt file at ps ≡ Fixups fixup from n
-    → checked file b at ps .answer ≡ Passed → Each (Inside (lastSize ps)) (fieldsOf fixup (part file from n))
-fields-inside file b at ps fixup from n h e c =
-    let l : length (marks (events b ps) blank) ≡ 65536 = length-marks (events b ps) blank ∙ length-blank in
-    fields-fresh b (lastPlace b ps) (lastSize ps) (fieldsOf fixup (part file from n)) [] (marks (events b ps) blank) (omega (arith, h, l)) tt
-    (fixups-passed file b at ps fixup from n e c) .inside
+fields-inside : (file : List ℕ) (b : Bases) (s : Progress) (fixup : Fixup) (from n : ℕ) → lastPlace b (s .pieces) + lastSize (s .pieces) ≤ 65536
+    → recordAt file s ≡ Fixups fixup from n
+    → Passes file b s → Each (Inside (lastSize (s .pieces))) (fieldsOf fixup (part file from n))
+fields-inside file b s fixup from n h e c =
+    let p = marks (events b (s .pieces)) blank in
+    let l : length p ≡ 65536 = length-marks (events b (s .pieces)) blank ∙ length-blank in
+    fields-fresh b (lastPlace b (s .pieces)) (lastSize (s .pieces)) (fieldsOf fixup (part file from n)) [] p (omega (arith, h, l)) tt
+    (fixups-passed file b s p fixup from n e c) .inside
 
 -- what a record brings to the scratch is what its piece brings, or its fields
-taken-on : (file : List ℕ) (old new : Bases) (m t₀ t : List ℕ) (source target : Cursor) (ps : List Piece) (at : ℕ) (r : Record)
+taken-on : (file : List ℕ) (old new : Bases) (m t₀ t : List ℕ) (source target : Cursor) (s : Progress) (r : Record)
     → length m ≡ 65536
-    → length t ≡ 65536 → lastPlace old ps + lastSize ps ≤ 65536
-    → lastPlace new ps + lastSize ps ≤ 65536
-    → target .place ≡ lastPlace new ps
-    → target .size ≡ lastSize ps
-    → recordAt file at ps ≡ r
+    → length t ≡ 65536 → lastPlace old (s .pieces) + lastSize (s .pieces) ≤ 65536
+    → lastPlace new (s .pieces) + lastSize (s .pieces) ≤ 65536
+    → target .place ≡ lastPlace new (s .pieces)
+    → target .size ≡ lastSize (s .pieces)
+    → recordAt file s ≡ r
     → Onward r
-    → t ≡ transfer old new ps m t₀
-    → taken file old new (advanced old source r) (advanced new target r) m t r ≡ transfer old new (piecesAfter file r ps) m t₀
+    → t ≡ transfer old new (s .pieces) m t₀
+    → taken file old new (advanced old source r) (advanced new target r) m t r ≡ transfer old new (stepped file s r .pieces) m t₀
 unfolding taken
-taken-on file old new m t₀ t source target ps at (Code kind address from n) lm lt i j ep es e o g =
-    let h = lies-as file at (lastOf ps) _ e .1 in
-    code-taken old new m t₀ t ps kind address (part file from n) n (length-part file from n h) g
-taken-on file old new m t₀ t source target ps at (Fixups fixup from n) lm lt i j ep es e o g =
+taken-on file old new m t₀ t source target s (Code kind address from n) lm lt i j ep es e o g =
+    let h = lies-as file (s .at) (lastOf (s .pieces)) _ e .1 in
+    code-taken old new m t₀ t (s .pieces) kind address (part file from n) n (length-part file from n h) g
+taken-on file old new m t₀ t source target s (Fixups fixup from n) lm lt i j ep es e o g =
     rw (ep, es)
-    (fields-taken old new m t₀ (fieldsOf fixup (part file from n)) ps t (fixups-after file at (lastOf ps) fixup from n e) (omega arith)
+    (fields-taken old new m t₀ (fieldsOf fixup (part file from n)) (s .pieces) t
+    (fixups-after file (s .at) (lastOf (s .pieces)) fixup from n e)
+    (omega arith)
     (omega arith) g)
-taken-on file old new m t₀ t source target ps at (End entry next) lm lt i j ep es e o g = absurd o
-taken-on file old new m t₀ t source target ps at (Faulty fault) lm lt i j ep es e o g = absurd o
+taken-on file old new m t₀ t source target s (End entry next) lm lt i j ep es e o g = absurd o
+taken-on file old new m t₀ t source target s (Faulty fault) lm lt i j ep es e o g = absurd o
 
 -- the fields of a record lie in the last code
-sound : (file : List ℕ) (b : Bases) (c : Cursor) (ps : List Piece) (at : ℕ) (r : Record) → lastPlace b ps + lastSize ps ≤ 65536
-    → c .size ≡ lastSize ps
-    → recordAt file at ps ≡ r
-    → checked file b at ps .answer ≡ Passed
+sound : (file : List ℕ) (b : Bases) (c : Cursor) (s : Progress) (r : Record) → lastPlace b (s .pieces) + lastSize (s .pieces) ≤ 65536
+    → c .size ≡ lastSize (s .pieces)
+    → recordAt file s ≡ r
+    → Passes file b s
     → Sound file (advanced b c r .size) r
-sound file b c ps at (Code kind address from n) i es e k = tt
-sound file b c ps at (Fixups fixup from n) i es e k =
-    (lies-as file at (lastOf ps) _ e .1, rw es (fields-inside file b at ps fixup from n i e k))
-sound file b c ps at (End entry next) i es e k = tt
-sound file b c ps at (Faulty fault) i es e k = tt
+sound file b c s (Code kind address from n) i es e k = tt
+sound file b c s (Fixups fixup from n) i es e k =
+    (lies-as file (s .at) (lastOf (s .pieces)) _ e .1, rw es (fields-inside file b s fixup from n i e k))
+sound file b c s (End entry next) i es e k = tt
+sound file b c s (Faulty fault) i es e k = tt
 
 -- ---- a record taken by the program, which lends parts of the buffers
 
@@ -220,63 +224,59 @@ takes-lent file target t fixup from k l j h =
 
 -- the walk began at an offset with the scratch t₀, and stands at two cursors with t
 pub record Gathering (file : List ℕ) (old new : Bases) (first : ℕ) (m t₀ : List ℕ) (source target : Cursor) (t : List ℕ) : Type 0 where
-  pub pieces : List Piece
-  pub at-old : Came file old first source pieces
-  pub at-new : Came file new first target pieces
-  pub together : source .at ≡ target .at
-  pub gathered : t ≡ transfer old new pieces m t₀
+  pub progress : Progress
+  pub at-old : Came file old first source progress
+  pub at-new : Came file new first target progress
+  pub gathered : t ≡ transfer old new (progress .pieces) m t₀
 
 module _ {file : List ℕ} {old new : Bases} {first : ℕ} {m t₀ : List ℕ} where
-  pub gathering-first : first ≤ length file → Gathering file old new first m t₀ (begun first) (begun first) t₀
+  pub gathering-first : first ≤ length file → Gathering file old new first m t₀ (firstCursor first) (firstCursor first) t₀
   unfolding transfer
-  gathering-first l = record { pieces = []; at-old = came-first l; at-new = came-first l; together = refl; gathered = refl }
+  gathering-first l = record { progress = begun first; at-old = came-first l; at-new = came-first l; gathered = refl }
 
   module _ {source target : Cursor} {t : List ℕ} (x : Gathering file old new first m t₀ source target t)
-      {qs : List Piece} {start start′ : Start} (yes-old : from file old first [] .answer ≡ accepted qs start)
-      (yes-new : from file new first [] .answer ≡ accepted qs start′) {found : Record} (is : found ≡ read file (source .at) (source .last)) where
-    pub found-old : recordAt file (source .at) (x .pieces) ≡ found
-    found-old = came-found (x .at-old) is
-
-    pub found-new : recordAt file (target .at) (x .pieces) ≡ found
-    found-new = ap (λ (i : ℕ). recordAt file i (x .pieces)) (sym (x .together)) ∙ found-old
+      {qs : List Piece} {start start′ : Start} (yes-old : recordsOf file old first .answer ≡ accepted qs start)
+      (yes-new : recordsOf file new first .answer ≡ accepted qs start′) {found : Record} (is : found ≡ read file (source .at) (source .last)) where
+    -- the record that the program reads is the definition's, at both pairs of bases
+    pub found-is : recordAt file (x .progress) ≡ found
+    found-is = came-found (x .at-old) is
 
     -- at the end record all pieces are gathered
     pub gathering-end : {entry : Entry} {next : ℕ} → found ≡ End entry next → t ≡ transfer old new qs m t₀
-    gathering-end e = x .gathered ∙ ap (λ (ps : List Piece). transfer old new ps m t₀) (came-to-end (x .at-old) yes-old found-old e)
+    gathering-end e = x .gathered ∙ ap (λ (ps : List Piece). transfer old new ps m t₀) (came-to-end (x .at-old) yes-old found-is e)
 
     -- every other record leads on
     pub gathering-onward : OneOf (0 ∷ 1 ∷ 3 ∷ []) (tagOf the-type found) → Onward found
-    gathering-onward h = came-onward (x .at-old) yes-old found-old h
+    gathering-onward h = came-onward (x .at-old) yes-old found-is h
 
     module _ (o : Onward found) where
-      pub next-old : Came file old first (advanced old source found) (piecesAfter file found (x .pieces))
-      next-old = came-on (x .at-old) found-old o (came-passes (x .at-old) yes-old)
+      pub next-old : Came file old first (advanced old source found) (stepped file (x .progress) found)
+      next-old = came-on (x .at-old) found-is o (came-passes (x .at-old) yes-old)
 
-      pub next-new : Came file new first (advanced new target found) (piecesAfter file found (x .pieces))
-      next-new = came-on (x .at-new) found-new o (came-passes (x .at-new) yes-new)
+      pub next-new : Came file new first (advanced new target found) (stepped file (x .progress) found)
+      next-new = came-on (x .at-new) found-is o (came-passes (x .at-new) yes-new)
 
       pub gathering-on : {t′ : List ℕ} → length m ≡ 65536 → length t ≡ 65536
           → t′ ≡ taken file old new (advanced old source found) (advanced new target found) m t found
           → Gathering file old new first m t₀ (advanced old source found) (advanced new target found) t′
       gathering-on lm lt e =
           record {
-            pieces = piecesAfter file found (x .pieces);
+            progress = stepped file (x .progress) found;
             at-old = next-old;
             at-new = next-new;
-            together = advanced-at old source found o ∙ sym (advanced-at new target found o);
             gathered =
                 e
-                ∙ taken-on file old new m t₀ t source target (x .pieces) (source .at) found lm lt (x .at-old .stands .inside)
-                (x .at-new .stands .inside)
+                ∙ taken-on file old new m t₀ t source target (x .progress) found lm lt (x .at-old .stands .inside) (x .at-new .stands .inside)
                 (ap (λ (k : Cursor). k .place) (x .at-new .here))
-                (ap (λ (k : Cursor). k .size) (x .at-new .here)) found-old o (x .gathered);
+                (ap (λ (k : Cursor). k .size) (x .at-new .here)) found-is o (x .gathered);
           }
 
       -- the record may be taken
       pub gathering-sound : Sound file (advanced new target found .size) found
       gathering-sound =
-          sound file new target (x .pieces) (target .at) found (x .at-new .stands .inside) (ap (λ (k : Cursor). k .size) (x .at-new .here))
-          found-new (came-passes (x .at-new) yes-new)
+          sound file new target (x .progress) found (x .at-new .stands .inside) (ap (λ (k : Cursor). k .size) (x .at-new .here)) found-is
+          (came-passes (x .at-new) yes-new)
 
+      -- its piece is as long at both
       pub gathering-sizes : advanced old source found .size ≡ advanced new target found .size
       gathering-sizes = ap (λ (k : Cursor). k .size) (next-old .here) ∙ sym (ap (λ (k : Cursor). k .size) (next-new .here))

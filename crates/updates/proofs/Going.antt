@@ -13,7 +13,7 @@ use Rattle.answer.specs.declared.Fault.the-variants.{CutShort}
 use Rattle.events.proofs.Events.{adjusted-append, reached-none, reached-more}
 use Rattle.events.proofs.Walks.{came-none, came-on, came-end}
 use Rattle.events.specs.Events.{Event, marks, adjustedIn, Ran, Reached, Did}
-use Rattle.events.specs.Walk.{Turn, ends, leads, after}
+use Rattle.events.specs.Walk.{Turn, ends, leads, after, bytesLeft}
 use Rattle.events.specs.declared.Check.{Check}
 use Rattle.events.specs.declared.Check.the-variants.{Passed, Failed}
 use Rattle.items.proofs.Item.{the-type}
@@ -24,7 +24,7 @@ use Rattle.items.specs.declared.Item.{Item}
 use Rattle.items.specs.declared.Item.the-variants.{Faulty, End, Move, Adjust}
 use Rattle.items.specs.declared.Slot.{Slot}
 use Rattle.updates.proofs.Turning.{Onward, adjusts, applied-counts, turn-falls, turn-further}
-use Rattle.updates.specs.Bodies.{applied, BodyState, Stop, broken, done, judge, turn, bytesLeft, items, body, ended}
+use Rattle.updates.specs.Bodies.{applied, BodyState, Stop, broken, done, judge, turn, items, body, ended}
 use Rattle.updates.specs.Cursor.{cursorAt, advanced}
 use Rattle.updates.specs.declared.Cursor.{Cursor}
 use Rattle.updates.specs.declared.Ended.{Ended}

@@ -10,7 +10,7 @@ use Rattle.answer.specs.declared.Fault.{Fault}
 use Rattle.events.proofs.Walks.{ends-leads, leads-same, ends-same}
 use Rattle.events.specs.Events.{Event, adjust, adjustedIn, Ran, failed}
 use Rattle.events.specs.Lists.{Each}
-use Rattle.events.specs.Walk.{ends, leads}
+use Rattle.events.specs.Walk.{ends, leads, bytesLeft}
 use Rattle.events.specs.declared.Check.{Check}
 use Rattle.events.specs.declared.Check.the-variants.{Passed, Failed}
 use Rattle.items.proofs.Reading.{Where, lies-as}
@@ -18,7 +18,7 @@ use Rattle.items.specs.Items.{read}
 use Rattle.items.specs.declared.Item.{Item}
 use Rattle.items.specs.declared.Item.the-variants.{Faulty, End, Move, Adjust}
 use Rattle.items.specs.declared.Slot.{Slot}
-use Rattle.updates.specs.Bodies.{adjusting, applied, BodyState, Stop, broken, done, judge, turn, bytesLeft}
+use Rattle.updates.specs.Bodies.{adjusting, applied, BodyState, Stop, broken, done, judge, turn}
 
 -- ---- what is adjusted
 

@@ -2,14 +2,14 @@
 -- Assumes nothing.
 use mathlib.Core.Bool.{Bool, not, _&&_, _||_}
 use mathlib.Core.List.{List, [], _∷_}
-use Prim.Native.Nat.{ℕ, _+_, _-_}
+use Prim.Native.Nat.{ℕ, _+_}
 use lib.Dec.{eqb}
-use lib.ListN.{length, getD}
+use lib.ListN.{getD}
 use Rattle.answer.specs.Checks.{need}
 use Rattle.answer.specs.declared.Fault.{Fault}
 use Rattle.answer.specs.declared.Fault.the-variants.{CutShort, FieldNotLoaded, AdjustedTwice}
 use Rattle.events.specs.Events.{Event, adjust, placedMark, adjustedMark, adjustedIn, Ran, failed, passed}
-use Rattle.events.specs.Walk.{Turn, ends, leads, from}
+use Rattle.events.specs.Walk.{Turn, ends, leads, from, bytesLeft}
 use Rattle.events.specs.declared.Check.{Check}
 use Rattle.events.specs.declared.Check.the-variants.{Passed, Failed}
 use Rattle.items.specs.Items.{read}
@@ -67,10 +67,6 @@ unfoldable pub turn : List ℕ → List Slot → ℕ → BodyState → List ℕ 
 turn file table amount s map =
     let item = read file table (s .at) (s .counter) in
     record { answer = judge (applied amount item map .answer) item; events = applied amount item map .events }
-
--- the bytes of a file from an offset on, by which the turns of a walk are counted down (there is no item and no block past the file's end)
-abbrev pub bytesLeft : List ℕ → ℕ → ℕ
-bytesLeft file at = length file - at
 
 -- the items from some state on
 unfoldable pub items : List ℕ → List Slot → ℕ → BodyState → List ℕ → Ran Stop

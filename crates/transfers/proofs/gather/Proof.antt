@@ -8,7 +8,7 @@ use borrow.Author.Needs.{needs}
 use lib.ListN.{length}
 use Rattle.acx.proofs.Cursors.{came-inside, came-counts, came-further, came-ends-by}
 use Rattle.acx.specs.Walk.{openingSize}
-use Rattle.transfers.proofs.Gathering.{Walkable, walkable, Gathering, gathering-first, gathering-end, gathering-onward, gathering-on, gathering-sound, gathering-sizes, found-old, found-new, next-old, next-new}
+use Rattle.transfers.proofs.Gathering.{Walkable, walkable, Gathering, gathering-first, gathering-end, gathering-onward, gathering-on, gathering-sound, gathering-sizes, found-is, next-old, next-new}
 use Rattle.transfers.proofs.gather.Statement.{statement}
 use Rattle.transfers.proofs.gather.Tie as tie
 
@@ -55,21 +55,19 @@ returns c =
 advance-requires : tie.Need-advance-requires Inv-loop μ-loop
 advance-requires c κs =
     let l = c .before .before .loop .inv in
-    let k = came-counts (l .2 .at-old) in
-    let i = l .2 .at-old .in-file in (
-      omega (arith, k, i, l .1 .fits),
-      omega (arith, k, i, l .1 .fits),
-      came-ends-by (l .2 .at-old) (found-old (l .2) (l .1 .yes-old) (l .1 .yes-new) (c .before .read .ensures)) 65536 (l .1 .fits),
+    let k = came-counts (l .2 .at-old) in (
+      omega (arith, k .0, k .1, l .1 .fits),
+      omega (arith, k .0, k .1, l .1 .fits),
+      came-ends-by (l .2 .at-old) (found-is (l .2) (l .1 .yes-old) (l .1 .yes-new) (c .before .read .ensures)) 65536 (l .1 .fits),
     )
 
 advance-requires-2 : tie.Need-advance-requires-2 Inv-loop μ-loop
 advance-requires-2 c κs =
     let l = c .before .before .before .loop .inv in
-    let k = came-counts (l .2 .at-new) in
-    let i = l .2 .at-new .in-file in (
-      omega (arith, k, i, l .1 .fits),
-      omega (arith, k, i, l .1 .fits),
-      came-ends-by (l .2 .at-new) (found-new (l .2) (l .1 .yes-old) (l .1 .yes-new) (c .before .before .read .ensures)) 65536 (l .1 .fits),
+    let k = came-counts (l .2 .at-new) in (
+      omega (arith, k .0, k .1, l .1 .fits),
+      omega (arith, k .0, k .1, l .1 .fits),
+      came-ends-by (l .2 .at-new) (found-is (l .2) (l .1 .yes-old) (l .1 .yes-new) (c .before .before .read .ensures)) 65536 (l .1 .fits),
     )
 
 take-requires : tie.Need-take-requires Inv-loop μ-loop
@@ -97,8 +95,8 @@ loop-less c =
     let v = l .1 .yes-new in
     let r = c .before .before .before .before .before .before .before .read .ensures in
     let on = gathering-onward x u v r (c .before .before .before .before .before .before .match .keys2) in
-    let f = came-further (x .at-old) (found-old x u v r) on in
-    let i = next-old x u v r on .in-file in
+    let f = came-further (x .at-old) (found-is x u v r) on in
+    let i = came-counts (next-old x u v r on) .0 in
     rw (c .before .before .before .before .before .advance .ensures) (omega (arith, f, i))
 
 loop-again : tie.Need-loop-again Inv-loop μ-loop

@@ -1,10 +1,10 @@
 -- `words::decode_words` meets its contract: up to `i` the list holds the words of the bytes, and from there on what it held.
 -- Assumes nothing.
-use mathlib.Core.Path.{_≡_, refl, _∙_}
+use mathlib.Core.Path.{_≡_, refl}
 use Prim.Native.Nat.{_≤_, _-_, _/_}
 use native.Mathlib.Omega.{arith}
 use borrow.Author.Needs.{needs}
-use lib.ListN.{length, drop, length-set}
+use lib.ListN.{length, length-set}
 use Rattle.words.proofs.Turns.{decode-more}
 use Rattle.words.proofs.decode_words.Statement.{statement}
 use Rattle.words.proofs.decode_words.Tie as tie

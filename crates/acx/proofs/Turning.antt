@@ -1,0 +1,179 @@
+-- One turn of the walk over the records: where it leads, that it moves on, and what it does.
+-- Assumes nothing.
+use mathlib.Core.List.{List, [], _∷_, _++_, append-assoc}
+use mathlib.Core.Path.{_≡_, refl, sym, ap, _∙_}
+use Prim.Native.Nat.{ℕ, _+_, _≤_, _<_}
+use native.Mathlib.Omega.{arith}
+use lib.ListN.{length}
+use Rattle.answer.specs.declared.Fault.{Fault}
+use Rattle.answer.specs.declared.Start.{Start}
+use Rattle.events.proofs.Walks.{ends-leads, leads-same, ends-same}
+use Rattle.events.specs.Events.{Event, place}
+use Rattle.events.specs.Walk.{ends, leads, bytesLeft}
+use Rattle.events.specs.declared.Check.{Check}
+use Rattle.events.specs.declared.Check.the-variants.{Passed, Failed}
+use Rattle.records.proofs.Reading.{Moving, lies-as, fixups-after}
+use Rattle.fields.specs.Fields.{fieldsOf}
+use Rattle.fields.specs.declared.Field.{Field}
+use Rattle.fields.specs.declared.Fixup.{Fixup}
+use Rattle.records.specs.declared.Entry.{Entry}
+use Rattle.records.specs.declared.Kind.{Kind}
+use Rattle.records.specs.declared.Record.{Record}
+use Rattle.records.specs.declared.Record.the-variants.{Code, Fixups, End, Faulty}
+use Rattle.words.specs.Runs.{part}
+use Rattle.pieces.proofs.Applying.{ending-none}
+use Rattle.pieces.proofs.Checks.{placing-passed, adjusting-all}
+use Rattle.pieces.proofs.PieceEvents.{adjustments-append, events-code}
+use Rattle.pieces.specs.AtBases.{placing, adjusting, applied}
+use Rattle.pieces.specs.Pieces.{Piece, placeAt, placeOf, limitOf, adjustments, events}
+use Rattle.acx.specs.Walk.{accepted, refused, Progress, lastOf, lastPlace, lastSize, recordAt, checked, withFields, stepped, judge, turn}
+use Rattle.pieces.specs.declared.Bases.{Bases}
+
+-- ---- verdicts told apart
+
+pub refused-accepted : {fault : Fault} {at : ℕ} {ps : List Piece} {start : Start} → refused fault at ≡ accepted ps start → ⊥
+refused-accepted e = let n : _≡_ {A = ℕ} 0 1 = cc in omega arith
+
+-- a verdict has one list of pieces
+pub accepted-pieces : {ps qs : List Piece} {start start′ : Start} → accepted ps start ≡ accepted qs start′ → ps ≡ qs
+accepted-pieces e = cc
+
+-- ---- where a record leads
+
+-- the record is not the last, nor a fault
+abbrev pub Onward : Record → Type 0
+Onward (Code kind address from n) = Unit {0}
+Onward (Fixups fixup from n) = Unit {0}
+Onward (End entry next) = ⊥
+Onward (Faulty fault) = ⊥
+
+-- the next record begins further on, in the file or at its end
+pub further : (file : List ℕ) (s : Progress) (r : Record) → recordAt file s ≡ r → Onward r
+    → (s .at + 2 ≤ stepped file s r .at) × (stepped file s r .at ≤ length file)
+further file s (Code kind address from n) e o = let w = lies-as file (s .at) (lastOf (s .pieces)) _ e in (omega (arith, w .0), w .1)
+further file s (Fixups fixup from n) e o = let w = lies-as file (s .at) (lastOf (s .pieces)) _ e in (omega (arith, w .0), w .1)
+further file s (End entry next) e o = absurd o
+further file s (Faulty fault) e o = absurd o
+
+-- a turn that leads on is a record that passed
+pub record Led (file : List ℕ) (b : Bases) (s : Progress) (map : List ℕ) (z : Progress) : Type 0 where
+  pub found : Record
+  pub is : recordAt file s ≡ found
+  pub on : Onward found
+  pub passed : checked file b s map .answer ≡ Passed
+  pub to : stepped file s found ≡ z
+
+module _ (file : List ℕ) (b : Bases) (s : Progress) (map : List ℕ) where
+  -- a turn does what its record does
+  pub turn-events : turn file b s map .events ≡ checked file b s map .events
+  unfolding turn
+  turn-events = refl
+
+  -- and comes to what its check and its record say
+  pub turn-is : (c : Check) (r : Record) → checked file b s map .answer ≡ c → recordAt file s ≡ r → turn file b s map .answer ≡ judge file b s c r
+  unfolding turn
+  turn-is c r e f = ap (λ (k : Check). judge file b s k (recordAt file s)) e ∙ ap (judge file b s c) f
+
+  -- a record that passed and is not the last leads on
+  pub turn-on : (r : Record) → recordAt file s ≡ r → Onward r → checked file b s map .answer ≡ Passed
+      → turn file b s map .answer ≡ leads (stepped file s r)
+  turn-on r e o c = turn-is Passed r c e ∙ goes r o
+    where
+      goes : (r : Record) → Onward r → judge file b s Passed r ≡ leads (stepped file s r)
+      goes (Code kind address from n) o = refl
+      goes (Fixups fixup from n) o = refl
+      goes (End entry next) o = absurd o
+      goes (Faulty fault) o = absurd o
+
+  -- and nothing else does
+  pub turn-led : (z : Progress) → turn file b s map .answer ≡ leads z → Led file b s map z
+  turn-led z e = by (checked file b s map .answer) (recordAt file s) refl refl (sym (turn-is _ _ refl refl) ∙ e)
+    where
+      by : (c : Check) (r : Record) → checked file b s map .answer ≡ c → recordAt file s ≡ r → judge file b s c r ≡ leads z → Led file b s map z
+      by (Failed fault) r c i e = absurd (ends-leads e)
+      by Passed (Code kind address from n) c i e = record { found = _; is = i; on = tt; passed = c; to = leads-same e }
+      by Passed (Fixups fixup from n) c i e = record { found = _; is = i; on = tt; passed = c; to = leads-same e }
+      by Passed (End entry next) c i e = absurd (ends-leads e)
+      by Passed (Faulty fault) c i e = absurd (ends-leads e)
+
+  -- the end record does nothing
+  pub end-none : (entry : Entry) (next : ℕ) → recordAt file s ≡ End entry next → checked file b s map .events ≡ []
+  unfolding checked applied
+  end-none entry next e = rw e (ending-none b entry next (length file))
+
+  -- a turn accepts a file at its end record alone, with the pieces so far
+  pub turn-accepted : (ps : List Piece) (start : Start) → turn file b s map .answer ≡ ends (accepted ps start)
+      → (s .pieces ≡ ps) × (entry : Entry) × (next : ℕ) × (recordAt file s ≡ End entry next)
+  turn-accepted ps start e = by (checked file b s map .answer) (recordAt file s) refl (sym (turn-is _ _ refl refl) ∙ e)
+    where
+      by : (c : Check) (r : Record) → recordAt file s ≡ r → judge file b s c r ≡ ends (accepted ps start)
+          → (s .pieces ≡ ps) × (entry : Entry) × (next : ℕ) × (recordAt file s ≡ End entry next)
+      by (Failed fault) r i e = absurd (refused-accepted (ends-same e))
+      by Passed (Code kind address from n) i e = absurd (ends-leads (sym e))
+      by Passed (Fixups fixup from n) i e = absurd (ends-leads (sym e))
+      by Passed (End entry next) i e = (accepted-pieces (ends-same e), entry, next, i)
+      by Passed (Faulty fault) i e = absurd (refused-accepted (ends-same e))
+
+-- each turn that leads on leaves fewer bytes
+pub turn-falls : (file : List ℕ) (b : Bases) (s z : Progress) (map : List ℕ) → turn file b s map .answer ≡ leads z
+    → bytesLeft file (z .at) < bytesLeft file (s .at)
+turn-falls file b s z map e =
+    let l = turn-led file b s map z e in
+    let h = further file s (l .found) (l .is) (l .on) in
+    omega (arith, h .0, h .1, ap (λ (y : Progress). y .at) (l .to))
+
+-- ---- a record that passed
+
+module _ (file : List ℕ) (b : Bases) (s : Progress) (map : List ℕ) where
+  -- code found room and nothing placed there
+  pub code-passed : (kind : Kind) (address from n : ℕ) → recordAt file s ≡ Code kind address from n → checked file b s map .answer ≡ Passed
+      → placing (placeAt b kind address) (limitOf kind) (part file from n) map .answer ≡ Passed
+  unfolding checked applied
+  code-passed kind address from n e c = rw e at c
+
+  code-events : (kind : Kind) (address from n : ℕ) → recordAt file s ≡ Code kind address from n
+      → checked file b s map .events ≡ placing (placeAt b kind address) (limitOf kind) (part file from n) map .events
+  unfolding checked applied
+  code-events kind address from n e = rw e refl
+
+  -- each field lay in the last code and met none before it
+  pub fixups-passed : (fixup : Fixup) (from n : ℕ) → recordAt file s ≡ Fixups fixup from n → checked file b s map .answer ≡ Passed
+      → adjusting b (lastPlace b (s .pieces)) (lastSize (s .pieces)) (fieldsOf fixup (part file from n)) map .answer ≡ Passed
+  unfolding checked applied
+  fixups-passed fixup from n e c = rw e at c
+
+  fixups-events : (fixup : Fixup) (from n : ℕ) → recordAt file s ≡ Fixups fixup from n
+      → checked file b s map .events
+      ≡ adjusting b (lastPlace b (s .pieces)) (lastSize (s .pieces)) (fieldsOf fixup (part file from n)) map .events
+  unfolding checked applied
+  fixups-events fixup from n e = rw e refl
+
+-- fields more: they are adjusted
+events-fields : (b : Bases) (fs : List Field) (p : Piece) (ps : List Piece)
+    → events b (withFields fs (p ∷ ps)) ≡ events b (p ∷ ps) ++ adjustments b (placeOf b p) fs
+unfolding events
+events-fields b fs p ps =
+    ap (λ (es : List Event). events b ps ++ (place (placeOf b p) (p .code) ∷ es)) (adjustments-append b (placeOf b p) (p .fields) fs)
+    ∙ sym (append-assoc (events b ps) (place (placeOf b p) (p .code) ∷ adjustments b (placeOf b p) (p .fields)) (adjustments b (placeOf b p) fs))
+
+-- fixups stand after a piece
+pub fields-events : (b : Bases) (fs : List Field) (ps : List Piece) → Moving (lastOf ps)
+    → events b (withFields fs ps) ≡ events b ps ++ adjustments b (lastPlace b ps) fs
+fields-events b fs [] m = absurd m
+fields-events b fs (p ∷ ps) m = events-fields b fs p ps
+
+-- the events of the pieces after a record are those before it and the record's own
+pub events-after : (file : List ℕ) (b : Bases) (s : Progress) (map : List ℕ) (r : Record) → recordAt file s ≡ r → Onward r
+    → checked file b s map .answer ≡ Passed
+    → events b (stepped file s r .pieces) ≡ events b (s .pieces) ++ checked file b s map .events
+events-after file b s map (Code kind address from n) e o c =
+    let p : Piece = record { kind = kind; address = address; code = part file from n; fields = [] } in
+    events-code b p (s .pieces) refl
+    ∙ ap (λ (es : List Event). events b (s .pieces) ++ es)
+    (sym (code-events file b s map kind address from n e ∙ placing-passed _ _ _ _ (code-passed file b s map kind address from n e c) .2))
+events-after file b s map (Fixups fixup from n) e o c =
+    fields-events b (fieldsOf fixup (part file from n)) (s .pieces) (fixups-after file (s .at) (lastOf (s .pieces)) fixup from n e)
+    ∙ ap (λ (es : List Event). events b (s .pieces) ++ es)
+    (sym (fixups-events file b s map fixup from n e ∙ adjusting-all b _ _ _ _ (fixups-passed file b s map fixup from n e c)))
+events-after file b s map (End entry next) e o c = absurd o
+events-after file b s map (Faulty fault) e o c = absurd o
