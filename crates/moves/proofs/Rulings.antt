@@ -38,10 +38,11 @@ module _ (file : List ℕ) (form : ℕ) (ps : List Piece) (b : Bases) (h : Accep
   pub follows : Follows form b file
   follows = load-follows form b file ps (h .0) (h .1)
 
+  -- and its records come to what the load comes to
   pub verdict : judged (formOf form) file b .answer ≡ accepted ps (h .0)
   verdict = ap (λ (o : Ran Verdict). o .answer) (sym (follows .by-rules)) ∙ h .1
 
-  -- the bases are in their ranges
+  -- both bases are addresses
   pub in-range : (b .main ≤ 65535) × (b .zero ≤ 65535)
   in-range =
       let k = range-bounds form b (follows .range) in

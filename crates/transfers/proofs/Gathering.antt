@@ -55,6 +55,7 @@ pub record Walkable (form : ℕ) (old new : Bases) (file : List ℕ) (first : �
   pub yes-old : from file old first [] .answer ≡ accepted (piecesOf (rulingOf form old new file)) start
   pub yes-new : from file new first [] .answer ≡ accepted (piecesOf (rulingOf form old new file)) start′
 
+-- it can, from the offset behind the opening on
 pub walkable : (form : ℕ) (old new : Bases) (file : List ℕ) (first : ℕ) → first ≡ openingSize (formOf form)
     → Allows (rulingOf form old new file) → Walkable form old new file first
 walkable form old new file first e h =
@@ -227,6 +228,7 @@ pub record Gathering (file : List ℕ) (old new : Bases) (first : ℕ) (m t₀ :
   pub gathered : t ≡ transfer old new pieces m t₀
 
 module _ {file : List ℕ} {old new : Bases} {first : ℕ} {m t₀ : List ℕ} where
+  -- before the first record nothing is gathered
   pub gathering-first : first ≤ length file → Gathering file old new first m t₀ (begun first) (begun first) t₀
   unfolding transfer
   gathering-first l = record { pieces = []; at-old = came-first l; at-new = came-first l; together = refl; gathered = refl }
@@ -234,6 +236,7 @@ module _ {file : List ℕ} {old new : Bases} {first : ℕ} {m t₀ : List ℕ} w
   module _ {source target : Cursor} {t : List ℕ} (x : Gathering file old new first m t₀ source target t)
       {qs : List Piece} {start start′ : Start} (yes-old : from file old first [] .answer ≡ accepted qs start)
       (yes-new : from file new first [] .answer ≡ accepted qs start′) {found : Record} (is : found ≡ read file (source .at) (source .last)) where
+    -- the record that was read is the definition's at both cursors
     pub found-old : recordAt file (source .at) (x .pieces) ≡ found
     found-old = came-found (x .at-old) is
 
@@ -249,12 +252,14 @@ module _ {file : List ℕ} {old new : Bases} {first : ℕ} {m t₀ : List ℕ} w
     gathering-onward h = came-onward (x .at-old) yes-old found-old h
 
     module _ (o : Onward found) where
+      -- the walks at both pairs of bases come to their cursors behind it
       pub next-old : Came file old first (advanced old source found) (piecesAfter file found (x .pieces))
       next-old = came-on (x .at-old) found-old o (came-passes (x .at-old) yes-old)
 
       pub next-new : Came file new first (advanced new target found) (piecesAfter file found (x .pieces))
       next-new = came-on (x .at-new) found-new o (came-passes (x .at-new) yes-new)
 
+      -- and the scratch holds what the record brings
       pub gathering-on : {t′ : List ℕ} → length m ≡ 65536 → length t ≡ 65536
           → t′ ≡ taken file old new (advanced old source found) (advanced new target found) m t found
           → Gathering file old new first m t₀ (advanced old source found) (advanced new target found) t′
@@ -278,5 +283,6 @@ module _ {file : List ℕ} {old new : Bases} {first : ℕ} {m t₀ : List ℕ} w
           sound file new target (x .pieces) (target .at) found (x .at-new .stands .inside) (ap (λ (k : Cursor). k .size) (x .at-new .here))
           found-new (came-passes (x .at-new) yes-new)
 
+      -- the last code has one size at both cursors
       pub gathering-sizes : advanced old source found .size ≡ advanced new target found .size
       gathering-sizes = ap (λ (k : Cursor). k .size) (next-old .here) ∙ sym (ap (λ (k : Cursor). k .size) (next-new .here))
