@@ -228,7 +228,7 @@ unfolding load
 at-once-carried file g e f clear = rw e (record { outcome = f; memory = refl; map = clear; names = refl; addresses = refl })
 
 module _ (file : List ℕ) (g : Given) where
-  -- buffers of another length: 1, and nothing is changed
+  -- some length is wrong: 1, and nothing is changed
   pub loaded-wrong : (right : Bool) (b : Rooms) (r : Outcome) → right ≡ false → r ≡ Refused WrongBuffer 0 0 → Loaded file g right b r b
   unfolding call need pick
   loaded-wrong right b r h e =
