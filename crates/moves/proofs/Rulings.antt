@@ -103,7 +103,7 @@ both form old new file ps e =
     let s : x .0 .0 ≡ ps = same-at file form (x .0 .0) ps old new h (x .1) in
     (subst (λ (qs : List Piece). AcceptedAt file form qs old) s h, x .1)
 
--- and both pairs are in their ranges
+-- and all four bases are addresses
 pub ranges : (form : ℕ) (old new : Bases) (file : List ℕ) → Allows (rulingOf form old new file)
     → ((old .main ≤ 65535) × (old .zero ≤ 65535)) × ((new .main ≤ 65535) × (new .zero ≤ 65535))
 ranges form old new file h =

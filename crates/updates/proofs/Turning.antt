@@ -139,7 +139,7 @@ abbrev nextOf : Stop → ℕ
 nextOf (broken fault) = 0
 nextOf (done next) = suc next
 
--- a fault is no end of a body, and an end has one offset
+-- a body that broke at a fault is not done, and one that is done ends at one offset
 pub broken-done : {fault : Fault} {next : ℕ} → broken fault ≡ done next → ⊥
 broken-done {fault} {next} e = let z : 0 ≡ suc next = ap nextOf e in omega arith
 

@@ -67,7 +67,7 @@ store-value k l i f h =
 -- ---- one number replaced
 
 module _ (k : ℕ) (g : ℕ → ℕ) (l : List ℕ) (i : ℕ) where
-  -- the same as of a store: the length, bytes, and all outside the k bytes
+  -- as a store does, it keeps the length, bytes, and all outside the k bytes
   pub length-change : length (change k g l i) ≡ length l
   unfolding change
   length-change = length-store k l i (g (value k l i))
