@@ -81,6 +81,7 @@ module _ (file : List ℕ) (high : ℕ) (lent own : List ℕ) (c : Cursor) where
       (λ k. checked _ _ _
       (λ l. let header : c .at + 13 ≤ length file = leb-true _ _ h in record { lies = (omega arith, omega arith, ltb-true _ _ l) })))))
 
+  -- so it is for the block that is read, of whatever kind
   pub read-lies : high ≤ 65535 → Fits (length file) c (length lent / 8) (length own / 8) (read file high lent own c)
   unfolding read
   read-lies h =

@@ -37,6 +37,7 @@ plainEnd (Update source from) = 0
 plainEnd (NewName from address) = 0
 plainEnd (Faulty fault) = 0
 
+-- a plain block is in memory if it ends there; of any other block nothing is asked
 pub in-memory : (b : Block) → plainEnd b ≤ 65536 → InMemory b
 in-memory b h = record { ends = λ address from size e. rw (← ap plainEnd e) h }
 
@@ -73,19 +74,23 @@ new-name-in-memory file c =
 -- ---- plain
 
 module _ (file : List ℕ) (at : ℕ) where
+  -- start and end are not both present: 5
   pub plain-cut : length file < at + 4 → Faulty CutShort ≡ readPlain file at
   unfolding readPlain need
   plain-cut h = rw (lt-leb _ _ h) refl
 
   module _ (start last : ℕ) (es : start ≡ value 2 file at) (el : last ≡ value 2 file (at + 2)) (header : at + 4 ≤ length file) where
+    -- end below start: 9
     pub plain-back : last < start → Faulty LengthNotAllowed ≡ readPlain file at
     unfolding readPlain need
     plain-back h = rw (le-leb _ _ header, ← es, ← el, lt-leb _ _ h) refl
 
+    -- not all its bytes are present: 5
     pub plain-short : start ≤ last → length file < at + 4 + (last - start + 1) → Faulty CutShort ≡ readPlain file at
     unfolding readPlain need
     plain-short h i = rw (le-leb _ _ header, ← es, ← el, le-leb _ _ h, lt-leb _ _ i) refl
 
+    -- else it is a plain block
     pub plain-read : start ≤ last → at + 4 + (last - start + 1) ≤ length file → Plain start (at + 4) (last - start + 1) ≡ readPlain file at
     unfolding readPlain need
     plain-read h i = rw (le-leb _ _ header, ← es, ← el, le-leb _ _ h, le-leb _ _ i) refl
@@ -93,16 +98,19 @@ module _ (file : List ℕ) (at : ℕ) where
 -- ---- relocatable
 
 module _ (file : List ℕ) (high : ℕ) (c : Cursor) (number : ℕ) (reserves : Bool) where
+  -- the number was used before: 7
   pub room-used : slotAt (c .table) number .taken ≡ true → Faulty BlockTaken ≡ readRoom file high c number reserves
   unfolding readRoom need
   room-used h = rw h refl
 
   module _ (new : slotAt (c .table) number .taken ≡ false) where
+    -- there are seven blocks so far: 7
     pub room-eighth : 7 ≤ c .count → Faulty BlockTaken ≡ readRoom file high c number reserves
     unfolding readRoom need
     room-eighth h = rw (new, le-ltb _ _ h) refl
 
     module _ (left : c .count < 7) (size k : ℕ) (es : size ≡ value 2 file (c .at + 6)) (ek : k ≡ dataSize reserves size) where
+      -- not all its data are present: 5
       pub room-cut : length file < c .at + 8 + k → Faulty CutShort ≡ readRoom file high c number reserves
       unfolding readRoom need
       room-cut h = let i : length file < c .at + 8 + dataSize reserves size = rw (← ek) h in rw (new, lt-ltb _ _ left, ← es, lt-leb _ _ i) refl
@@ -111,26 +119,31 @@ module _ (file : List ℕ) (high : ℕ) (c : Cursor) (number : ℕ) (reserves : 
         held : c .at + 8 + dataSize reserves size ≤ length file
         held = rw (← ek) here
 
+        -- low + length is above high: 10
         pub room-high : high < c .low + size → Faulty DoesNotFit ≡ readRoom file high c number reserves
         unfolding readRoom need
         room-high h = rw (new, lt-ltb _ _ left, ← es, le-leb _ _ held, lt-leb _ _ h) refl
 
+        -- else it is a relocatable block
         pub room-read : c .low + size ≤ high → (offset : ℕ) → offset ≡ value 2 file (c .at + 4)
             → Relocatable reserves number offset (c .at + 8) size ≡ readRoom file high c number reserves
         unfolding readRoom need
         room-read h offset eo = rw (new, lt-ltb _ _ left, ← es, le-leb _ _ held, le-leb _ _ h, eo) refl
 
 module _ (file : List ℕ) (high : ℕ) (c : Cursor) where
+  -- number, id, offset and length are not all present: 5
   pub relocatable-cut : length file < c .at + 8 → Faulty CutShort ≡ readRelocatable file high c
   unfolding readRelocatable need
   relocatable-cut h = rw (lt-leb _ _ h) refl
 
   module _ (header : c .at + 8 ≤ length file) (number : ℕ) (en : number ≡ getD file (c .at + 2) 0) where
+    -- the number is above 7: 6
     pub relocatable-number : 7 < number → Faulty NotKnown ≡ readRelocatable file high c
     unfolding readRelocatable need
     relocatable-number h = rw (le-leb _ _ header, ← en, lt-leb _ _ h) refl
 
     module _ (known : number ≤ 7) (id : ℕ) (ei : id ≡ getD file (c .at + 3) 0) where
+      -- id 00 is a block with data, id 80 one that only reserves; the checks of its room decide
       pub relocatable-data : (r : Block) → id ≡ 0 → r ≡ readRoom file high c number false → r ≡ readRelocatable file high c
       unfolding readRelocatable need
       relocatable-data r e h = let f : getD file (c .at + 3) 0 ≡ 0 = sym ei ∙ e in rw (le-leb _ _ header, ← en, le-leb _ _ known, f) h
@@ -139,6 +152,7 @@ module _ (file : List ℕ) (high : ℕ) (c : Cursor) where
       unfolding readRelocatable need
       relocatable-reserves r e h = let f : getD file (c .at + 3) 0 ≡ 128 = sym ei ∙ e in rw (le-leb _ _ header, ← en, le-leb _ _ known, f) h
 
+      -- any other id: 6
       pub relocatable-id : (id ≡ 0 → ⊥) → (id ≡ 128 → ⊥) → Faulty NotKnown ≡ readRelocatable file high c
       unfolding readRelocatable need
       relocatable-id h i = rw (le-leb _ _ header, ← en, le-leb _ _ known, ← ei, ne-eqb _ _ h, ne-eqb _ _ i) refl
@@ -146,19 +160,23 @@ module _ (file : List ℕ) (high : ℕ) (c : Cursor) where
 -- ---- update
 
 module _ (file : List ℕ) (c : Cursor) where
+  -- number and length word are not both present: 5
   pub update-cut : length file < c .at + 5 → Faulty CutShort ≡ readUpdate file c
   unfolding readUpdate need
   update-cut h = rw (lt-leb _ _ h) refl
 
   module _ (header : c .at + 5 ≤ length file) (number : ℕ) (en : number ≡ getD file (c .at + 2) 0) where
+    -- the number is above 7: 6
     pub update-number : 7 < number → Faulty NotKnown ≡ readUpdate file c
     unfolding readUpdate need
     update-number h = rw (le-leb _ _ header, ← en, lt-leb _ _ h) refl
 
+    -- the block is not there yet: 8
     pub update-missing : number ≤ 7 → slotAt (c .table) number .taken ≡ false → Faulty BlockMissing ≡ readUpdate file c
     unfolding readUpdate need
     update-missing h i = rw (le-leb _ _ header, ← en, le-leb _ _ h, i) refl
 
+    -- else its body begins behind the length word
     pub update-read : number ≤ 7 → slotAt (c .table) number .taken ≡ true → Update (Number number) (c .at + 5) ≡ readUpdate file c
     unfolding readUpdate need
     update-read h i = rw (le-leb _ _ header, ← en, le-leb _ _ h, i) refl
@@ -166,38 +184,46 @@ module _ (file : List ℕ) (c : Cursor) where
 -- ---- new name
 
 module _ (file : List ℕ) (c : Cursor) (slot : Slot) (offset : ℕ) (eo : offset ≡ value 2 file (c .at + 3)) where
+  -- the offset is below the block's: 16
   pub address-below : offset < slot .offset → Faulty NameOutsideBlock ≡ readAddress file c slot
   unfolding readAddress need
   address-below h = rw (← eo, lt-leb _ _ h) refl
 
   module _ (above : slot .offset ≤ offset) where
+    -- offset − block offset is not below the length: 16
     pub address-past : slot .size ≤ offset - slot .offset → Faulty NameOutsideBlock ≡ readAddress file c slot
     unfolding readAddress need
     address-past h = rw (← eo, le-leb _ _ above, le-ltb _ _ h) refl
 
     module _ (inside : offset - slot .offset < slot .size) where
+      -- there are 32 new names so far: 15
       pub address-full : 32 ≤ c .named → Faulty TooManyNames ≡ readAddress file c slot
       unfolding readAddress need
       address-full h = rw (← eo, le-leb _ _ above, lt-ltb _ _ inside, le-ltb _ _ h) refl
 
+      -- else it is a new name, at block address + offset − block offset
       pub address-read : c .named < 32 → NewName (c .at + 5) (slot .address + (offset - slot .offset)) ≡ readAddress file c slot
       unfolding readAddress need
       address-read h = rw (← eo, le-leb _ _ above, lt-ltb _ _ inside, lt-ltb _ _ h) refl
 
 module _ (file : List ℕ) (c : Cursor) where
+  -- number, offset word and name are not all present: 5
   pub new-name-cut : length file < c .at + 13 → Faulty CutShort ≡ readNewName file c
   unfolding readNewName need
   new-name-cut h = rw (lt-leb _ _ h) refl
 
   module _ (header : c .at + 13 ≤ length file) (number : ℕ) (en : number ≡ getD file (c .at + 2) 0) where
+    -- the number is above 7: 6
     pub new-name-number : 7 < number → Faulty NotKnown ≡ readNewName file c
     unfolding readNewName need
     new-name-number h = rw (le-leb _ _ header, ← en, lt-leb _ _ h) refl
 
+    -- the block is not there yet: 8
     pub new-name-missing : number ≤ 7 → slotAt (c .table) number .taken ≡ false → Faulty BlockMissing ≡ readNewName file c
     unfolding readNewName need
     new-name-missing h i = rw (le-leb _ _ header, ← en, le-leb _ _ h, i) refl
 
+    -- else its address decides
     pub new-name-read : (r : Block) → number ≤ 7 → slotAt (c .table) number .taken ≡ true → r ≡ readAddress file c (slotAt (c .table) number)
         → r ≡ readNewName file c
     unfolding readNewName need
@@ -216,10 +242,12 @@ pub listed-own : (lent own : ℕ) (s : Source) (i : ℕ) → Listed lent own s �
 listed-own lent own s i h e = rw e at h
 
 module _ (table : List Slot) (lent own : List ℕ) (s : Source) where
+  -- by a block: the number that, added to its offset, gives its address, modulo 65,536
   pub amount-number : (n r : ℕ) → s ≡ Number n → r < 65536 → (r + slotAt table n .offset) % 65536 ≡ slotAt table n .address
       → r ≡ amountOf table lent own s
   amount-number n r e h i = rw e (off-is 2 _ _ r h i)
 
+  -- by a name, lent or the file's own: its address
   pub amount-lent : (i r : ℕ) → s ≡ LentName i → r ≡ getD lent i 0 → r ≡ amountOf table lent own s
   amount-lent i r e h = rw e h
 
@@ -229,10 +257,12 @@ module _ (table : List Slot) (lent own : List ℕ) (s : Source) where
 -- ---- names
 
 module _ (file lent own : List ℕ) (c : Cursor) where
+  -- name and length word are not both present: 5
   pub names-cut : length file < c .at + 12 → Faulty CutShort ≡ readNames file lent own c
   unfolding readNames need
   names-cut h = rw (lt-leb _ _ h) refl
 
+  -- else the definition that holds decides
   pub names-read : (name : List ℕ) (d e : Definition) → c .at + 12 ≤ length file → name ≡ part file (c .at + 2) 8 → d ≡ lookUp own lent name → d ≡ e
       → byDefinition (c .at + 12) e ≡ readNames file lent own c
   unfolding readNames need
@@ -241,11 +271,13 @@ module _ (file lent own : List ℕ) (c : Cursor) where
 -- ---- by the first word
 
 module _ (file : List ℕ) (high : ℕ) (lent own : List ℕ) (c : Cursor) where
+  -- no whole word is left: 5
   pub read-cut : length file < c .at + 2 → Faulty CutShort ≡ read file high lent own c
   unfolding read need
   read-cut h = rw (lt-leb _ _ h) refl
 
   module _ (header : c .at + 2 ≤ length file) (word : ℕ) (ew : word ≡ value 2 file (c .at)) (r : Block) where
+    -- below FFFA it is the start of a plain block without marker
     pub read-unmarked : word < 65530 → r ≡ readPlain file (c .at) → r ≡ read file high lent own c
     unfolding read need pick
     read-unmarked h e = rw (le-leb _ _ header, ← ew, lt-ltb _ _ h) e
@@ -254,6 +286,7 @@ module _ (file : List ℕ) (high : ℕ) (lent own : List ℕ) (c : Cursor) where
     here : (w : ℕ) → word ≡ w → value 2 file (c .at) ≡ w
     here w e = sym ew ∙ e
 
+    -- FFFB, FFFC, FFFD and FFFE each mark their kind
     pub read-names : word ≡ 65531 → r ≡ readNames file lent own c → r ≡ read file high lent own c
     unfolding read need pick
     read-names e i = rw (le-leb _ _ header, here 65531 e) i

@@ -28,6 +28,7 @@ use Rattle.calls.specs.Sdx.{Called as SdxCalled}
 
 -- ---- the answer
 
+-- an answer of 36 bytes holds the nine numbers, and the first of them is returned
 pub tells : (o : Outcome) (a : List ℕ) (r : ℕ) (a′ : List ℕ) → length a ≡ 36 → r ≡ numberReturned o → a′ ≡ answerBytes o → Told o a r a′
 unfolding pick
 tells o a r a′ h er ea = record { returned = er; answer = rw (eq-eqb _ _ h) ea }
@@ -39,6 +40,7 @@ untold a r h er = record { returned = er; answer = rw (ne-eqb _ _ h) refl }
 -- ---- the ACX loader
 
 module _ {form : ℕ} {b : Bases} {file m p a : List ℕ} {r : ℕ} where
+  -- an answer of another length: 1, and nothing is done
   pub acx-untold : (length a ≡ 36 → ⊥) → r ≡ numberOf WrongBuffer → AcxCalled form b file m p a r m p a
   unfolding acxCall need pick
   acx-untold h e =
@@ -49,6 +51,7 @@ module _ {form : ℕ} {b : Bases} {file m p a : List ℕ} {r : ℕ} where
         told = untold a r h e;
       }
 
+  -- else what the loader did is told
   pub acx-told : {o : Outcome} {m′ p′ a′ : List ℕ} → length a ≡ 36 → Loaded form b file (sized m p) m p o m′ p′ → Told o a r a′
       → AcxCalled form b file m p a r m′ p′ a′
   acx-told {o} h d t = record { outcome = o; loaded = rw (eq-eqb _ _ h) d; told = t }

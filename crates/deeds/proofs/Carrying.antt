@@ -45,6 +45,7 @@ unfolding adjustedIn play
 reserved-did file low from size true m p p′ h = record { answer = refl; reached = record { memory = refl; map = h } }
 reserved-did file low from size false m p p′ h = record { answer = refl; reached = record { memory = refl; map = h } }
 
+-- a relocatable block: reserved only, or placed
 pub laying-reserved : (reserves : Bool) (file : List ℕ) (low from size : ℕ) (write : Bool) (m p p′ : List ℕ) → reserves ≡ true
     → p′ ≡ marks (reserve low size ∷ []) p
     → Did Ended (ended (laying reserves file low from size)) write m p (Done from 0) m p′
@@ -55,6 +56,7 @@ pub laying-placed : (reserves : Bool) (file : List ℕ) (low from size : ℕ) (w
     → Did Ended (ended (placing file low from size)) write m p r m′ p′ → Did Ended (ended (laying reserves file low from size)) write m p r m′ p′
 laying-placed reserves file low from size write m p r m′ p′ e h = rw e h
 
+-- each kind of block comes to what its part comes to
 module _ (file lent own : List ℕ) (c : Cursor) (b : Block) (write : Bool) (m p : List ℕ) where
   pub carried-plain : (address from size : ℕ) (r : Ended) (m′ p′ : List ℕ) → b ≡ Plain address from size
       → Did Ended (ended (placing file address from size)) write m p r m′ p′ → Did Ended (ended (carried file lent own c b p)) write m p r m′ p′
@@ -70,6 +72,7 @@ module _ (file lent own : List ℕ) (c : Cursor) (b : Block) (write : Bool) (m p
       → Did Ended (ended (carried file lent own c b p)) write m p r m′ p′
   carried-body source from amount r m′ p′ e a h = rw (e, ← a) h
 
+  -- a new name and a fault leave memory and the map as they are
   pub carried-name : (from address : ℕ) → b ≡ NewName from address
       → Did Ended (ended (carried file lent own c b p)) write m p (Done (from + 8) 0) m p
   unfolding adjustedIn

@@ -29,6 +29,7 @@ pub record Ends (len at next : ℕ) (es : List Event) : Type 0 where
   pub inside : next ≤ len
   pub behind : at + placedIn es + adjustedIn es ≤ next
 
+-- it does so whatever its kind
 pub carried-ends : (file lent own : List ℕ) (c : Cursor) (b : Block) (map : List ℕ) (n k : ℕ) → Fits (length file) c n k b → (next : ℕ)
     → carried file lent own c b map .answer ≡ done next → Ends (length file) (c .at) next (carried file lent own c b map .events)
 unfolding placedIn adjustedIn
@@ -72,6 +73,7 @@ pub record Behind (len : ℕ) (c : Cursor) (es : List Event) : Type 0 where
   pub inside : c .at ≤ len
   pub counts : placedIn es + adjustedIn es ≤ c .at
 
+-- before the first block
 pub behind-first : (len low : ℕ) → Behind len (firstCursor low) []
 unfolding placedIn adjustedIn
 behind-first len low = record { inside = omega arith; counts = omega arith }
@@ -111,6 +113,7 @@ abbrev countIn : Ended → ℕ
 countIn (Broken fault) = 0
 countIn (Done next adjusted) = adjusted
 
+-- an end in these terms is the same end in the definition's
 pub stop-broken : (s : Stop) (es : List Event) (fault : Fault) → counted s es ≡ Broken fault → s ≡ broken fault
 stop-broken (broken f) es fault e = ap (λ (r : Ended). broken (faultOf fault r)) e
 stop-broken (done next) es fault e = let z : _≡_ {A = ℕ} 1 0 = ap isDone e in absurd (omega arith)

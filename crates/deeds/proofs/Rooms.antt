@@ -38,6 +38,7 @@ pub record Counted (c : Cursor) (names addresses : List ℕ) : Type 0 where
   pub each : length addresses ≡ c .named
   pub few : c .named ≤ 32
 
+-- before the first block there are none
 pub counted-first : (low : ℕ) → Counted (firstCursor low) [] []
 counted-first low = record { bytes = omega arith; each = refl; few = omega arith }
 
@@ -51,6 +52,7 @@ counted-same c d names addresses e h =
       few = omega (arith, h .few, e);
     }
 
+-- after a block it holds with the name that the block brings, if any
 pub counted-on : (file : List ℕ) (c : Cursor) (b : Block) (next lent own : ℕ) (names addresses : List ℕ) → Fits (length file) c lent own b
     → Counted c names addresses → Counted (advanced c b next) (names ++ nameIn file b) (addresses ++ addressIn b)
 counted-on file c (Plain address from size) next lent own names addresses f h = counted-same c _ names addresses refl h
@@ -82,6 +84,7 @@ packed-set table number slot h i p = record { packed = λ n. by n (eqb n number)
     by n true e = rw (eqb-true n number e, getD-set-same table number slot emptySlot h) i
     by n false e = rw (getD-set-other table number n slot emptySlot (eqb-false n number e)) (p .packed n)
 
+-- before the first block no slot is taken
 pub tabled-first : (low : ℕ) → Tabled (firstCursor low)
 tabled-first low = record { slots = refl; packed = record { packed = λ n. empty 8 n }; few = omega arith }
   where
@@ -90,6 +93,7 @@ tabled-first low = record { slots = refl; packed = record { packed = λ n. empty
     empty (suc k) zero = omega arith
     empty (suc k) (suc n) = empty k n
 
+-- after a block it holds with the slot that the block takes, if any
 pub tabled-on : (c : Cursor) (b : Block) (next len lent own : ℕ) → Fits len c lent own b → Tabled c → Tabled (advanced c b next)
 tabled-on c (Plain address from size) next len lent own f h = record { slots = h .slots; packed = h .packed; few = h .few }
 tabled-on c (Relocatable reserves number offset from size) next len lent own f h =

@@ -27,6 +27,7 @@ sdx-sized low high = rw length-blank refl
 acx-sized : sizedAcx blank blank ≡ true
 acx-sized = rw length-blank refl
 
+-- so its nine numbers are those that an SDX case prints, and the same of an ACX case
 pub told-sdx : (file : List ℕ) (low high : ℕ) {r : Outcome} {b′ : Rooms} → LoadedSdx file (given [] [] low high) (sizedSdx (given [] [] low high) zeros) zeros r b′
     → numbersOf r ≡ sdxNumbers file low high
 unfolding callSdx need sdxNumbers

@@ -16,6 +16,7 @@ use Rattle.events.specs.Events.{Event, place, reserve, adjust, playOne, 
 
 -- ---- one list after another
 
+-- memory, and the map: the second list acts on what the first one left
 pub play-append : (es fs : List Event) (m : List ℕ) → play (es ++ fs) m ≡ play fs (play es m)
 unfolding play
 play-append [] fs m = refl
@@ -30,6 +31,7 @@ pub play-if-append : (write : Bool) (es fs : List Event) (m : List ℕ) → play
 play-if-append true es fs m = play-append es fs m
 play-if-append false es fs m = refl
 
+-- the counts add up
 pub placed-append : (es fs : List Event) → placedIn (es ++ fs) ≡ placedIn es + placedIn fs
 unfolding placedIn
 placed-append [] fs = omega arith
@@ -46,6 +48,7 @@ adjusted-append (adjust width a amount ∷ es) fs = omega (arith, adjusted-appen
 
 -- ---- lengths
 
+-- no event changes the length of memory or of the map
 pub length-playOne : (e : Event) (m : List ℕ) → length (playOne e m) ≡ length m
 length-playOne (place a bytes) m = length-put m _ _
 length-playOne (reserve a n) m = refl
@@ -145,6 +148,7 @@ copied a bytes m w h e = rw e (back-is a (length bytes) m bytes h refl)
 
 -- ---- one event, carried out in the map alone and in both
 
+-- bytes placed: only marked, and written too
 module _ (a : ℕ) (bytes : List ℕ) {m p w : List ℕ} (inside : a + length bytes ≤ length p)
     (marked : w ≡ replicate (length (midOf a (a + length bytes - a) p)) 1) where
   pub place-marked : {write : Bool} → write ≡ false → Reached (place a bytes ∷ []) write m p m (putMid a (a + length bytes - a) p w)
@@ -156,11 +160,13 @@ module _ (a : ℕ) (bytes : List ℕ) {m p w : List ℕ} (inside : a + length by
   unfolding marks
   place-written t h e = record { memory = rw t (copied a bytes m _ h e); map = filled a (length bytes) 1 p w inside marked }
 
+-- addresses reserved: marked, and nothing else in any case
 pub reserve-marked : (a n : ℕ) (p w : List ℕ) → a + n ≤ length p → w ≡ replicate (length (midOf a (a + n - a) p)) 2
     → putMid a (a + n - a) p w ≡ marks (reserve a n ∷ []) p
 unfolding marks
 reserve-marked a n p w h e = filled a n 2 p w h e
 
+-- a word adjusted: only marked, and changed in memory too
 module _ (a amount : ℕ) {m p w : List ℕ} (inside : a + 2 ≤ length p) (marked : w ≡ replicate (length (midOf a (a + 2 - a) p)) 3) where
   pub adjust-marked : {write : Bool} → write ≡ false → Reached (adjust 2 a amount ∷ []) write m p m (putMid a (a + 2 - a) p w)
   unfolding marks

@@ -104,6 +104,7 @@ module _ (file : List ℕ) (table : List Slot) (at : ℕ) (counter : Counter) wh
   reading-cut h = rw (le-ltb _ _ h) refl
 
   module _ (h : at < length file) where
+    -- each kind by its byte: 00 to FB, FC, FD, FE and FF
     pub reading-add : (r : Item) → getD file at 0 ≤ 0xFB → r ≡ adding (getD file at 0) (at + 1) counter → r ≡ read file table at counter
     unfolding read need pick
     reading-add r i e = rw (lt-ltb _ _ h, le-leb _ _ i) e

@@ -97,6 +97,7 @@ judged-allows form old new file d e = accepted-allows (load form new file) (ruli
 
 module _ (form : ℕ) (old new : Bases) (file : List ℕ) {m : List ℕ} {r : Outcome} {m₁ p₁ s′ : List ℕ}
     (d : Judged (load form new file) (rulingOf form old new file) m r m₁ p₁) (es : s′ ≡ blank) where
+  -- a refusal leaves memory as it was
   pub done-refused : {fault : Fault} {at k : ℕ} → r ≡ Refused fault at k → Done form old new file m (Refused fault at k) m₁ p₁ s′
   done-refused e =
       record {
@@ -110,6 +111,7 @@ module _ (form : ℕ) (old new : Bases) (file : List ℕ) {m : List ℕ} {r : Ou
       allowed : (ps : List Piece) → rulingOf form old new file ≡ allows ps → isRefused (reported (load form new file) .answer) ≡ false
       allowed ps f = reported-accepted file form ps new (both form old new file ps f .1)
 
+  -- where the move is allowed, memory is that of the move
   pub done-moved : {m′ : List ℕ} → Allows (rulingOf form old new file) → m′ ≡ moved old new (piecesOf (rulingOf form old new file)) m₁
       → Done form old new file m r m′ p₁ s′
   done-moved h e =
@@ -144,6 +146,7 @@ module _ {file : List ℕ} {c : Call} {m : List ℕ} where
         adjusted-fits = rw e (omega arith);
       }
 
+  -- memory, map or scratch of another length: 1, and nothing is done
   pub moved-memory : {r : Outcome} → (length m ≡ 65536 → ⊥) → r ≡ Refused WrongBuffer 0 0 → Moved file c m r m (c .map) (c .scratch)
   moved-memory h e = other (rw (ne-eqb _ _ h) refl) e
 
@@ -155,6 +158,7 @@ module _ {file : List ℕ} {c : Call} {m : List ℕ} where
       → r ≡ Refused WrongBuffer 0 0 → Moved file c m r m (c .map) (c .scratch)
   moved-scratch g i h e = other (rw (eq-eqb _ _ g, eq-eqb _ _ i, ne-eqb _ _ h) refl) e
 
+  -- with the right lengths it is the call that was done
   pub moved-sized : {r : Outcome} {m′ p′ s′ : List ℕ} → c .answerSized ≡ true → length m ≡ 65536 → length (c .map) ≡ 65536
       → length (c .scratch) ≡ 65536
       → Done (c .form) (c .old) (c .new) file m r m′ p′ s′

@@ -38,10 +38,11 @@ module _ (file : List ℕ) (form : ℕ) (ps : List Piece) (b : Bases) (h : Accep
   pub follows : Follows form b file
   follows = load-follows form b file ps (h .0) (h .1)
 
+  -- and its records come to what the load comes to
   pub verdict : judged (formOf form) file b .answer ≡ accepted ps (h .0)
   verdict = ap (λ (o : Ran Verdict). o .answer) (sym (follows .by-rules)) ∙ h .1
 
-  -- the bases are in their ranges
+  -- both bases are addresses
   pub in-range : (b .main ≤ 65535) × (b .zero ≤ 65535)
   in-range =
       let k = range-bounds form b (follows .range) in
@@ -102,7 +103,7 @@ both form old new file ps e =
     let s : x .0 .0 ≡ ps = same-at file form (x .0 .0) ps old new h (x .1) in
     (subst (λ (qs : List Piece). AcceptedAt file form qs old) s h, x .1)
 
--- and both pairs are in their ranges
+-- and all four bases are addresses
 pub ranges : (form : ℕ) (old new : Bases) (file : List ℕ) → Allows (rulingOf form old new file)
     → ((old .main ≤ 65535) × (old .zero ≤ 65535)) × ((new .main ≤ 65535) × (new .zero ≤ 65535))
 ranges form old new file h =

@@ -82,6 +82,7 @@ module _ {file : List ℕ} {g : Given} {b : Rooms} {o : Outcome} (e : o ≡ Refu
         addresses = refl;
       })
 
+  -- known addresses of odd length, or more than 256 of them; room for new ones that is not 64 bytes
   pub loads-odd : (length (g .addresses) % 2 ≡ 0 → ⊥) → Loads file g true b o b
   loads-odd h = loads-wrong true (odd-known g b h)
 
@@ -139,6 +140,7 @@ module _ (file : List ℕ) (g : Given) (b b′ : Rooms) (o : Outcome) (known new
         addresses = f;
       }
 
+  -- an acceptance puts the new addresses into pairs
   pub loads-accepted : (start : Start) (i j k l : ℕ) → o ≡ Accepted start i j k l → b′ .addresses ≡ encoded 2 new
       → Loads file g true b o b′
   loads-accepted start i j k l e f = by (ran .answer) refl
@@ -152,6 +154,7 @@ module _ (file : List ℕ) (g : Given) (b b′ : Rooms) (o : Outcome) (known new
       by (refused fault z) h =
           absurd (false≢true (ap isRefused (sym e ∙ d .outcome ∙ ap (λ (v : Verdict). report (b .memory) v (ran .events)) h)))
 
+  -- a refusal leaves the pairs as they were
   pub loads-refused : (fault : Fault) (at side : ℕ) → o ≡ Refused fault at side → b′ .addresses ≡ b .addresses
       → Loads file g true b (Refused fault at side) b′
   loads-refused fault at side e f = rw (← e) (by (ran .answer) refl)

@@ -64,10 +64,12 @@ checked-as h clear = record { answer = h .did .answer; memory = h .did .reached 
 -- ---- the start
 
 module _ (map memory : List ℕ) (loaded : Bool) (e : loaded ≡ wordLoaded map 736) where
+  -- absent unless both bytes at 02E0 are loaded
   pub start-absent : loaded ≡ false → Absent ≡ startIn map memory
   unfolding startIn pick
   start-absent h = let f : wordLoaded map 736 ≡ false = sym e ∙ h in rw f refl
 
+  -- else the word there
   pub start-there : (word : ℕ) → loaded ≡ true → word ≡ value 2 memory 736 → At word ≡ startIn map memory
   unfolding startIn pick
   start-there word h i = let f : wordLoaded map 736 ≡ true = sym e ∙ h in rw (f, i) refl

@@ -44,6 +44,7 @@ abbrev isFinished : Walked → ℕ
 isFinished (Stopped fault offset) = 0
 isFinished (Finished t) = 1
 
+-- a walk that stopped has not finished
 pub stopped-finished : {fault : Fault} {offset : ℕ} {t : Totals} → Stopped fault offset ≡ Finished t → ⊥
 stopped-finished e = let z : _≡_ {A = ℕ} 0 1 = ap isFinished e in omega arith
 
@@ -74,6 +75,7 @@ bounded-finished low named placed adjusted h i j =
 
 -- ---- where the loop stands
 
+-- the walk began with the buffers b and a clear map, and stands at the cursor c with two counts and the buffers b′
 pub record Going (file : List ℕ) (g : Given) (write : Bool) (b : Rooms) (c : Cursor) (placed adjusted : ℕ) (b′ : Rooms) : Type 0 where
   pub events : List Event
   pub names : List ℕ
@@ -91,6 +93,7 @@ pub record Going (file : List ℕ) (g : Given) (write : Bool) (b : Rooms) (c : C
   pub tabled : Tabled c
 
 module _ {file : List ℕ} {g : Given} {write : Bool} {b : Rooms} where
+  -- before the first block
   pub going-first : Going file g write b (firstCursor (g .low)) 0 0 (rooms (b .memory) blank (b .names) (b .addresses))
   unfolding placedIn adjustedIn put blocksFrom marks
   going-first =
@@ -279,6 +282,7 @@ module _ {file : List ℕ} {g : Given} {write : Bool} {b : Rooms} where
                 omega (arith, stopped .1, x .adjusted-is, x .passed .counts, ends-there .behind, ends-there .inside),
               )
 
+          -- and there it stands, with the block's name behind those before it
           pub going-on : (ns ads : List ℕ) → Noted file found (c .named) (b′ .names) (b′ .addresses) ns ads
               → Going file g write b (advanced c found next) (placed + placedBy found) (adjusted + adjusts) (rooms m p ns ads)
           going-on ns ads noted =

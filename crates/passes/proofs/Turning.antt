@@ -40,6 +40,7 @@ pub record Led (file : List ℕ) (g : Given) (y z : Progress) (map : List ℕ) :
   pub events : turn file g y map .events ≡ carriedAt file g y map .events
 
 module _ (file : List ℕ) (g : Given) (y : Progress) (map : List ℕ) where
+  -- at the file's end a turn finishes the walk and does nothing
   pub turn-end : y .cursor .at ≡ length file → turn file g y map ≡ record { answer = ends (finished y); events = [] }
   unfolding turn pick
   turn-end e = rw (eq-eqb _ _ e) refl
@@ -54,6 +55,7 @@ module _ (file : List ℕ) (g : Given) (y : Progress) (map : List ℕ) where
   unfolding turn pick
   turn-block h = rw (ne-eqb _ _ h) refl
 
+  -- every turn that leads on is such a block
   pub turn-led : (z : Progress) → turn file g y map .answer ≡ leads z → Led file g y z map
   turn-led z e = by (eqb (y .cursor .at) (length file)) refl
     where
@@ -97,11 +99,13 @@ module _ (file : List ℕ) (g : Given) (y : Progress) (map : List ℕ) where
           (stops _ (carriedAt file g y map .answer)
           (sym (ap (λ (r : Ran (Turn Progress Verdict)). r .answer) (turn-block (eqb-false _ _ h))) ∙ e))
 
--- what a turn that leads on passes by, in a file whose high is an address
+-- where blocks lie and end, with high below 65,536
 module _ (file : List ℕ) (g : Given) (top : g .high ≤ 65535) where
+  -- what the next block says lies past its offset and in the file, in memory, in the table or in a list of names
   pub block-fits : (y : Progress) → Fits (length file) (y .cursor) (length (g .names) / 8) (length (y .names) / 8) (blockAt file g y)
   block-fits y = read-lies file (g .high) (g .names) (y .names) (y .cursor) top
 
+  -- a turn that leads on ends further on, by as many bytes at least as it places and as it adjusts
   pub led-ends : (y z : Progress) (map : List ℕ) → turn file g y map .answer ≡ leads z
       → Ends (length file) (y .cursor .at) (z .cursor .at) (turn file g y map .events)
   unfolding carriedAt
@@ -112,6 +116,7 @@ module _ (file : List ℕ) (g : Given) (top : g .high ≤ 65535) where
       ∙ advanced-at file (g .addresses) (y .addresses) (y .cursor) (blockAt file g y) map (l .next) (l .done-at) in
       rw (a, l .events) f
 
+  -- so fewer bytes are left after it
   pub turn-falls : (y z : Progress) (map : List ℕ) → turn file g y map .answer ≡ leads z → bytesLeft file (z .cursor .at) < bytesLeft file (y .cursor .at)
   turn-falls y z map e = let l = led-ends y z map e in omega (arith, l .further, l .inside)
 

@@ -46,6 +46,7 @@ pub ending-none : (b : Bases) (entry : Entry) (next len : ℕ) → ending b entr
 unfolding ending
 ending-none b entry next len = needs-none (leb (address (startOf b entry)) 65535) (leb len next)
 
+-- a record of each kind, where the last code record before it has k bytes at a
 module _ (file : List ℕ) (b : Bases) (a k : ℕ) (found : Record) (write : Bool) (m p : List ℕ) where
   pub applied-code : (kind : Kind) (address from n : ℕ) (place limit : ℕ) (r : Check) (m′ p′ : List ℕ) → found ≡ Code kind address from n
       → place ≡ placeAt b kind address → limit ≡ limitOf kind

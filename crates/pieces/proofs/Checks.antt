@@ -32,6 +32,7 @@ abbrev isPassed : Check → Bool
 isPassed Passed = true
 isPassed (Failed fault) = false
 
+-- a check that failed did not pass
 pub failed-passed : (fault : Fault) → Failed fault ≡ Passed → ⊥
 failed-passed fault e = false≢true (ap isPassed e)
 
@@ -65,10 +66,12 @@ limit-le ZeroPage = omega arith
 limit-le Absolute = omega arith
 
 module _ (a limit : ℕ) (code : List ℕ) (write : Bool) (m p : List ℕ) where
+  -- the end of its place is above the limit: 10
   pub placing-high : limit < a + length code → Did Check (placing a limit code p) write m p (Failed DoesNotFit) m p
   unfolding placing need
   placing-high h = rw (lt-leb _ _ h) (did-none _ write m p)
 
+  -- an address is placed already: 17
   pub placing-taken : a + length code ≤ limit → allZero (midOf a (a + length code - a) p) ≡ false
       → Did Check (placing a limit code p) write m p (Failed PiecesOverlap) m p
   unfolding placing need
@@ -76,6 +79,7 @@ module _ (a limit : ℕ) (code : List ℕ) (write : Bool) (m p : List ℕ) where
       let z′ : allZero (part p a (length code)) ≡ false = rw (lent-is a (length code) p) at z in
       rw (le-leb _ _ h, z′) (did-none _ write m p)
 
+  -- else it is placed
   pub placing-done : (m′ p′ : List ℕ) → a + length code ≤ limit → allZero (midOf a (a + length code - a) p) ≡ true
       → Reached (place a code ∷ []) write m p m′ p′
       → Did Check (placing a limit code p) write m p Passed m′ p′
@@ -97,10 +101,12 @@ placing-passed a limit code p e =
 
 -- (the program has the field's width as a number k)
 module _ (b : Bases) (a n : ℕ) (f : Field) (write : Bool) (m p : List ℕ) (k : ℕ) (ek : k ≡ width f) where
+  -- a byte of the field is not inside the record: 12
   pub adjusting-outside : n < f .index + k → Did Check (adjusting b a n (f ∷ []) p) write m p (Failed FieldNotLoaded) m p
   unfolding adjusting need
   adjusting-outside h = let g : n < f .index + width f = rw (← ek) h in rw (lt-leb _ _ g) (did-none _ write m p)
 
+  -- a byte was adjusted before: 13
   pub adjusting-twice : f .index + k ≤ n → contains adjustedMark (midOf (a + f .index) (a + f .index + k - (a + f .index)) p) ≡ true
       → Did Check (adjusting b a n (f ∷ []) p) write m p (Failed AdjustedTwice) m p
   unfolding adjusting need
@@ -109,6 +115,7 @@ module _ (b : Bases) (a n : ℕ) (f : Field) (write : Bool) (m p : List ℕ) (k 
       let u : contains adjustedMark (part p (a + f .index) (width f)) ≡ true = rw (lent-is (a + f .index) k p, ek) at t in
       rw (le-leb _ _ g, u) (did-none _ write m p)
 
+  -- else the field is adjusted
   pub adjusting-done : (m′ w : List ℕ) → f .index + k ≤ n → a + f .index + k ≤ length p
       → contains adjustedMark (midOf (a + f .index) (a + f .index + k - (a + f .index)) p) ≡ false
       → w ≡ replicate (length (midOf (a + f .index) (a + f .index + k - (a + f .index)) p)) adjustedMark

@@ -56,6 +56,7 @@ pub record Adjusting (b : Bases) (a n : ℕ) (write : Bool) (all : List Field) (
   pub same : adjusting b a n all p₀ ≡ after es (adjusting b a n rest p)
 
 module _ {b : Bases} {a n : ℕ} {write : Bool} {all : List Field} {m₀ p₀ : List ℕ} where
+  -- before the first field
   pub adjusting-none : Adjusting b a n write all m₀ p₀ all m₀ p₀
   adjusting-none = record { es = []; reached = reached-none write m₀ p₀; same = refl }
 
@@ -70,6 +71,7 @@ module _ {b : Bases} {a n : ℕ} {write : Bool} {all : List Field} {m₀ p₀ : 
         ∙ ap (λ (c : Check). after (x .es)
         (chain c (adjusting b a n (f ∷ []) p .events) (adjusting b a n rest′ (markOne (adjustment b a f) p)))) (sym (d .answer))
 
+    -- after a field that passed the loop stands one field further
     pub adjusting-more : r ≡ Passed → Adjusting b a n write all m₀ p₀ rest′ m′ p′
     unfolding marks adjustments
     adjusting-more e =
@@ -87,6 +89,7 @@ module _ {b : Bases} {a n : ℕ} {write : Bool} {all : List Field} {m₀ p₀ : 
               (sym (append-assoc (x .es) es (adjusting b a n rest′ p′ .events)));
         }
 
+    -- a field that failed ends it with its fault
     pub adjusting-fails : {fault : Fault} → r ≡ Failed fault → Did Check (adjusting b a n all p₀) write m₀ p₀ (Failed fault) m′ p′
     adjusting-fails e =
         let y = reached-more (x .es) write m₀ p₀ m p m′ p′ _ r (x .reached) d in
@@ -94,6 +97,7 @@ module _ {b : Bases} {a n : ℕ} {write : Bool} {all : List Field} {m₀ p₀ : 
         (chain c (adjusting b a n (f ∷ []) p .events) (adjusting b a n rest′ (markOne (adjustment b a f) p)))) e in
         rw z (record { answer = refl; reached = y })
 
+  -- where no field is left, all have passed
   pub adjusting-end : {rest : List Field} {m p : List ℕ} → rest ≡ [] → Adjusting b a n write all m₀ p₀ rest m p
       → Did Check (adjusting b a n all p₀) write m₀ p₀ Passed m p
   unfolding adjusting
@@ -113,6 +117,7 @@ item-le Page = omega arith
 item-le Word = omega arith
 item-le High = omega arith
 
+-- a whole item lists the next field
 pub next-field : (fixup : Fixup) (items : List ℕ) (i k : ℕ) (f : Field) → k ≡ itemSize fixup → i + k ≤ length items
     → f ∷ [] ≡ fieldsOf fixup (part items i (itemSize fixup))
     → fieldsOf fixup (drop i items) ≡ f ∷ fieldsOf fixup (drop (i + k) items)
@@ -120,6 +125,7 @@ next-field fixup items i k f ek h ef =
     let g : i + itemSize fixup ≤ length items = rw (← ek) h in
     rw ek (fields-more fixup items i f g ef)
 
+-- where no whole item is left, no field is
 pub last-field : (fixup : Fixup) (items : List ℕ) (i k : ℕ) → k ≡ itemSize fixup → length items < i + k → fieldsOf fixup (drop i items) ≡ []
 last-field fixup items i k ek h =
     let g : length items < i + itemSize fixup = rw (← ek) h in

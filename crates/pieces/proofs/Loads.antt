@@ -25,6 +25,7 @@ use Rattle.pieces.specs.declared.Bases.{Bases}
 abbrev pub added : Bases → Field → ℕ → ℕ
 added b f v = on (width f) (amountOf b f) v
 
+-- which the field's bytes can hold
 pub added-fits : (b : Bases) → Fitting (added b)
 added-fits b f v = on-lt (width f) (amountOf b f) v
 

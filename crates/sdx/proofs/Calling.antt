@@ -38,32 +38,39 @@ use Rattle.sdx.specs.Call.{inRange, listed, sized, atOnce, opening, open
 
 -- ---- before the first block
 
+-- low above high
 pub range-not : (low high : ℕ) → high < low → false ≡ inRange (given [] [] low high)
 range-not low high h = rw (lt-leb _ _ h) refl
 
 module _ (file : List ℕ) where
+  -- under two bytes: 5
   pub opening-cut : length file < 2 → Failed CutShort ≡ opening file
   unfolding opening need
   opening-cut h = rw (lt-leb _ _ h) refl
 
+  -- a first word below FFFA: 4
   pub opening-wrong : (word : ℕ) → word ≡ value 2 file 0 → 2 ≤ length file → word < 65530 → Failed WrongOpening ≡ opening file
   unfolding opening need
   opening-wrong word e h i = rw (le-leb _ _ h, ← e, lt-leb _ _ i) refl
 
+  -- else it opens
   pub opening-right : (word : ℕ) → word ≡ value 2 file 0 → 2 ≤ length file → 65530 ≤ word → Passed ≡ opening file
   unfolding opening need
   opening-right word e h i = rw (le-leb _ _ h, ← e, le-leb _ _ i) refl
 
 -- the checks before the first block, in their order
 module _ (file : List ℕ) (g : Given) where
+  -- a setting outside its range: 2
   pub admit-range : inRange g ≡ false → Failed SettingOutOfRange ≡ admitting file g
   unfolding admitting need
   admit-range h = rw h refl
 
+  -- a file longer than 65,536: 3
   pub admit-long : inRange g ≡ true → 65536 < length file → Failed FileTooLong ≡ admitting file g
   unfolding admitting need
   admit-long h i = rw (h, lt-leb _ _ i) refl
 
+  -- else the opening decides
   pub admit-opening : (r : Check) → inRange g ≡ true → length file ≤ 65536 → r ≡ opening file → r ≡ admitting file g
   unfolding admitting need
   admit-opening r h i e = rw (h, le-leb _ _ i) e
@@ -86,6 +93,7 @@ pub record Admitted (file : List ℕ) (g : Given) : Type 0 where
   pub fits : length file ≤ 65536
   pub opens : opening file ≡ Passed
 
+-- a load that was admitted passed each
 pub admitted : (file : List ℕ) (g : Given) → admitting file g ≡ Passed → Admitted file g
 unfolding admitting
 admitted file g e =
@@ -220,6 +228,7 @@ unfolding load
 at-once-carried file g e f clear = rw e (record { outcome = f; memory = refl; map = clear; names = refl; addresses = refl })
 
 module _ (file : List ℕ) (g : Given) where
+  -- some length is wrong: 1, and nothing is changed
   pub loaded-wrong : (right : Bool) (b : Rooms) (r : Outcome) → right ≡ false → r ≡ Refused WrongBuffer 0 0 → Loaded file g right b r b
   unfolding call need pick
   loaded-wrong right b r h e =
@@ -276,10 +285,12 @@ module _ (file : List ℕ) (g : Given) where
     unfolding load
     load-blocks = rw entered refl
 
+    -- where the first walk stopped, the load is refused there
     pub blocks-refused : {m p ns ads m₁ p₁ : List ℕ} {r₁ : Walked} → Checked (blocksOf file g) m r₁ m₁ p₁ → {fault : Fault} {offset : ℕ}
         → r₁ ≡ Stopped fault offset → Loaded file g true (rooms m p ns ads) (Refused fault offset 0) (rooms m₁ p₁ ns ads)
     blocks-refused first e = loaded-right _ _ _ (rw load-blocks (carried-refused first e))
 
+    -- where it finished, the second walk carries the file out
     pub blocks-accepted : {m p ns ads m₁ p₁ : List ℕ} {r₁ : Walked} → Checked (blocksOf file g) m r₁ m₁ p₁
         → {t : Totals} {m₂ p₂ ns₂ ads₂ ns₃ ads₃ : List ℕ} {r₂ : Walked} {r : Outcome} → r₁ ≡ Finished t → length ns ≡ 256 → length ads ≡ 32
         → Went (blocksOf file g) true (rooms m₁ p₁ ns ads) r₂ (rooms m₂ p₂ ns₂ ads₂) → Reported t (rooms m₂ p₂ ns₂ ads₂) r ns₃ ads₃
@@ -294,6 +305,7 @@ pub record Sizes (g : Given) (b : Rooms) : Type 0 where
   pub addresses : length (b .addresses) ≡ 32
   pub known : length (g .names) ≡ 8 * length (g .addresses)
 
+-- so it is where the test of the lengths holds
 pub right-sizes : (g : Given) (b : Rooms) → sized g b ≡ true → Sizes g b
 right-sizes g b e =
     let h = and-true (eqb (length (b .memory)) 65536) _ e in

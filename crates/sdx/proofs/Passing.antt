@@ -49,6 +49,7 @@ Passes c (Update (OwnName i) from) = Unit {0}
 Passes c (NewName from address) = Unit {0}
 Passes c (Faulty fault) = Unit {0}
 
+-- (the same as a record)
 pub record Granted (c : Cursor) (b : Block) : Type 0 where
   pub passes : Passes c b
 

@@ -54,6 +54,7 @@ pub record Walkable (form : ℕ) (old new : Bases) (file : List ℕ) (first : �
   pub yes-old : recordsOf file old first .answer ≡ accepted (piecesOf (rulingOf form old new file)) start
   pub yes-new : recordsOf file new first .answer ≡ accepted (piecesOf (rulingOf form old new file)) start′
 
+-- it can, from the offset behind the opening on
 pub walkable : (form : ℕ) (old new : Bases) (file : List ℕ) (first : ℕ) → first ≡ openingSize (formOf form)
     → Allows (rulingOf form old new file) → Walkable form old new file first
 walkable form old new file first e h =
@@ -230,6 +231,7 @@ pub record Gathering (file : List ℕ) (old new : Bases) (first : ℕ) (m t₀ :
   pub gathered : t ≡ transfer old new (progress .pieces) m t₀
 
 module _ {file : List ℕ} {old new : Bases} {first : ℕ} {m t₀ : List ℕ} where
+  -- before the first record nothing is gathered
   pub gathering-first : first ≤ length file → Gathering file old new first m t₀ (firstCursor first) (firstCursor first) t₀
   unfolding transfer
   gathering-first l = record { progress = begun first; at-old = came-first l; at-new = came-first l; gathered = refl }
@@ -250,12 +252,14 @@ module _ {file : List ℕ} {old new : Bases} {first : ℕ} {m t₀ : List ℕ} w
     gathering-onward h = came-onward (x .at-old) yes-old found-is h
 
     module _ (o : Onward found) where
+      -- the walks at both pairs of bases come to their cursors behind it
       pub next-old : Came file old first (advanced old source found) (stepped file (x .progress) found)
       next-old = came-on (x .at-old) found-is o (came-passes (x .at-old) yes-old)
 
       pub next-new : Came file new first (advanced new target found) (stepped file (x .progress) found)
       next-new = came-on (x .at-new) found-is o (came-passes (x .at-new) yes-new)
 
+      -- and the scratch holds what the record brings
       pub gathering-on : {t′ : List ℕ} → length m ≡ 65536 → length t ≡ 65536
           → t′ ≡ taken file old new (advanced old source found) (advanced new target found) m t found
           → Gathering file old new first m t₀ (advanced old source found) (advanced new target found) t′
@@ -277,6 +281,6 @@ module _ {file : List ℕ} {old new : Bases} {first : ℕ} {m t₀ : List ℕ} w
           sound file new target (x .progress) found (x .at-new .stands .inside) (ap (λ (k : Cursor). k .size) (x .at-new .here)) found-is
           (came-passes (x .at-new) yes-new)
 
-      -- its piece is as long at both
+      -- the last code has one size at both cursors
       pub gathering-sizes : advanced old source found .size ≡ advanced new target found .size
       gathering-sizes = ap (λ (k : Cursor). k .size) (next-old .here) ∙ sym (ap (λ (k : Cursor). k .size) (next-new .here))

@@ -36,6 +36,7 @@ pub record Overlaying (map scratch m : List ℕ) (x : ℕ) (m′ : List ℕ) : T
   pub ahead : (y : ℕ) → x ≤ y → getD m′ y 0 ≡ getD m y 0
 
 module _ {map scratch m : List ℕ} where
+  -- before the first address
   pub overlaying-none : Overlaying map scratch m 0 m
   overlaying-none = record { behind = λ y h. absurd (omega arith); ahead = λ y h. refl }
 
@@ -142,6 +143,7 @@ module _ (form : ℕ) (old new : Bases) (file : List ℕ) (h : Allows (rulingOf 
       ∙ ap (λ (v : Verdict). loadedMap v (load form new file .events)) (x .1)
       ∙ ap (λ (es : List Event). marks es blank) (events-at file form ps new x)
 
+  -- it is as long as memory
   pub length-map : length map ≡ 65536
   length-map = ap length map-is ∙ length-marks (events new (piecesOf (rulingOf form old new file))) blank ∙ length-blank
 

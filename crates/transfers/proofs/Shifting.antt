@@ -30,6 +30,7 @@ pub record Shifting (old new : Bases) (all : List Field) (bs : List ℕ) (rest :
   pub same : edited (shift old new) all bs ≡ edited (shift old new) rest cs
 
 module _ {old new : Bases} {all : List Field} {bs : List ℕ} where
+  -- before the first field
   pub shifting-none : Each (Inside (length bs)) all → Shifting old new all bs all bs
   shifting-none h = record { inside = h; as-long = refl; same = refl }
 
@@ -38,6 +39,7 @@ module _ {old new : Bases} {all : List Field} {bs : List ℕ} where
       → f .index + width f ≤ length cs
   shifting-here {f} {rest} {rest′} {cs} e x = (rw e at (x .inside)) .0
 
+  -- after it the loop stands one field further
   pub shifting-more : {f : Field} {rest rest′ : List Field} {cs ds : List ℕ} {a b : ℕ} → rest ≡ f ∷ rest′ → Shifting old new all bs rest cs
       → a ≡ amountOf old f → b ≡ amountOf new f
       → ds ≡ change (width f) (λ v. on (width f) b (off (width f) a v)) cs (f .index) → Shifting old new all bs rest′ ds
@@ -56,6 +58,7 @@ module _ {old new : Bases} {all : List Field} {bs : List ℕ} where
             x .same ∙ ap (λ (fs : List Field). edited (shift old new) fs cs) e ∙ ap (edited (shift old new) rest′) (sym is);
       }
 
+  -- where no field is left, all are shifted
   pub shifting-end : {rest : List Field} {cs : List ℕ} → rest ≡ [] → Shifting old new all bs rest cs → cs ≡ edited (shift old new) all bs
   unfolding edited
   shifting-end {rest} {cs} e x = sym (x .same ∙ ap (λ (fs : List Field). edited (shift old new) fs cs) e)

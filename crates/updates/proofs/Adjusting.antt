@@ -46,15 +46,18 @@ module _ (amount a : ℕ) (write : Bool) (m p : List ℕ) where
 -- ---- an item carried out
 
 module _ (amount : ℕ) (item : Item) (write : Bool) (m p : List ℕ) where
+  -- a faulty item fails with its fault
   pub applied-wrong : (fault : Fault) → item ≡ Faulty fault → Did Check (applied amount item p) write m p (Failed fault) m p
   applied-wrong fault e = rw e (did-none _ write m p)
 
+  -- the end, and a counter moved, pass and change nothing
   pub applied-end : (next : ℕ) → item ≡ End next → Did Check (applied amount item p) write m p Passed m p
   applied-end next e = rw e (did-none _ write m p)
 
   pub applied-move : (counter next : ℕ) → item ≡ Move counter next → Did Check (applied amount item p) write m p Passed m p
   applied-move counter next e = rw e (did-none _ write m p)
 
+  -- a word to adjust is adjusted as above
   pub applied-adjust : (counter next : ℕ) (r : Check) (m′ p′ : List ℕ) → item ≡ Adjust counter next
       → Did Check (adjusting amount counter p) write m p r m′ p′ → Did Check (applied amount item p) write m p r m′ p′
   applied-adjust counter next r m′ p′ e d = rw e d

@@ -60,6 +60,7 @@ abbrev isPassed : Check → Bool
 isPassed Passed = true
 isPassed (Failed fault) = false
 
+-- a check that failed did not pass
 pub failed-passed : (fault : Fault) → Failed fault ≡ Passed → ⊥
 failed-passed fault e = false≢true (ap isPassed e)
 
@@ -80,6 +81,7 @@ pub record Going (file : List ℕ) (table : List Slot) (amount first : ℕ) (wri
   pub inside : c .at ≤ length file
 
 module _ {file : List ℕ} {table : List Slot} {amount first : ℕ} {write : Bool} {m₀ p₀ : List ℕ} where
+  -- before the first item
   pub going-first : first ≤ length file → Going file table amount first write m₀ p₀ (cursorAt first) m₀ p₀
   unfolding items adjustedIn
   going-first l =
@@ -114,6 +116,7 @@ module _ {file : List ℕ} {table : List Slot} {amount first : ℕ} {write : Boo
           (x .came)
           a (ap (λ (o : Ran (Turn BodyState Stop)). o .answer) here-is ∙ e)
 
+      -- an item that failed ends the body with its fault
       pub going-fails : {fault : Fault} → r ≡ Failed fault
           → Did Ended (ended (body file table amount first p₀)) write m₀ p₀ (Broken fault) m′ p′
       going-fails {fault} e =
@@ -127,6 +130,7 @@ module _ {file : List ℕ} {table : List Slot} {amount first : ℕ} {write : Boo
           ap (λ (o : Ran (Turn BodyState Stop)). adjustedIn (o .events)) here-is ∙ applied-counts amount item p (sym (d .answer) ∙ e) in
           omega (arith, adjusted-append (x .events) (here .events), x .counted, f)
 
+      -- after FC the body is done, with as many fields adjusted as the cursor counted
       pub going-ends : {next : ℕ} → r ≡ Passed → item ≡ End next
           → Did Ended (ended (body file table amount first p₀)) write m₀ p₀ (Done next (c .adjusted)) m′ p′
       going-ends {next} e f =
@@ -146,10 +150,12 @@ module _ {file : List ℕ} {table : List Slot} {amount first : ℕ} {write : Boo
       here-leads e o =
           ap (λ (t : Ran (Turn BodyState Stop)). t .answer) here-is ∙ ap (λ (k : Check). judge k item) e ∙ judge-on c item o
 
+      -- the cursor moves on
       pub going-further : r ≡ Passed → Onward item → c .at < advanced c item .at
       unfolding here
       going-further e o = turn-further file table amount (stateOf c) (stateOf (advanced c item)) (marks (x .events) p₀) (here-leads e o) .0
 
+      -- and the loop stands behind the item
       pub going-on : r ≡ Passed → Onward item → Going file table amount first write m₀ p₀ (advanced c item) m′ p′
       unfolding here items
       going-on e o =

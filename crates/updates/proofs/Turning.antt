@@ -65,6 +65,7 @@ adjusts (End next) = 0
 adjusts (Move counter next) = 0
 adjusts (Adjust counter next) = 1
 
+-- where it passed, its events adjust so many
 pub applied-counts : (amount : ℕ) (item : Item) (map : List ℕ) → applied amount item map .answer ≡ Passed
     → adjustedIn (applied amount item map .events) ≡ adjusts item
 unfolding adjustedIn
@@ -138,6 +139,7 @@ abbrev nextOf : Stop → ℕ
 nextOf (broken fault) = 0
 nextOf (done next) = suc next
 
+-- a body that broke at a fault is not done, and one that is done ends at one offset
 pub broken-done : {fault : Fault} {next : ℕ} → broken fault ≡ done next → ⊥
 broken-done {fault} {next} e = let z : 0 ≡ suc next = ap nextOf e in omega arith
 

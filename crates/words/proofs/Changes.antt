@@ -12,6 +12,7 @@ use Rattle.words.specs.Runs.{Bytes, Within, Apart, part, put}
 
 -- ---- a number read and stored
 
+-- k bytes hold a number below 256 to the k
 pub value-lt : (k : ℕ) (l : List ℕ) (i : ℕ) → i + k ≤ length l → Bytes l → value k l i < 256 ^ k
 unfolding value
 value-lt k l i f h = rw (length-part l i k f) at (number-lt (part l i k) (bytes-part l i k h))
@@ -21,6 +22,7 @@ pub value-part : (k : ℕ) (l : List ℕ) (a n i : ℕ) → a + n ≤ length l �
 unfolding value
 value-part k l a n i f g = ap number (part-part l a n i k f g)
 
+-- a store keeps the length, leaves bytes bytes, and changes nothing outside its k bytes
 pub length-store : (k : ℕ) (l : List ℕ) (i v : ℕ) → length (store k l i v) ≡ length l
 unfolding store
 length-store k l i v = length-put l i (digits k v)
@@ -33,6 +35,7 @@ pub store-outside : (k : ℕ) (l : List ℕ) (i v x : ℕ) → ¬ Within i k x �
 unfolding store
 store-outside k l i v x h = put-outside l i (digits k v) x (rw length-digits h)
 
+-- what was stored is read back: its bytes, and the number where k bytes can hold it
 pub part-store : (k : ℕ) (l : List ℕ) (i v : ℕ) → i + k ≤ length l → part (store k l i v) i k ≡ digits k v
 unfolding store
 part-store k l i v f =
@@ -42,14 +45,17 @@ pub value-store : (k : ℕ) (l : List ℕ) (i v : ℕ) → i + k ≤ length l �
 unfolding value
 value-store k l i v f h = ap number (part-store k l i v f) ∙ number-digits k v h
 
+-- a number that lies apart stays
 pub value-store-apart : (k : ℕ) (l : List ℕ) (i v w j : ℕ) → j + w ≤ length l → Apart i k j w → value w (store k l i v) j ≡ value w l j
 unfolding value store
 value-store-apart k l i v w j f a = ap number (part-put-apart l i (digits k v) j w f (rw length-digits a))
 
+-- of two numbers stored in one place the later one stands
 pub store-store : (k : ℕ) (l : List ℕ) (i u v : ℕ) → store k (store k l i u) i v ≡ store k l i v
 unfolding store
 store-store k l i u v = put-put l i (digits k u) (digits k v) (length-digits k u ∙ sym (length-digits k v))
 
+-- storing the number that is there changes nothing
 pub store-value : (k : ℕ) (l : List ℕ) (i : ℕ) → i + k ≤ length l → Bytes l → store k l i (value k l i) ≡ l
 unfolding store value
 store-value k l i f h =
@@ -61,6 +67,7 @@ store-value k l i f h =
 -- ---- one number replaced
 
 module _ (k : ℕ) (g : ℕ → ℕ) (l : List ℕ) (i : ℕ) where
+  -- as a store does, it keeps the length, bytes, and all outside the k bytes
   pub length-change : length (change k g l i) ≡ length l
   unfolding change
   length-change = length-store k l i (g (value k l i))
@@ -73,10 +80,12 @@ module _ (k : ℕ) (g : ℕ → ℕ) (l : List ℕ) (i : ℕ) where
   unfolding change
   change-outside x h = store-outside k l i (g (value k l i)) x h
 
+  -- what then stands there
   pub value-change : i + k ≤ length l → g (value k l i) < 256 ^ k → value k (change k g l i) i ≡ g (value k l i)
   unfolding change
   value-change f h = value-store k l i (g (value k l i)) f h
 
+  -- a number that lies apart stays
   pub value-change-apart : (w j : ℕ) → j + w ≤ length l → Apart i k j w → value w (change k g l i) j ≡ value w l j
   unfolding change
   value-change-apart w j f a = value-store-apart k l i (g (value k l i)) w j f a
@@ -93,12 +102,14 @@ module _ (k : ℕ) (g : ℕ → ℕ) (l : List ℕ) (i : ℕ) where
   unfolding change
   change-same h e = ap (store k l i) e
 
+-- replacing a number by itself changes nothing
 pub change-none : (k : ℕ) (l : List ℕ) (i : ℕ) → i + k ≤ length l → Bytes l → change k (λ v. v) l i ≡ l
 unfolding change
 change-none k l i f h = store-value k l i f h
 
 -- ---- two numbers apart
 
+-- they may be replaced in either order
 pub change-comm : (k : ℕ) (g : ℕ → ℕ) (i w : ℕ) (h : ℕ → ℕ) (j : ℕ) (l : List ℕ) → Apart i k j w → i + k ≤ length l → j + w ≤ length l
     → change w h (change k g l i) j ≡ change k g (change w h l j) i
 unfolding change store
@@ -140,7 +151,6 @@ unfolding change
 read-and-stored k g l i v r l′ ev er e = e ∙ ap (store k l i) (er ∙ ap g ev)
 
 -- a byte where it stands
-
 pub byte-changed : (g : ℕ → ℕ) (l : List ℕ) (i r : ℕ) → r ≡ g (getD l i 0) → r < 256 → set l i r ≡ change 1 g l i
 unfolding change store digits put
 byte-changed g l i r e h =

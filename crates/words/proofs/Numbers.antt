@@ -14,6 +14,7 @@ use Rattle.words.specs.Runs.{Bytes, part}
 
 -- ---- a number and its bytes
 
+-- the k low bytes of a number are k in number, and bytes
 pub length-digits : (k v : ℕ) → length (digits k v) ≡ k
 unfolding digits
 length-digits zero v = refl
@@ -25,6 +26,7 @@ bytes-digits zero v x = omega arith
 bytes-digits (suc k) v zero = omega arith
 bytes-digits (suc k) v (suc x) = bytes-digits k (v / 256) x
 
+-- a number that k bytes can hold is read back from them
 pub number-digits : (k v : ℕ) → v < 256 ^ k → number (digits k v) ≡ v
 unfolding number digits
 number-digits zero v h = omega arith
@@ -32,11 +34,13 @@ number-digits (suc k) v h =
     let ih : number (digits k (v / 256)) ≡ v / 256 = number-digits k (v / 256) (omega (arith, pow-suc 256 k)) in
     omega arith
 
+-- bytes hold a number below 256 to the number of bytes
 pub number-lt : (l : List ℕ) → Bytes l → number l < 256 ^ length l
 unfolding number
 number-lt [] h = omega arith
 number-lt (b ∷ bs) h = omega (arith, pow-suc 256 (length bs), h 0, number-lt bs (λ x. h (suc x)))
 
+-- bytes are the low bytes of the number that they hold
 pub digits-number : (l : List ℕ) → Bytes l → digits (length l) (number l) ≡ l
 unfolding number digits
 digits-number [] h = refl
@@ -72,6 +76,7 @@ size-pos : (k : ℕ) → 0 < 256 ^ k
 size-pos k = one-le-pow k 256 (omega arith)
 
 module _ (k a v : ℕ) where
+  -- with an amount on or off, k bytes can hold the number
   pub on-lt : on k a v < 256 ^ k
   unfolding on
   on-lt = mod-lt _ (size-pos k)
@@ -84,6 +89,7 @@ module _ (k a v : ℕ) where
   round : v < 256 ^ k → (x : ℕ) → x ≡ v + 256 ^ k * suc (a / 256 ^ k) → x % 256 ^ k ≡ v
   round h x e = ap (λ (y : ℕ). y % 256 ^ k) e ∙ add-mul-mod-self-left v (256 ^ k) (suc (a / 256 ^ k)) ∙ mod-eq-of-lt h
 
+  -- each undoes the other
   pub off-on : v < 256 ^ k → off k a (on k a v) ≡ v
   unfolding on off
   off-on h =
@@ -112,11 +118,13 @@ off-is k a v r h e = sym (off-on k a r h) ∙ ap (off k a) e
 
 -- ---- numbers in a row
 
+-- each number takes k bytes
 pub length-encoded : (k : ℕ) (vs : List ℕ) → length (encoded k vs) ≡ k * length vs
 unfolding encoded
 length-encoded k [] = sym (mul-zero k)
 length-encoded k (v ∷ vs) = rw (length-append, length-digits, length-encoded k vs, mul-suc) (add-comm k (k * length vs))
 
+-- as many numbers are read as asked for, however short the run
 pub length-decoded : (k n : ℕ) (l : List ℕ) → length (decoded k n l) ≡ n
 unfolding decoded
 length-decoded k zero l = refl

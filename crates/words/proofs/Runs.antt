@@ -24,6 +24,7 @@ within? a n x = both (decLe a x) (decLt x (a + n))
 
 -- ---- a run written
 
+-- the length stays, and every byte outside the run
 pub length-put : (l : List ℕ) (a : ℕ) (bs : List ℕ) → length (put l a bs) ≡ length l
 unfolding put
 length-put l a bs = length-sets l a bs
@@ -34,6 +35,7 @@ put-outside l a [] x h = refl
 put-outside l a (b ∷ bs) x h =
     put-outside (set l a b) (suc a) bs x (λ w. h (omega arith)) ∙ getD-set-other l a x b 0 (λ e. h (omega arith))
 
+-- inside the run stands what was written
 pub put-inside : (l : List ℕ) (a : ℕ) (bs : List ℕ) (k : ℕ) → a + length bs ≤ length l → k < length bs
     → getD (put l a bs) (a + k) 0 ≡ getD bs k 0
 unfolding put
@@ -48,10 +50,12 @@ put-inside l a (b ∷ bs) (suc k) f h =
 
 -- ---- a run read
 
+-- a run that ends in the list has its whole length
 pub length-part : (l : List ℕ) (a n : ℕ) → a + n ≤ length l → length (part l a n) ≡ n
 unfolding part
 length-part l a n h = simp (length-take, length-drop) (omega arith)
 
+-- its bytes are those of the list from a on
 pub part-at : (l : List ℕ) (a n k : ℕ) → k < n → getD (part l a n) k 0 ≡ getD l (a + k) 0
 unfolding part
 part-at l a n k h = rw (getD-take, getD-drop)
@@ -87,6 +91,7 @@ part-agree-at l r a n x e w =
     ∙ part-at r a n (x - a) (omega arith)
     ∙ ap (λ (k : ℕ). getD r k 0) y
 
+-- what was written is read back
 pub part-put : (l : List ℕ) (a : ℕ) (bs : List ℕ) → a + length bs ≤ length l → part (put l a bs) a (length bs) ≡ bs
 part-put l a bs f =
     let g : a + length bs ≤ length (put l a bs) = rw length-put f in
@@ -94,12 +99,14 @@ part-put l a bs f =
     (λ k h. let h′ : k < length bs = rw (length-part (put l a bs) a (length bs) g) at h in
     part-at (put l a bs) a (length bs) k h′ ∙ put-inside l a bs k f h′)
 
+-- a run that lies apart reads as before
 pub part-put-apart : (l : List ℕ) (a : ℕ) (bs : List ℕ) (c n : ℕ) → c + n ≤ length l → Apart a (length bs) c n
     → part (put l a bs) c n ≡ part l c n
 part-put-apart l a bs c n f h =
     part-agrees (put l a bs) l c c n (rw length-put f) f
     (λ k lt. put-outside l a bs (c + k) (λ w. h (c + k) w (omega arith)))
 
+-- a run within a run is one of the list
 pub part-part : (l : List ℕ) (a n c k : ℕ) → a + n ≤ length l → c + k ≤ n → part (part l a n) c k ≡ part l (a + c) k
 part-part l a n c k f g =
     part-agrees (part l a n) l c (a + c) k (rw (length-part l a n f) g) (omega arith)
@@ -190,6 +197,7 @@ bytes-set (y ∷ l) zero b h g (suc x) = g (suc x)
 bytes-set (y ∷ l) (suc i) b h g zero = g zero
 bytes-set (y ∷ l) (suc i) b h g (suc x) = bytes-set l i b h (λ z. g (suc z)) x
 
+-- bytes written among bytes, and a run of bytes
 pub bytes-put : (l : List ℕ) (a : ℕ) (bs : List ℕ) → Bytes bs → Bytes l → Bytes (put l a bs)
 unfolding put
 bytes-put l a [] h g = g

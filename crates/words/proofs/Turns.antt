@@ -23,28 +23,34 @@ one-copied (x ∷ xs) [] i h k = absurd (not-suc-le-zero k)
 one-copied (x ∷ xs) (y ∷ ys) zero h k = refl
 one-copied (x ∷ xs) (y ∷ ys) (suc i) h k = ap (λ (l : List ℕ). x ∷ l) (one-copied xs ys i (le-of-suc-le-suc h) (le-of-suc-le-suc k))
 
+-- a turn copies one byte more
 pub copy-more : (s d : List ℕ) (i : ℕ) → i < length s → i < length d → set (take i s ++ drop i d) i (getD s i 0) ≡ take (i + 1) s ++ drop (i + 1) d
 copy-more s d i h k = rw add-one (one-copied s d i h k)
 
+-- at the end all of it is copied
 pub copy-all : (s d : List ℕ) → length s ≡ length d → take (length s) s ++ drop (length s) d ≡ s
 copy-all s d e = rw take-length (rw (e, drop-length, append-nil))
 
 -- ---- looking for a byte other than zero
 
+-- a zero leaves the rest to decide
 pub zero-more : (l : List ℕ) (i : ℕ) → i < length l → getD l i 0 ≡ 0 → allZero (drop i l) ≡ allZero (drop (i + 1) l)
 unfolding allZero
 zero-more l i h e = rw (add-one, drop-cons l i 0 h, eq-eqb _ 0 e)
 
+-- any other byte decides
 pub zero-not : (l : List ℕ) (i : ℕ) → i < length l → (getD l i 0 ≡ 0 → ⊥) → allZero (drop i l) ≡ false
 unfolding allZero
 zero-not l i h e = rw (drop-cons l i 0 h, ne-eqb _ 0 e)
 
 -- ---- looking for a byte
 
+-- another byte leaves the rest to decide
 pub contains-more : (v : ℕ) (l : List ℕ) (i : ℕ) → i < length l → (getD l i 0 ≡ v → ⊥) → contains v (drop i l) ≡ contains v (drop (i + 1) l)
 unfolding contains
 contains-more v l i h e = rw (add-one, drop-cons l i 0 h, ne-eqb _ v e)
 
+-- the byte itself decides
 pub contains-found : (v : ℕ) (l : List ℕ) (i : ℕ) → i < length l → getD l i 0 ≡ v → contains v (drop i l) ≡ true
 unfolding contains
 contains-found v l i h e = rw (drop-cons l i 0 h, eq-eqb _ v e)
@@ -65,6 +71,7 @@ put-behind p bs d n e h =
     ∙ ap (λ (r : List ℕ). r ++ bs ++ drop (n + length bs) (p ++ drop n d)) (take-at p (drop n d) n e)
     ∙ ap (λ (r : List ℕ). p ++ bs ++ r) (rw (← e) (drop-append-add p (drop (length p) d) (length bs) ∙ drop-drop (length bs) (length p) d))
 
+-- a turn writes one number more behind those before it
 pub encode-more : (k : ℕ) (vs d : List ℕ) (i : ℕ) → i < length vs → k * i + k ≤ length d
     → store k (encoded k (take i vs) ++ drop (k * i) d) (k * i) (getD vs i 0) ≡ encoded k (take (i + 1) vs) ++ drop (k * (i + 1)) d
 unfolding store
@@ -78,11 +85,13 @@ encode-more k vs d i h f =
     ∙ ap (λ (m : ℕ). encoded k (take i vs) ++ digits k v ++ drop (k * i + m) d) n
     ∙ rw (add-one, mul-suc, take-suc vs i 0 h, encoded-snoc)
 
+-- at the end all are written, and nothing else stands there
 pub encode-all : (k : ℕ) (vs d : List ℕ) → length d ≡ k * length vs → encoded k (take (length vs) vs) ++ drop (k * length vs) d ≡ encoded k vs
 encode-all k vs d e = rw (take-length vs, ← e, drop-length d) (append-nil (encoded k vs))
 
 -- ---- reading numbers of k bytes in a row
 
+-- a turn reads one number more
 pub decode-more : (k : ℕ) (s d : List ℕ) (i : ℕ) → set (put d 0 (decoded k i s)) i (value k s (k * i)) ≡ put d 0 (decoded k (i + 1) s)
 unfolding put decoded
 decode-more k s d i =
