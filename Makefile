@@ -7,6 +7,8 @@
 # make bench           times of the library beside the second implementation
 # make picture         docs/map.png, the map in README.md
 # make proofs          prove what has changed since the last time, without the must-fail edits
+# make sizes           functions, lines and must-fail edits of each crate: README.md's table, which the gate holds to the sources
+# make times           seconds and memory of each crate's proofs, from nothing
 CC := gcc
 CFLAGS := -std=c11 -O2 -Wall -Wextra -Werror
 SECONDS := 60
@@ -16,7 +18,7 @@ PICTURE := docs/map.png
 LIBRARY := build/libtekoweapa.a
 RATTLE := $(shell find crates -name '*.rt' -o -name '*.antt')
 
-.PHONY: demo test lib control c-tests fuzz bench picture proofs clean
+.PHONY: demo test lib control c-tests fuzz bench picture proofs sizes times clean
 
 demo: build/tekoweapa
 	@examples/demo
@@ -44,6 +46,12 @@ picture: $(PROGRAM)
 
 proofs:
 	@rt check
+
+sizes:
+	@python3 tests/sizes.py
+
+times:
+	@python3 tests/times.py
 
 clean:
 	rm -rf build
