@@ -1,28 +1,36 @@
--- Late answers: all but a refusal with number 1, `WrongBuffer`. With the right buffers a load gives no other.
--- For each type of answer a function says whether one is that refusal; the laws here hold for every such function.
+-- Late answers. 1, `WrongBuffer`, comes first; an answer that is not refused with it is late. With the right buffers every answer of a load is.
+-- For each type of answer a function says whether one is refused with 1; the laws here hold for each such function.
 -- Assumes nothing.
 use mathlib.Core.Bool.{Bool, true, false, false≢true}
 use mathlib.Core.Path.{_≡_, sym, ap, _∙_}
+use Prim.Native.Nat.{ℕ}
 use lib.Dec.{eqb}
 use Rattle.answer.specs.Checks.{need, pick}
 use Rattle.answer.specs.Report.{numberOf}
 use Rattle.answer.specs.declared.Fault.{Fault}
 use Rattle.answer.specs.declared.Fault.the-variants.{WrongBuffer}
+use Rattle.answer.specs.declared.Outcome.{Outcome}
+use Rattle.answer.specs.declared.Outcome.the-variants.{Accepted, Refused}
 
--- whether a fault is that of a wrong buffer
-abbrev pub isWrong : Fault → Bool
-isWrong fault = eqb (numberOf fault) 1
-
--- an answer that is not refused with it
+-- an answer that is not refused with 1, by a function that says whether one is
 pub record Late {A : Type 0} (wrong : A → Bool) (a : A) : Type 0 where
   pub late : wrong a ≡ false
 
--- a late fault is another
-pub late-not : (fault : Fault) → Late isWrong fault → ¬ (fault ≡ WrongBuffer)
-late-not fault h e = false≢true (sym (h .late) ∙ ap isWrong e)
+-- whether a fault is number 1
+abbrev pub isWrong : Fault → Bool
+isWrong fault = eqb (numberOf fault) 1
+
+-- whether an outcome is refused with it
+abbrev pub wrongOutcome : Outcome → Bool
+wrongOutcome (Accepted start placed adjusted names low) = false
+wrongOutcome (Refused fault offset side) = isWrong fault
+
+-- the fault of a late outcome is another
+pub late-not : {r : Outcome} {fault : Fault} {offset side : ℕ} → Late wrongOutcome r → r ≡ Refused fault offset side → ¬ (fault ≡ WrongBuffer)
+late-not h e f = false≢true (sym (h .late) ∙ ap wrongOutcome e ∙ ap isWrong f)
 
 module _ {A : Type 0} {wrong : A → Bool} where
-  -- an answer of which it can be seen
+  -- an answer that shows it
   pub late-by : {a : A} → wrong a ≡ false → Late wrong a
   late-by h = record { late = h }
 
@@ -39,5 +47,5 @@ module _ {A : Type 0} {wrong : A → Bool} where
   late-pick true h k = h
   late-pick false h k = k
 
--- by these a `search` goes through the checks of a definition
+-- by these a `search` goes through all checks of a definition
 pub ruleset late-laws = (late-need, late-pick, late-by)
