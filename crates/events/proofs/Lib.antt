@@ -2,3 +2,4 @@
 pub mod Events
 pub mod Walks
 pub mod Lists
+pub mod Faults

@@ -3,7 +3,7 @@
 use mathlib.Core.Bool.{Bool, true, false, false≢true}
 use mathlib.Core.List.{List, [], _∷_}
 use mathlib.Core.Path.{_≡_, refl, sym, ap, _∙_, subst}
-use Prim.Native.Nat.{ℕ, _<_, _≤_}
+use Prim.Native.Nat.{ℕ, _≤_}
 use native.Mathlib.Omega.{arith}
 use lib.ListN.{getD}
 use Rattle.acx.proofs.Calling.{loaded-right}
@@ -12,7 +12,6 @@ use Rattle.acx.specs.Call.{load}
 use Rattle.acx.specs.Walk.{Verdict, accepted, refused, report}
 use Rattle.answer.proofs.Outcomes.{isRefused, faultIn}
 use Rattle.answer.specs.Checks.{need, pick}
-use Rattle.answer.specs.Report.{numberOf}
 use Rattle.answer.specs.declared.Fault.{Fault}
 use Rattle.answer.specs.declared.Fault.the-variants.{WrongBuffer}
 use Rattle.answer.specs.declared.Outcome.{Outcome}
@@ -107,7 +106,7 @@ module _ (file : List ℕ) (c : Call) (m : List ℕ) (r : Outcome) (m′ p′ s�
 
   module _ (h : sized c m ≡ true) where
     -- a load is refused, at its side
-    refused-by : (f : Fault) (a n : ℕ) → ruling file c m ≡ refuses f a n → 1 < numberOf f
+    refused-by : (f : Fault) (a n : ℕ) → ruling file c m ≡ refuses f a n → ¬ (f ≡ WrongBuffer)
         → (n ≡ 0 → load (c .form) (c .old) file .answer ≡ refused f a)
         → (n ≡ 1 → load (c .form) (c .new) file .answer ≡ refused f a)
         → n ≤ 1
@@ -122,7 +121,7 @@ module _ (file : List ℕ) (c : Call) (m : List ℕ) (r : Outcome) (m′ p′ s�
         let told : refused f a ≡ refused fault offset = sym (ap (λ (k : Fault). refused k offset) ef ∙ ap (refused f) ea) in
         record {
           memory = w .memory ∙ ap (λ (v : Ruling). memoryBy (c .old) (c .new) v m) er;
-          wrong-buffer = λ k. let first : numberOf f ≡ 1 = ap numberOf (sym ef ∙ k) in absurd (omega (arith, late, first));
+          wrong-buffer = λ k. absurd (late (sym ef ∙ k));
           other = λ k. (
             w .map ∙ ap (λ (t : Bool). pick t (mapBy o (ruling file c m)) (c .map)) h ∙ ap (mapBy o) er,
             w .scratch ∙ ap (λ (t : Bool). pick t blank (c .scratch)) h,
@@ -141,7 +140,7 @@ module _ (file : List ℕ) (c : Call) (m : List ℕ) (r : Outcome) (m′ p′ s�
         ∙ ap (sides u) ev
 
     -- what a load is refused with
-    late-at : (b : Bases) (f : Fault) (a : ℕ) → load (c .form) b file .answer ≡ refused f a → 1 < numberOf f
+    late-at : (b : Bases) (f : Fault) (a : ℕ) → load (c .form) b file .answer ≡ refused f a → ¬ (f ≡ WrongBuffer)
     late-at b f a k = load-late (c .form) b file f a 0 (ap (λ (v : Verdict). report v (load (c .form) b file .events)) k)
 
     refused-right : (u v : Verdict) → load (c .form) (c .old) file .answer ≡ u → load (c .form) (c .new) file .answer ≡ v

@@ -5,6 +5,7 @@ use mathlib.Core.List.{List, _∷_, _++_}
 use mathlib.Core.Path.{_≡_, refl, sym, ap, _∙_}
 use Prim.Native.Nat.{ℕ}
 use lib.ListN.{length, getD}
+use Rattle.answer.proofs.Faults.{late-not}
 use Rattle.answer.proofs.Outcomes.{isRefused, faultIn}
 use Rattle.answer.specs.Checks.{need, pick}
 use Rattle.answer.specs.declared.Fault.{Fault}
@@ -17,7 +18,7 @@ use Rattle.words.specs.Runs.{Bytes}
 use Rattle.passes.specs.Rooms.{Rooms}
 use Rattle.passes.specs.Walk.{Given, Progress, Verdict, finished, refused}
 use Rattle.sdx.proofs.Demand2.{finished-asked, asked-judged, asked-memory, asked-top, Left, call-leaves}
-use Rattle.sdx.proofs.Faults.{Later, later-not, LaterVerdict, load-later}
+use Rattle.sdx.proofs.Faults.{load-late}
 use Rattle.sdx.proofs.Keeping.{judged-keeps}
 use Rattle.sdx.proofs.Lawful.{Lawful}
 use Rattle.sdx.proofs.Same.{loaded-same, placed-same, start-same}
@@ -38,34 +39,20 @@ refused-untouched : (v : Verdict) (es : List Event) (m ns ads : List ℕ) → is
 refused-untouched (finished z) es m ns ads e = absurd (false≢true e)
 refused-untouched (refused fault z) es m ns ads e = record { memory = refl; map = refl; names = refl; addresses = refl }
 
--- its fault has a later number than 1
-reported-later : (m : List ℕ) (v : Verdict) (es : List Event) → LaterVerdict v → isRefused (report m v es) ≡ true → Later (faultIn (report m v es))
-reported-later m (finished z) es h e = absurd (false≢true e)
-reported-later m (refused fault z) es h e = h .later
-
 -- a call with the right buffers is not refused with 1, one with others is
 module _ (file : List ℕ) (g : Given) (right : Bool) (b b′ : Rooms) (r : Outcome) (d : Loaded file g right b r b′) (fault : Fault) (offset side : ℕ)
     (e : r ≡ Refused fault offset side) where
-  -- the fault is the definition's
-  fault-is : (t : Bool) → right ≡ t → fault ≡ faultIn (report (b .memory) (call file g t .answer) (call file g t .events))
-  fault-is t h =
-      ap faultIn (sym e ∙ d .outcome)
-      ∙ ap (λ (s : Bool). faultIn (report (b .memory) (call file g s .answer) (call file g s .events))) h
+  -- it is what the definition reports
+  reported : (t : Bool) → right ≡ t → report (b .memory) (call file g t .answer) (call file g t .events) ≡ Refused fault offset side
+  reported t h = ap (λ (s : Bool). report (b .memory) (call file g s .answer) (call file g s .events)) (sym h) ∙ sym (d .outcome) ∙ e
 
-  was-refused : (t : Bool) → right ≡ t → isRefused (report (b .memory) (call file g t .answer) (call file g t .events)) ≡ true
-  was-refused t h =
-      ap (λ (s : Bool). isRefused (report (b .memory) (call file g s .answer) (call file g s .events))) (sym h)
-      ∙ ap isRefused (sym (d .outcome) ∙ e)
-
-  right-later : right ≡ true → ¬ (fault ≡ WrongBuffer)
+  right-late : right ≡ true → ¬ (fault ≡ WrongBuffer)
   unfolding call need
-  right-later h =
-      later-not fault
-      (rw (fault-is true h) (reported-later (b .memory) (load file g .answer) (load file g .events) (load-later file g) (was-refused true h)))
+  right-late h = late-not (load-late file g (b .memory)) (reported true h)
 
   wrong-first : right ≡ false → fault ≡ WrongBuffer
   unfolding call need
-  wrong-first h = fault-is false h
+  wrong-first h = ap faultIn (sym (reported false h))
 
   untouched : Untouched (call file g right .answer) (call file g right .events) (b .memory) (b .names) (b .addresses)
   untouched = refused-untouched _ _ (b .memory) (b .names) (b .addresses) (ap isRefused (sym (d .outcome) ∙ e))
@@ -77,13 +64,13 @@ module _ (file : List ℕ) (g : Given) (right : Bool) (b b′ : Rooms) (r : Outc
 
   map-first : (t : Bool) → right ≡ t → fault ≡ WrongBuffer → b′ .map ≡ b .map
   unfolding pick
-  map-first true h f = absurd (right-later h f)
+  map-first true h f = absurd (right-late h f)
   map-first false h f = map-is false h
 
-  map-later : (t : Bool) → right ≡ t → ¬ (fault ≡ WrongBuffer) → b′ .map ≡ blank
+  map-late : (t : Bool) → right ≡ t → ¬ (fault ≡ WrongBuffer) → b′ .map ≡ blank
   unfolding pick
-  map-later true h f = map-is true h ∙ untouched .map
-  map-later false h f = absurd (f (wrong-first h))
+  map-late true h f = map-is true h ∙ untouched .map
+  map-late false h f = absurd (f (wrong-first h))
 
 -- a refused call
 pub call-refused : RefusedClaim
@@ -94,7 +81,7 @@ call-refused file g right b b′ r d fault offset side e =
       names = d .names ∙ u .names;
       addresses = d .addresses ∙ u .addresses;
       wrong-buffer = map-first file g right b b′ r d fault offset side e right refl;
-      other = map-later file g right b b′ r d fault offset side e right refl;
+      other = map-late file g right b b′ r d fault offset side e right refl;
     }
 
 -- ---- two benches
