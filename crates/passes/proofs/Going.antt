@@ -75,8 +75,18 @@ bounded-finished low named placed adjusted h i j =
 
 -- ---- where the loop stands
 
+-- what is lent to the walk, which no turn changes
+pub record Lent (file : List ℕ) (g : Given) (b : Rooms) : Type 0 where
+  pub short : length file ≤ 65536
+  pub top : g .high ≤ 65535
+  pub known : length (g .names) ≡ 8 * length (g .addresses)
+  pub clear : b .map ≡ blank
+  pub room : length (b .names) ≡ 256
+  pub spots : length (b .addresses) ≡ 32
+
 -- the walk began with the buffers b and a clear map, and stands at the cursor c with two counts and the buffers b′
 pub record Going (file : List ℕ) (g : Given) (write : Bool) (b : Rooms) (c : Cursor) (placed adjusted : ℕ) (b′ : Rooms) : Type 0 where
+  pub lent : Lent file g b
   pub events : List Event
   pub names : List ℕ
   pub addresses : List ℕ
@@ -94,10 +104,11 @@ pub record Going (file : List ℕ) (g : Given) (write : Bool) (b : Rooms) (c : C
 
 module _ {file : List ℕ} {g : Given} {write : Bool} {b : Rooms} where
   -- before the first block
-  pub going-first : Going file g write b (firstCursor (g .low)) 0 0 (rooms (b .memory) blank (b .names) (b .addresses))
+  pub going-first : Lent file g b → Going file g write b (firstCursor (g .low)) 0 0 (rooms (b .memory) blank (b .names) (b .addresses))
   unfolding placedIn adjustedIn put blocksFrom marks
-  going-first =
+  going-first lent =
       record {
+        lent = lent;
         events = [];
         names = [];
         addresses = [];
@@ -116,9 +127,7 @@ module _ {file : List ℕ} {g : Given} {write : Bool} {b : Rooms} where
       came-first : blocksOf file g ≡ after [] (blocksFrom file g (begun g) (marks [] blank))
       came-first = refl
 
-  module _ (short : length file ≤ 65536) (top : g .high ≤ 65535) (known : length (g .names) ≡ 8 * length (g .addresses)) (clear : b .map ≡ blank)
-      (room : length (b .names) ≡ 256) (spots : length (b .addresses) ≡ 32) {c : Cursor} {placed adjusted : ℕ} {b′ : Rooms}
-      (x : Going file g write b c placed adjusted b′) where
+  module _ {c : Cursor} {placed adjusted : ℕ} {b′ : Rooms} (x : Going file g write b c placed adjusted b′) where
     -- the progress that the loop stands for
     abbrev here : Progress
     here = record { cursor = c; names = x .names; addresses = x .addresses; deeds = x .deeds }
@@ -127,20 +136,20 @@ module _ {file : List ℕ} {g : Given} {write : Bool} {b : Rooms} where
     own-names : midOf 0 (8 * c .named - 0) (b′ .names) ≡ x .names
     own-names =
         front-is (8 * c .named) (b′ .names)
-        ∙ front-holds (b .names) (x .names) (b′ .names) (8 * c .named) (x .new-names) (x .counted .bytes) (omega (arith, room, x .counted .few))
+        ∙ front-holds (b .names) (x .names) (b′ .names) (8 * c .named) (x .new-names) (x .counted .bytes) (omega (arith, x .lent .room, x .counted .few))
 
     own-addresses : midOf 0 (c .named - 0) (b′ .addresses) ≡ x .addresses
     own-addresses =
         front-is (c .named) (b′ .addresses)
         ∙ front-holds (b .addresses) (x .addresses) (b′ .addresses) (c .named) (x .new-addresses) (x .counted .each)
-        (omega (arith, spots, x .counted .few))
+        (omega (arith, x .lent .spots, x .counted .few))
 
     -- a walk whose next turn ends it has come to its answer
     ends-with : (v : Verdict) → turn file g here (marks (x .events) blank) .answer ≡ ends v
         → blocksOf file g ≡ record { answer = v; events = x .events ++ turn file g here (marks (x .events) blank) .events }
     unfolding blocksFrom
     ends-with v e =
-        came-end (turn file g) (λ y. refused CutShort y) (λ y. bytesLeft file (y .cursor .at)) (turn-falls file g top) (blocksOf file g) (x .events) here blank
+        came-end (turn file g) (λ y. refused CutShort y) (λ y. bytesLeft file (y .cursor .at)) (turn-falls file g (x .lent .top)) (blocksOf file g) (x .events) here blank
         (x .came) v e
 
     -- at the file's end the walk has finished
@@ -156,14 +165,14 @@ module _ {file : List ℕ} {g : Given} {write : Bool} {b : Rooms} where
         (record {
           did = record {
             answer = finished-same (c .low) (x .counted .each) (x .placed-is) (x .adjusted-is);
-            reached = rw clear (x .reached);
+            reached = rw (x .lent .clear) (x .reached);
           };
           names = x .new-names;
           addresses = x .new-addresses;
           eights = x .counted .bytes ∙ ap (λ (n : ℕ). 8 * n) (sym (x .counted .each));
           bounded = bounded-finished (c .low) (c .named) placed adjusted (x .counted .few)
-              (omega (arith, x .placed-is, x .passed .counts, x .passed .inside, short))
-              (omega (arith, x .adjusted-is, x .passed .counts, x .passed .inside, short));
+              (omega (arith, x .placed-is, x .passed .counts, x .passed .inside, x .lent .short))
+              (omega (arith, x .adjusted-is, x .passed .counts, x .passed .inside, x .lent .short));
         })
 
     -- the block that the program reads is the definition's
@@ -172,12 +181,12 @@ module _ {file : List ℕ} {g : Given} {write : Bool} {b : Rooms} where
       found-is = as-read ∙ ap (λ (l : List ℕ). read file (g .high) (g .names) l c) own-names
 
       fits : Fits (length file) c (length (g .names) / 8) (length (x .names) / 8) found
-      fits = rw found-is (block-fits file g top here)
+      fits = rw found-is (block-fits file g (x .lent .top) here)
 
       -- it lies where the parts of the program need it
       pub found-fits : Fits (length file) c (length (g .addresses)) (length (midOf 0 (c .named - 0) (b′ .addresses))) found
       found-fits =
-          let lent : length (g .names) / 8 ≡ length (g .addresses) = omega (arith, known) in
+          let lent : length (g .names) / 8 ≡ length (g .addresses) = omega (arith, x .lent .known) in
           let own : length (x .names) / 8 ≡ length (midOf 0 (c .named - 0) (b′ .addresses)) =
           eighth (x .counted .bytes) ∙ sym (x .counted .each) ∙ ap length (sym own-addresses) in
           rw (← lent, ← own) fits
@@ -228,11 +237,11 @@ module _ {file : List ℕ} {g : Given} {write : Bool} {b : Rooms} where
             (ap (λ (q : Ran (Turn Progress Verdict)). q .events) t) in
             rw w
             (record {
-              did = record { answer = refl; reached = rw clear reached-then };
+              did = record { answer = refl; reached = rw (x .lent .clear) reached-then };
               names = x .new-names;
               addresses = x .new-addresses;
               eights = x .counted .bytes ∙ ap (λ (n : ℕ). 8 * n) (sym (x .counted .each));
-              bounded = bounded-stopped fault (c .at) (omega (arith, x .passed .inside, short));
+              bounded = bounded-stopped fault (c .at) (omega (arith, x .passed .inside, x .lent .short));
             })
 
         -- else the loop goes on behind the block
@@ -245,7 +254,7 @@ module _ {file : List ℕ} {g : Given} {write : Bool} {b : Rooms} where
 
           ends-there : Ends (length file) (c .at) next (o .events)
           unfolding carriedAt
-          ends-there = carried-ends file (g .addresses) (x .addresses) c (blockAt file g here) _ _ _ (block-fits file g top here) next (stopped .0)
+          ends-there = carried-ends file (g .addresses) (x .addresses) c (blockAt file g here) _ _ _ (block-fits file g (x .lent .top) here) next (stopped .0)
 
           came-then : blocksOf file g
               ≡ after (x .events ++ o .events) (blocksFrom file g then (marks (x .events ++ o .events) blank))
@@ -254,7 +263,7 @@ module _ {file : List ℕ} {g : Given} {write : Bool} {b : Rooms} where
               let t : turn file g here (marks (x .events) blank) ≡ record { answer = leads then; events = o .events } =
               turn-is
               ∙ ap (λ (s : Stop). record { answer = judge file here (blockAt file g here) (o .events) s; events = o .events }) (stopped .0) in
-              came-on (turn file g) (λ y. refused CutShort y) (λ y. bytesLeft file (y .cursor .at)) (turn-falls file g top) (blocksOf file g) (x .events) here blank
+              came-on (turn file g) (λ y. refused CutShort y) (λ y. bytesLeft file (y .cursor .at)) (turn-falls file g (x .lent .top)) (blocksOf file g) (x .events) here blank
               (x .came) then (ap (λ (q : Ran (Turn Progress Verdict)). q .answer) t)
               ∙ ap
               (λ (es : List Event). after (x .events ++ es) (blocksFrom file g then (marks (x .events ++ es) blank)))
@@ -266,7 +275,7 @@ module _ {file : List ℕ} {g : Given} {write : Bool} {b : Rooms} where
 
           placed-then : placedIn (o .events) ≡ placedBy (blockAt file g here)
           unfolding carriedAt
-          placed-then = placed-by file (g .addresses) (x .addresses) c (blockAt file g here) _ _ _ (block-fits file g top here) next (stopped .0)
+          placed-then = placed-by file (g .addresses) (x .addresses) c (blockAt file g here) _ _ _ (block-fits file g (x .lent .top) here) next (stopped .0)
 
           -- with fewer bytes left
           pub going-falls : length file - advanced c found next .at < length file - c .at
@@ -289,6 +298,7 @@ module _ {file : List ℕ} {g : Given} {write : Bool} {b : Rooms} where
               subst (λ (q : Block). Going file g write b (advanced c q next) (placed + placedBy q) (adjusted + adjusts) (rooms m p ns ads))
               (sym found-is)
               (record {
+                lent = x .lent;
                 events = x .events ++ o .events;
                 names = x .names ++ nameIn file (blockAt file g here);
                 addresses = x .addresses ++ addressIn (blockAt file g here);
@@ -302,8 +312,8 @@ module _ {file : List ℕ} {g : Given} {write : Bool} {b : Rooms} where
                     (x .counted .bytes) (as-found .names);
                 new-addresses = behind (b .addresses) (x .addresses) (b′ .addresses) ads (addressIn (blockAt file g here)) (c .named)
                     (x .new-addresses) (x .counted .each) (as-found .addresses);
-                counted = counted-on file c (blockAt file g here) next _ _ (x .names) (x .addresses) (block-fits file g top here) (x .counted);
-                tabled = tabled-on c (blockAt file g here) next _ _ _ (block-fits file g top here) (x .tabled);
+                counted = counted-on file c (blockAt file g here) next _ _ (x .names) (x .addresses) (block-fits file g (x .lent .top) here) (x .counted);
+                tabled = tabled-on c (blockAt file g here) next _ _ _ (block-fits file g (x .lent .top) here) (x .tabled);
               })
             where
               as-found : Noted file (blockAt file g here) (c .named) (b′ .names) (b′ .addresses) ns ads

@@ -1,7 +1,7 @@
 -- `passes::walk` meets its contract: the definition's walk has come to the cursor, with the memory, the map and the rooms of what it did (`Going`).
 -- Assumes nothing.
-use mathlib.Core.Path.{_≡_, sym, _∙_}
-use Prim.Native.Nat.{_-_, _≤_}
+use mathlib.Core.Path.{_≡_, refl, sym, _∙_}
+use Prim.Native.Nat.{_+_, _-_, _≤_}
 use native.Mathlib.Omega.{arith}
 use borrow.Author.Needs.{needs}
 use lib.ListN.{length}
@@ -23,13 +23,38 @@ abbrev μ-loop : tie.MeasureT-loop
     memory map new-names new-addresses cursor bytes fields =
     length file - cursor .at
 
+-- ---- places that several needs go back to
+
+-- behind a block that was counted: where it was known to be done, and where it was read
+abbrev was-done : tie.After-placed-by Inv-loop μ-loop → tie.After-ended2 Inv-loop μ-loop
+was-done c = c .before .before .before .before .before .before .before .before .before
+
+abbrev was-read : tie.After-placed-by Inv-loop μ-loop → tie.After-read Inv-loop μ-loop
+was-read c = was-done c .before .before .before .before .before .before .before .before .before .before .before
+
+-- where the loop stood before that, and the function's start
+abbrev stood : tie.After-read Inv-loop μ-loop → tie.At-loop Inv-loop μ-loop
+stood c = c .before .before .before .before .before
+
+abbrev began : tie.At-loop Inv-loop μ-loop → tie.Start Inv-loop μ-loop
+began c = c .before .before .before .before .before .before .before .before .before
+
+-- ---- the needs
+
 first-requires : tie.Need-first-requires Inv-loop μ-loop
 first-requires c κs = search needs
 
 loop-holds : tie.Need-loop-holds Inv-loop μ-loop
 loop-holds c =
     let s = c .before .before .before .before .before .before .before .before in
-    (s .pre .2, s .pre .3, s .pre .4, s .pre .5, rw (c .first .ensures, s .pre .6) going-first)
+    let top : s .args .high ≤ 65535 = omega arith in (
+      s .pre .2,
+      s .pre .3,
+      s .pre .4,
+      s .pre .5,
+      rw (c .first .ensures, s .pre .6)
+          (going-first (record { short = s .pre .0; top = top; known = s .pre .1; clear = refl; room = s .pre .4; spots = s .pre .5 })),
+    )
 
 total-requires : tie.Need-total-requires Inv-loop μ-loop
 total-requires c κs = search needs
@@ -48,11 +73,8 @@ same-length-4 c = search needs
 
 returns : tie.Need-returns Inv-loop μ-loop
 returns c =
-    let s = c .before .before .before .before .before .before .before .before .before .before .before .before in
     let l = c .before .before .before .loop .inv in
-    let top : s .args .high ≤ 65535 = omega arith in
-    rw (c .total .ensures)
-    (going-done (s .pre .0) top (s .pre .1) (s .pre .6) (s .pre .4) (s .pre .5) (l .4) (c .before .if1 .taken))
+    rw (c .total .ensures) (going-done (l .4) (c .before .if1 .taken))
 
 mul-size : tie.Need-mul-size Inv-loop μ-loop
 mul-size c = let few = c .before .before .loop .inv .4 .counted .few in omega (arith, few)
@@ -68,9 +90,8 @@ part-read-end c = let l = c .before .before .before .loop .inv in omega (arith, 
 
 read-requires : tie.Need-read-requires Inv-loop μ-loop
 read-requires c κs =
-    let s = c .before .before .before .before .before .before .before .before .before .before .before .before .before in
     let l = c .before .before .before .before .loop .inv in
-    (s .pre .0, l .4 .passed .inside, l .4 .tabled .packed)
+    (l .4 .lent .short, l .4 .passed .inside, l .4 .tabled .packed)
 
 sub-own : tie.Need-sub-own Inv-loop μ-loop
 sub-own c = omega arith
@@ -83,60 +104,40 @@ part-own-end c = let l = c .before .before .before .before .before .before .loop
 
 carry-out-requires : tie.Need-carry-out-requires Inv-loop μ-loop
 carry-out-requires c κs =
-    let c4 = c .before .before .before .before in
-    let c9 = c4 .before .before .before .before .before in
-    let s = c9 .before .before .before .before .before .before .before .before .before in
-    let l = c9 .loop .inv in
-    let e = c4 .read .ensures in
-    let top : s .args .high ≤ 65535 = omega arith in
-    (s .pre .0, e .1, found-fits (s .pre .0) top (s .pre .1) (s .pre .6) (s .pre .4) (s .pre .5) (l .4) (e .0), l .0, l .1)
+    let r = c .before .before .before .before in
+    let l = stood r .loop .inv in
+    (l .4 .lent .short, r .read .ensures .1, found-fits (l .4) (r .read .ensures .0), l .0, l .1)
 
 enum-known-ended : tie.Need-enum-known-ended Inv-loop μ-loop
 enum-known-ended c = search needs
 
 same-length-5 : tie.Need-same-length-5 Inv-loop μ-loop
 same-length-5 c =
-    let c7 = c .before .before .before .before .before .before .before in
-    let c17 = c7 .before .before .before .before .before .before .before .before .before .before in
-    let c26 = c17 .before .before .before .before .before .before .before .before .before in
-    let l = c17 .loop .inv in
-    c7 .carry-out .kept .1 .1 .1 .1 .1 .1 .0 ∙ l .0 ∙ sym (c26 .pre .2)
+    let d = c .before .before .before .before .before .before .before in
+    let t = stood (d .before .before .before .before .before) in
+    d .carry-out .kept .1 .1 .1 .1 .1 .1 .0 ∙ t .loop .inv .0 ∙ sym (began t .pre .2)
 
 same-length-6 : tie.Need-same-length-6 Inv-loop μ-loop
 same-length-6 c =
-    let c7 = c .before .before .before .before .before .before .before in
-    let c17 = c7 .before .before .before .before .before .before .before .before .before .before in
-    let c26 = c17 .before .before .before .before .before .before .before .before .before in
-    let l = c17 .loop .inv in
-    c7 .carry-out .kept .1 .1 .1 .1 .1 .1 .1 .0 ∙ l .1 ∙ sym (c26 .pre .3)
+    let d = c .before .before .before .before .before .before .before in
+    let t = stood (d .before .before .before .before .before) in
+    d .carry-out .kept .1 .1 .1 .1 .1 .1 .1 .0 ∙ t .loop .inv .1 ∙ sym (began t .pre .3)
 
 same-length-7 : tie.Need-same-length-7 Inv-loop μ-loop
 same-length-7 c =
-    let c14 = c .before .before .before .before .before .before .before .before .before .before .before .before .before .before in
-    let c17 = c14 .before .before .before in
-    let c26 = c17 .before .before .before .before .before .before .before .before .before in
-    let l = c17 .loop .inv in
-    l .2 ∙ sym (c26 .pre .4)
+    let t = stood (c .before .before .before .before .before .before .before .before .before .before .before .before) in
+    t .loop .inv .2 ∙ sym (began t .pre .4)
 
 same-length-8 : tie.Need-same-length-8 Inv-loop μ-loop
 same-length-8 c =
-    let c14 = c .before .before .before .before .before .before .before .before .before .before .before .before .before .before in
-    let c17 = c14 .before .before .before in
-    let c26 = c17 .before .before .before .before .before .before .before .before .before in
-    let l = c17 .loop .inv in
-    l .3 ∙ sym (c26 .pre .5)
+    let t = stood (c .before .before .before .before .before .before .before .before .before .before .before .before) in
+    t .loop .inv .3 ∙ sym (began t .pre .5)
 
 returns-2 : tie.Need-returns-2 Inv-loop μ-loop
 returns-2 c =
-    let c7 = c .before .before .before .before .before .before .before in
-    let c12 = c7 .before .before .before .before .before in
-    let c17 = c12 .before .before .before .before .before in
-    let s = c17 .before .before .before .before .before .before .before .before .before in
-    let l = c17 .loop .inv in
-    let e = c12 .read .ensures in
-    let top : s .args .high ≤ 65535 = omega arith in
-    going-stops (s .pre .0) top (s .pre .1) (s .pre .6) (s .pre .4) (s .pre .5) (l .4) (e .0) (c12 .before .before .before .if1 .left)
-    (c7 .carry-out .ensures) _
+    let d = c .before .before .before .before .before .before .before in
+    let r = d .before .before .before .before .before in
+    going-stops (stood r .loop .inv .4) (r .read .ensures .0) (r .before .before .before .if1 .left) (d .carry-out .ensures) _
     (c .before .ended .given .1)
 
 enum-known-ended-2 : tie.Need-enum-known-ended-2 Inv-loop μ-loop
@@ -144,97 +145,60 @@ enum-known-ended-2 c = search needs
 
 note-requires : tie.Need-note-requires Inv-loop μ-loop
 note-requires c κs =
-    let c14 = c .before .before .before .before .before .before .before .before .before .before .before .before .before .before in
-    let c19 = c14 .before .before .before .before .before in
-    let s = c19 .before .before .before .before .before .before .before .before .before in
-    let l = c19 .loop .inv in
-    let e = c14 .read .ensures in
-    let top : s .args .high ≤ 65535 = omega arith in
-    (name-fits (s .pre .0) top (s .pre .1) (s .pre .6) (s .pre .4) (s .pre .5) (l .4) (e .0), l .2, l .3)
+    let r = c .before .before .before .before .before .before .before .before .before .before .before .before .before .before in
+    let l = stood r .loop .inv in
+    (name-fits (l .4) (r .read .ensures .0), l .2, l .3)
 
 placed-by-requires : tie.Need-placed-by-requires Inv-loop μ-loop
 placed-by-requires c κs = search needs
 
+-- both counts with the block's own stay within the file
+sums : (c : tie.After-placed-by Inv-loop μ-loop)
+    → (stood (was-read c) .loop .bytes + c .placed-by .result ≤ 65536) × (stood (was-read c) .loop .fields + was-done c .ended2 .given .0 .1 .0 ≤ 65536)
+sums c =
+    let r = was-read c in
+    let x = stood r .loop .inv .4 in
+    let d = was-done c .before .before .before .before .before .before .carry-out .ensures in
+    let k = going-counts x (r .read .ensures .0) (r .before .before .before .if1 .left) d _ _ (was-done c .ended2 .given .1) in
+    (omega (arith, k .0, x .lent .short, c .placed-by .ensures), omega (arith, k .1, x .lent .short))
+
 add-bytes : tie.Need-add-bytes Inv-loop μ-loop
-add-bytes c =
-    let c9 = c .before .before .before .before .before .before .before .before .before in
-    let c15 = c9 .before .before .before .before .before .before in
-    let c20 = c15 .before .before .before .before .before in
-    let c25 = c20 .before .before .before .before .before in
-    let s = c25 .before .before .before .before .before .before .before .before .before in
-    let l = c25 .loop .inv in
-    let e = c20 .read .ensures in
-    let top : s .args .high ≤ 65535 = omega arith in
-    let k = going-counts (s .pre .0) top (s .pre .1) (s .pre .6) (s .pre .4) (s .pre .5) (l .4) (e .0) (c20 .before .before .before .if1 .left)
-    (c15 .carry-out .ensures) _ _
-    (c9 .ended2 .given .1) in
-    omega (arith, k .0, s .pre .0, c .placed-by .ensures)
+add-bytes c = omega (arith, sums c .0)
 
 add-fields : tie.Need-add-fields Inv-loop μ-loop
-add-fields c =
-    let c9 = c .before .before .before .before .before .before .before .before .before in
-    let c15 = c9 .before .before .before .before .before .before in
-    let c20 = c15 .before .before .before .before .before in
-    let c25 = c20 .before .before .before .before .before in
-    let s = c25 .before .before .before .before .before .before .before .before .before in
-    let l = c25 .loop .inv in
-    let e = c20 .read .ensures in
-    let top : s .args .high ≤ 65535 = omega arith in
-    let k = going-counts (s .pre .0) top (s .pre .1) (s .pre .6) (s .pre .4) (s .pre .5) (l .4) (e .0) (c20 .before .before .before .if1 .left)
-    (c15 .carry-out .ensures) _ _
-    (c9 .ended2 .given .1) in
-    omega (arith, k .1, s .pre .0)
+add-fields c = omega (arith, sums c .1)
 
 advance-requires : tie.Need-advance-requires Inv-loop μ-loop
 advance-requires c κs =
-    let c14 = c .before .before .before .before .before .before .before .before .before .before .before .before .before .before in
-    let c20 = c14 .before .before .before .before .before .before in
-    let c25 = c20 .before .before .before .before .before in
-    let s = c25 .before .before .before .before .before .before .before .before .before in
-    let l = c25 .loop .inv in
-    let e = c20 .read .ensures in
-    let top : s .args .high ≤ 65535 = omega arith in
-    let count = l .4 .tabled .few in
-    let named = l .4 .counted .few in
-    (omega (arith, count), omega (arith, named), room-fits (s .pre .0) top (s .pre .1) (s .pre .6) (s .pre .4) (s .pre .5) (l .4) (e .0))
+    let r = was-read c in
+    let x = stood r .loop .inv .4 in
+    let count = x .tabled .few in
+    let named = x .counted .few in
+    (omega (arith, count), omega (arith, named), room-fits x (r .read .ensures .0))
 
 loop-less : tie.Need-loop-less Inv-loop μ-loop
 loop-less c =
-    let c10 = c .before .before .before .before .before .before .before .before .before .before in
-    let c16 = c10 .before .before .before .before .before .before in
-    let c21 = c16 .before .before .before .before .before in
-    let c26 = c21 .before .before .before .before .before in
-    let s = c26 .before .before .before .before .before .before .before .before .before in
-    let l = c26 .loop .inv in
-    let e = c21 .read .ensures in
-    let top : s .args .high ≤ 65535 = omega arith in
-    let did = c16 .carry-out .ensures in
-    let done = c10 .ended2 .given .1 in
+    let n = c .before .before .before .before .before .before .before .before .before .before in
+    let d = n .before .before .before .before .before .before in
+    let r = d .before .before .before .before .before in
     rw (c .advance .ensures)
-    (going-falls (s .pre .0) top (s .pre .1) (s .pre .6) (s .pre .4) (s .pre .5) (l .4) (e .0) (c21 .before .before .before .if1 .left)
-    did _ _ done)
+    (going-falls (stood r .loop .inv .4) (r .read .ensures .0) (r .before .before .before .if1 .left) (d .carry-out .ensures) _ _
+    (n .ended2 .given .1))
 
 loop-again : tie.Need-loop-again Inv-loop μ-loop
 loop-again c =
-    let c6 = c .before .before .before .before .before .before in
-    let c10 = c6 .before .before .before .before in
-    let c16 = c10 .before .before .before .before .before .before in
-    let c21 = c16 .before .before .before .before .before in
-    let c26 = c21 .before .before .before .before .before in
-    let s = c26 .before .before .before .before .before .before .before .before .before in
-    let l = c26 .loop .inv in
-    let e = c21 .read .ensures in
-    let top : s .args .high ≤ 65535 = omega arith in
-    let did = c16 .carry-out .ensures in
-    let done = c10 .ended2 .given .1 in
-    let noted = c6 .note .ensures in (
-      c16 .carry-out .kept .1 .1 .1 .1 .1 .1 .0 ∙ l .0,
-      c16 .carry-out .kept .1 .1 .1 .1 .1 .1 .1 .0 ∙ l .1,
-      c6 .note .kept .1 .1 .1 .0 ∙ l .2,
-      c6 .note .kept .1 .1 .1 .1 .0 ∙ l .3,
+    let k = c .before .before .before .before .before .before in
+    let n = k .before .before .before .before in
+    let d = n .before .before .before .before .before .before in
+    let r = d .before .before .before .before .before in
+    let l = stood r .loop .inv in (
+      d .carry-out .kept .1 .1 .1 .1 .1 .1 .0 ∙ l .0,
+      d .carry-out .kept .1 .1 .1 .1 .1 .1 .1 .0 ∙ l .1,
+      k .note .kept .1 .1 .1 .0 ∙ l .2,
+      k .note .kept .1 .1 .1 .1 .0 ∙ l .3,
       rw (c .advance .ensures, c .before .placed-by .ensures)
-          (going-on (s .pre .0) top (s .pre .1) (s .pre .6) (s .pre .4) (s .pre .5) (l .4) (e .0) (c21 .before .before .before .if1 .left)
-          did _ _ done _ _ noted),
+          (going-on (l .4) (r .read .ensures .0) (r .before .before .before .if1 .left) (d .carry-out .ensures) _ _ (n .ended2 .given .1) _ _
+          (k .note .ensures)),
     )
 
 pub walk-spec : {M : Type 1} → statement M
