@@ -12,6 +12,7 @@ use Rattle.answer.specs.Report.{address}
 use Rattle.answer.specs.declared.Fault.{Fault}
 use Rattle.answer.specs.declared.Outcome.{Outcome}
 use Rattle.answer.specs.declared.Outcome.the-variants.{Accepted, Refused}
+use Rattle.events.proofs.Checks.{failed-passed, need-passed}
 use Rattle.events.proofs.Events.{reached-none, reached-more}
 use Rattle.events.specs.Events.{Event, marks, blank, placedIn, adjustedIn, Ran, Reached, Did}
 use Rattle.events.specs.declared.Check.{Check}
@@ -21,7 +22,6 @@ use Rattle.records.specs.Records.{read}
 use Rattle.records.specs.declared.Entry.{Entry}
 use Rattle.records.specs.declared.Record.{Record}
 use Rattle.records.specs.declared.Record.the-variants.{End}
-use Rattle.pieces.proofs.Checks.{failed-passed, need-passed}
 use Rattle.acx.proofs.Cursors.{Came, came-first, came-found, came-ends, came-on, came-further, came-ends-by, onward-by-tag}
 use Rattle.acx.proofs.Turning.{Onward, turn-is, end-none, events-after}
 use Rattle.pieces.specs.AtBases.{startOf, ending, applied, EndsBy}
@@ -124,4 +124,4 @@ module _ {file : List ℕ} {b : Bases} {first : ℕ} {write : Bool} {m₀ : List
       unfolding applied
       going-onward e t =
           onward-by-tag found t
-          (λ fault f. failed-passed fault (sym (ap (λ (q : Record). applied file b (c .place) (c .size) q p .answer) f) ∙ sym (d .answer) ∙ e))
+          (λ fault f. failed-passed (sym (ap (λ (q : Record). applied file b (c .place) (c .size) q p .answer) f) ∙ sym (d .answer) ∙ e))

@@ -2,7 +2,7 @@
 -- Assumes nothing.
 use mathlib.Core.Bool.{true, false}
 use mathlib.Core.List.{List, [], _++_}
-use mathlib.Core.Path.{_≡_, refl, ap}
+use mathlib.Core.Path.{_≡_, refl}
 use Prim.Native.Nat.{ℕ, _+_, _≤_, _<_}
 use native.Mathlib.Omega.{arith}
 use lib.ListN.{length}
@@ -18,7 +18,6 @@ use Rattle.updates.proofs.Bounds.{body-bounds, body-places-none}
 use Rattle.updates.proofs.Turning.{broken-done, done-same}
 use Rattle.updates.specs.Bodies.{Stop, broken, done, counted}
 use Rattle.words.proofs.Runs.{length-part}
-use Rattle.updates.specs.declared.Ended.{Ended}
 use Rattle.updates.specs.declared.Ended.the-variants.{Broken, Done}
 use Rattle.deeds.proofs.Rooms.{behind}
 use Rattle.deeds.specs.Deeds.{placedBy, carried, advanced, firstCursor}
@@ -95,29 +94,11 @@ placed-by file lent own c (Update source from) map n k f next e = body-places-no
 placed-by file lent own c (NewName from address) map n k f next e = refl
 placed-by file lent own c (Faulty fault) map n k f next e = refl
 
--- how a body or another block ends, in the program's terms
-
-abbrev isDone : Ended → ℕ
-isDone (Broken fault) = 0
-isDone (Done next adjusted) = 1
-
-abbrev faultOf : Fault → Ended → Fault
-faultOf other (Broken fault) = fault
-faultOf other (Done next adjusted) = other
-
-abbrev nextIn : Ended → ℕ
-nextIn (Broken fault) = 0
-nextIn (Done next adjusted) = next
-
-abbrev countIn : Ended → ℕ
-countIn (Broken fault) = 0
-countIn (Done next adjusted) = adjusted
-
--- an end in these terms is the same end in the definition's
+-- an end in the program's terms is the same end in the definition's
 pub stop-broken : (s : Stop) (es : List Event) (fault : Fault) → counted s es ≡ Broken fault → s ≡ broken fault
-stop-broken (broken f) es fault e = ap (λ (r : Ended). broken (faultOf fault r)) e
-stop-broken (done next) es fault e = let z : _≡_ {A = ℕ} 1 0 = ap isDone e in absurd (omega arith)
+stop-broken (broken f) es fault e = cc
+stop-broken (done next) es fault e = let z : _≡_ {A = ℕ} 0 1 = cc in absurd (omega arith)
 
 pub stop-done : (s : Stop) (es : List Event) (next adjusted : ℕ) → counted s es ≡ Done next adjusted → (s ≡ done next) × (adjustedIn es ≡ adjusted)
-stop-done (broken f) es next adjusted e = let z : _≡_ {A = ℕ} 0 1 = ap isDone e in absurd (omega arith)
-stop-done (done k) es next adjusted e = (ap (λ (r : Ended). done (nextIn r)) e, ap countIn e)
+stop-done (broken f) es next adjusted e = let z : _≡_ {A = ℕ} 0 1 = cc in absurd (omega arith)
+stop-done (done k) es next adjusted e = (cc, cc)

@@ -1,5 +1,6 @@
 -- Laws about the definitions of specs/.
 pub mod Events
+pub mod Checks
 pub mod Walks
 pub mod Lists
 pub mod Faults

@@ -40,17 +40,8 @@ eighth e = omega (arith, e)
 finished-same : (low : ℕ) {n k i j l m : ℕ} → k ≡ n → i ≡ j → l ≡ m → Finished (totals low n i l) ≡ Finished (totals low k j m)
 finished-same low e f g = rw (e, f, g) refl
 
-abbrev isFinished : Walked → ℕ
-isFinished (Stopped fault offset) = 0
-isFinished (Finished t) = 1
-
--- a walk that stopped has not finished
 pub stopped-finished : {fault : Fault} {offset : ℕ} {t : Totals} → Stopped fault offset ≡ Finished t → ⊥
-stopped-finished e = let z : _≡_ {A = ℕ} 0 1 = ap isFinished e in omega arith
-
-abbrev offsetIn : Walked → ℕ
-offsetIn (Stopped fault offset) = offset
-offsetIn (Finished t) = 0
+stopped-finished e = let z : _≡_ {A = ℕ} 0 1 = cc in omega arith
 
 -- what a walk that has finished comes to
 abbrev pub totalsIn : Walked → Totals
@@ -59,7 +50,7 @@ totalsIn (Finished t) = t
 
 bounded-stopped : (fault : Fault) (offset : ℕ) → offset ≤ 65536 → Bounded (Stopped fault offset)
 bounded-stopped fault offset h =
-    record { offset = λ f at e. omega (arith, ap offsetIn e, h); counts = λ t e. absurd (stopped-finished e) }
+    record { offset = λ f at e. let z : offset ≡ at = cc in omega arith; counts = λ t e. absurd (stopped-finished e) }
 
 bounded-finished : (low named placed adjusted : ℕ) → named ≤ 32 → placed ≤ 65536 → adjusted ≤ 65536
     → Bounded (Finished (totals low named placed adjusted))

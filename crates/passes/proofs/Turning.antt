@@ -22,12 +22,8 @@ use Rattle.passes.specs.Parts.{progressOf}
 use Rattle.passes.specs.Walk.{Given, Progress, Verdict, finished, refused, judge, blockAt, carriedAt, turn, blocksFrom, begun, blocksOf, stepped}
 
 -- a refusal is no end of a file
-abbrev isFinished : Verdict → ℕ
-isFinished (finished z) = 1
-isFinished (refused fault z) = 0
-
 pub refused-finished : {fault : Fault} {y z : Progress} → refused fault y ≡ finished z → ⊥
-refused-finished e = let n : _≡_ {A = ℕ} 0 1 = ap isFinished e in omega arith
+refused-finished e = let n : _≡_ {A = ℕ} 0 1 = cc in omega arith
 
 -- ---- where a turn leads
 

@@ -1,6 +1,6 @@
 -- The checks of one record, over plain values: what each comes to where it holds and where it fails. The functions' proofs cite these.
 -- Assumes nothing.
-use mathlib.Core.Bool.{Bool, true, false, not, false≢true}
+use mathlib.Core.Bool.{Bool, true, false, not}
 use mathlib.Core.List.{List, [], _∷_}
 use mathlib.Core.Path.{_≡_, refl, sym, ap, _∙_}
 use Prim.Native.Nat.{ℕ, _+_, _-_, _<_, _≤_}
@@ -9,10 +9,10 @@ use borrow.Author.Tests.{le-leb, lt-leb, leb-true}
 use borrow.Rule.Slice.PartMut.{midOf, putMid}
 use lib.ListN.{length, replicate}
 use Rattle.answer.specs.Checks.{need}
-use Rattle.answer.specs.declared.Fault.{Fault}
 use Rattle.answer.specs.declared.Fault.the-variants.{DoesNotFit, PiecesOverlap, FieldNotLoaded, AdjustedTwice}
+use Rattle.events.proofs.Checks.{need-passed}
 use Rattle.events.proofs.Events.{did-none, filled}
-use Rattle.events.specs.Events.{Event, place, play, adjustedMark, markOne, marks, Ran, failed, playIf, Reached, Did}
+use Rattle.events.specs.Events.{Event, place, play, adjustedMark, markOne, marks, Ran, playIf, Reached, Did}
 use Rattle.events.specs.declared.Check.{Check}
 use Rattle.events.specs.declared.Check.the-variants.{Passed, Failed}
 use Rattle.fields.specs.declared.Field.{Field}
@@ -25,22 +25,6 @@ use Rattle.pieces.specs.AtBases.{placing, adjusting}
 use Rattle.pieces.specs.Places.{Inside}
 use Rattle.pieces.specs.Pieces.{limitOf, width, amountOf, adjustment, adjustments}
 use Rattle.pieces.specs.declared.Bases.{Bases}
-
--- ---- one check
-
-abbrev isPassed : Check → Bool
-isPassed Passed = true
-isPassed (Failed fault) = false
-
--- a check that failed did not pass
-pub failed-passed : (fault : Fault) → Failed fault ≡ Passed → ⊥
-failed-passed fault e = false≢true (ap isPassed e)
-
--- what passes a check holds it, and is what the rest came to
-pub need-passed : (c : Bool) (fault : Fault) (o : Ran Check) → need failed c fault o .answer ≡ Passed → (c ≡ true) × (need failed c fault o ≡ o)
-unfolding need
-need-passed true fault o e = (refl, refl)
-need-passed false fault o e = absurd (failed-passed fault e)
 
 -- ---- a part that was lent
 

@@ -17,10 +17,10 @@ use Rattle.answer.specs.declared.Outcome.{Outcome}
 use Rattle.answer.specs.declared.Outcome.the-variants.{Accepted, Refused}
 use Rattle.answer.specs.declared.Start.{Start}
 use Rattle.answer.specs.declared.Start.the-variants.{Absent}
+use Rattle.events.proofs.Checks.{check-passed}
 use Rattle.events.specs.Events.{Event, play, marks, blank, placedIn, adjustedIn, Ran}
 use Rattle.events.specs.Walk.{leads}
 use Rattle.events.specs.declared.Check.the-variants.{Passed, Failed}
-use Rattle.updates.proofs.Going.{failed-passed}
 use Rattle.words.proofs.Runs.{front-holds}
 use Rattle.words.specs.Runs.{part, put}
 use Rattle.words.specs.Numbers.{value}
@@ -81,12 +81,6 @@ pub admit-settings : (file names addresses : List ℕ) (low high : ℕ)
 unfolding admitting
 admit-settings file names addresses low high = refl
 
--- a check that was passed
-need-passed : (c : Bool) (fault : Fault) (rest : Check) → need Failed c fault rest ≡ Passed → (c ≡ true) × (rest ≡ Passed)
-unfolding need
-need-passed true fault rest e = (refl, e)
-need-passed false fault rest e = absurd (failed-passed fault e)
-
 -- where all have passed
 pub record Admitted (file : List ℕ) (g : Given) : Type 0 where
   pub settings : inRange g ≡ true
@@ -97,8 +91,8 @@ pub record Admitted (file : List ℕ) (g : Given) : Type 0 where
 pub admitted : (file : List ℕ) (g : Given) → admitting file g ≡ Passed → Admitted file g
 unfolding admitting
 admitted file g e =
-    let x = need-passed _ _ _ e in
-    let y = need-passed _ _ _ (x .1) in
+    let x = check-passed _ _ _ e in
+    let y = check-passed _ _ _ (x .1) in
     record { settings = x .0; fits = leb-true _ _ (y .0); opens = y .1 }
 
 -- settings in range

@@ -1,6 +1,6 @@
 -- The program's loop over a body: its cursor, memory and map at each turn are those of the definition's walk, which has come to the same place.
 -- Assumes nothing.
-use mathlib.Core.Bool.{Bool, true, false, false≢true}
+use mathlib.Core.Bool.{Bool}
 use mathlib.Core.List.{List, [], _∷_, _++_}
 use mathlib.Core.Path.{_≡_, refl, sym, ap, _∙_}
 use Prim.Native.Nat.{ℕ, _+_, _<_, _≤_}
@@ -10,6 +10,7 @@ use denote.Enum.Declared.{tagOf}
 use lib.ListN.{length}
 use Rattle.answer.specs.declared.Fault.{Fault}
 use Rattle.answer.specs.declared.Fault.the-variants.{CutShort}
+use Rattle.events.proofs.Checks.{failed-passed}
 use Rattle.events.proofs.Events.{adjusted-append, reached-none, reached-more}
 use Rattle.events.proofs.Walks.{came-none, came-on, came-end}
 use Rattle.events.specs.Events.{Event, marks, adjustedIn, Ran, Reached, Did}
@@ -55,14 +56,6 @@ onward-by-tag (Faulty fault) t h = h fault refl
 onward-by-tag (End next) t h = miss (0 ∷ 2 ∷ 3 ∷ []) 1 tt t
 onward-by-tag (Move counter next) t h = tt
 onward-by-tag (Adjust counter next) t h = tt
-
-abbrev isPassed : Check → Bool
-isPassed Passed = true
-isPassed (Failed fault) = false
-
--- a check that failed did not pass
-pub failed-passed : (fault : Fault) → Failed fault ≡ Passed → ⊥
-failed-passed fault e = false≢true (ap isPassed e)
 
 -- a word that an item adjusts lies in memory
 pub item-fits : (file : List ℕ) (table : List Slot) (at : ℕ) (from : Counter) (item : Item) → item ≡ read file table at from
@@ -144,7 +137,7 @@ module _ {file : List ℕ} {table : List Slot} {amount first : ℕ} {write : Boo
       pub going-onward : r ≡ Passed → OneOf (0 ∷ 2 ∷ 3 ∷ []) (tagOf the-type item) → Onward item
       going-onward e t =
           onward-by-tag item t
-          (λ fault f. failed-passed fault (sym (ap (λ (i : Item). applied amount i p .answer) f) ∙ sym (d .answer) ∙ e))
+          (λ fault f. failed-passed (sym (ap (λ (i : Item). applied amount i p .answer) f) ∙ sym (d .answer) ∙ e))
 
       here-leads : r ≡ Passed → Onward item → here .answer ≡ leads (stateOf (advanced c item))
       here-leads e o =

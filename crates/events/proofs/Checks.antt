@@ -1,0 +1,27 @@
+-- A check that was passed.
+-- Assumes nothing.
+use mathlib.Core.Bool.{Bool, true, false}
+use mathlib.Core.Path.{_≡_, refl}
+use Prim.Native.Nat.{ℕ}
+use native.Mathlib.Omega.{arith}
+use Rattle.answer.specs.Checks.{need}
+use Rattle.answer.specs.declared.Fault.{Fault}
+use Rattle.events.specs.Events.{Ran, failed}
+use Rattle.events.specs.declared.Check.{Check}
+use Rattle.events.specs.declared.Check.the-variants.{Passed, Failed}
+
+-- a check that failed did not pass
+pub failed-passed : {fault : Fault} → Failed fault ≡ Passed → ⊥
+failed-passed e = let n : _≡_ {A = ℕ} 0 1 = cc in omega arith
+
+-- what passes a check holds it, and the rest decides
+pub check-passed : (c : Bool) (fault : Fault) (rest : Check) → need Failed c fault rest ≡ Passed → (c ≡ true) × (rest ≡ Passed)
+unfolding need
+check-passed true fault rest e = (refl, e)
+check-passed false fault rest e = absurd (failed-passed e)
+
+-- the same of a part of the work
+pub need-passed : (c : Bool) (fault : Fault) (o : Ran Check) → need failed c fault o .answer ≡ Passed → (c ≡ true) × (need failed c fault o ≡ o)
+unfolding need
+need-passed true fault o e = (refl, refl)
+need-passed false fault o e = absurd (failed-passed e)
