@@ -151,11 +151,6 @@ accepted-map : (v : Verdict) (es : List Event) → isRefused (report v es) ≡ f
 accepted-map (accepted ps start) es e = refl
 accepted-map (refused fault at) es e = absurd (false≢true (sym e))
 
--- where the lengths are right, a call is a load
-pub call-right : (form : ℕ) (b : Bases) (file : List ℕ) → call form b file true ≡ load form b file
-unfolding call need
-call-right form b file = refl
-
 module _ {form : ℕ} {b : Bases} {file m p : List ℕ} where
   -- a call that did what its load comes to
   carried : {r : Outcome} {m′ p′ : List ℕ} → r ≡ reported (load form b file) .answer

@@ -20,6 +20,13 @@ item-some Page = omega arith
 item-some Word = omega arith
 item-some High = omega arith
 
+-- an item has two bytes at most
+pub item-le : (fixup : Fixup) → itemSize fixup ≤ 2
+item-le Low = omega arith
+item-le Page = omega arith
+item-le Word = omega arith
+item-le High = omega arith
+
 -- a byte, and the bytes after it
 drop-next : (items : List ℕ) (i : ℕ) → i + 1 ≤ length items → drop i items ≡ getD items i 0 ∷ drop (i + 1) items
 drop-next items i h =
@@ -71,7 +78,7 @@ item-first High items i h =
     ∙ ap (λ (l : List ℕ). pairs l ++ pairs (drop (i + 2) items)) (sym (part-two items i h))
 
 -- where an item stands, it lists the next field
-pub fields-more : (fixup : Fixup) (items : List ℕ) (i : ℕ) (f : Field) → i + itemSize fixup ≤ length items
+fields-more : (fixup : Fixup) (items : List ℕ) (i : ℕ) (f : Field) → i + itemSize fixup ≤ length items
     → f ∷ [] ≡ fieldsOf fixup (part items i (itemSize fixup))
     → fieldsOf fixup (drop i items) ≡ f ∷ fieldsOf fixup (drop (i + itemSize fixup) items)
 fields-more fixup items i f h e =
@@ -84,12 +91,26 @@ pairs-none (index ∷ []) h = refl
 pairs-none (index ∷ lsb ∷ items) h = absurd (omega arith)
 
 -- where no item stands, no field is left
-pub fields-none : (fixup : Fixup) (items : List ℕ) (i : ℕ) → length items < i + itemSize fixup → fieldsOf fixup (drop i items) ≡ []
+fields-none : (fixup : Fixup) (items : List ℕ) (i : ℕ) → length items < i + itemSize fixup → fieldsOf fixup (drop i items) ≡ []
 unfolding fieldsOf
 fields-none Low items i h = ap (singles Low) (drop-of-length-le items {i = i} (omega arith))
 fields-none Page items i h = ap (singles Page) (drop-of-length-le items {i = i} (omega arith))
 fields-none Word items i h = ap (singles Word) (drop-of-length-le items {i = i} (omega arith))
 fields-none High items i h = pairs-none (drop i items) (rw length-drop (omega arith))
+
+-- the same where the program has the item's size as a number k: a whole item lists the next field
+pub next-field : (fixup : Fixup) (items : List ℕ) (i k : ℕ) (f : Field) → k ≡ itemSize fixup → i + k ≤ length items
+    → f ∷ [] ≡ fieldsOf fixup (part items i (itemSize fixup))
+    → fieldsOf fixup (drop i items) ≡ f ∷ fieldsOf fixup (drop (i + k) items)
+next-field fixup items i k f ek h ef =
+    let g : i + itemSize fixup ≤ length items = rw (← ek) h in
+    rw ek (fields-more fixup items i f g ef)
+
+-- where no whole item is left, no field is
+pub last-field : (fixup : Fixup) (items : List ℕ) (i k : ℕ) → k ≡ itemSize fixup → length items < i + k → fieldsOf fixup (drop i items) ≡ []
+last-field fixup items i k ek h =
+    let g : length items < i + itemSize fixup = rw (← ek) h in
+    fields-none fixup items i g
 
 -- an index is a field
 length-singles : (fixup : Fixup) (items : List ℕ) → length (singles fixup items) ≡ length items

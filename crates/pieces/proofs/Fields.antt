@@ -3,10 +3,8 @@
 use mathlib.Core.Bool.{Bool, true, false, not}
 use mathlib.Core.List.{List, [], _∷_, _++_, append-assoc, append-nil}
 use mathlib.Core.Path.{_≡_, refl, sym, ap, _∙_}
-use Prim.Native.Nat.{ℕ, _+_, _≤_, _<_}
-use native.Mathlib.Omega.{arith}
+use Prim.Native.Nat.{ℕ, _+_}
 use lib.Dec.{leb}
-use lib.ListN.{length, drop}
 use Rattle.answer.specs.Checks.{need}
 use Rattle.answer.specs.declared.Fault.{Fault}
 use Rattle.answer.specs.declared.Fault.the-variants.{FieldNotLoaded, AdjustedTwice}
@@ -15,11 +13,7 @@ use Rattle.events.specs.Walk.{after}
 use Rattle.events.specs.Events.{Event, markOne, marks, Ran, failed, passed, Reached, Did}
 use Rattle.events.specs.declared.Check.{Check}
 use Rattle.events.specs.declared.Check.the-variants.{Passed, Failed}
-use Rattle.fields.proofs.Listing.{fields-more, fields-none}
-use Rattle.fields.specs.Fields.{itemSize, fieldsOf}
 use Rattle.fields.specs.declared.Field.{Field}
-use Rattle.fields.specs.declared.Fixup.{Fixup}
-use Rattle.fields.specs.declared.Fixup.the-variants.{Low, Page, Word, High}
 use Rattle.words.specs.Runs.{part, contains}
 use Rattle.pieces.proofs.Checks.{adjusting-all}
 use Rattle.pieces.specs.AtBases.{adjusting}
@@ -109,24 +103,3 @@ module _ {b : Bases} {a n : ℕ} {write : Bool} {all : List Field} {m₀ p₀ : 
       rw z (record { answer = refl; reached = x .reached })
 
 -- ---- the fields from the item at i on (the program has the size of an item as a number k)
-
--- an item has two bytes at most
-pub item-le : (fixup : Fixup) → itemSize fixup ≤ 2
-item-le Low = omega arith
-item-le Page = omega arith
-item-le Word = omega arith
-item-le High = omega arith
-
--- a whole item lists the next field
-pub next-field : (fixup : Fixup) (items : List ℕ) (i k : ℕ) (f : Field) → k ≡ itemSize fixup → i + k ≤ length items
-    → f ∷ [] ≡ fieldsOf fixup (part items i (itemSize fixup))
-    → fieldsOf fixup (drop i items) ≡ f ∷ fieldsOf fixup (drop (i + k) items)
-next-field fixup items i k f ek h ef =
-    let g : i + itemSize fixup ≤ length items = rw (← ek) h in
-    rw ek (fields-more fixup items i f g ef)
-
--- where no whole item is left, no field is
-pub last-field : (fixup : Fixup) (items : List ℕ) (i k : ℕ) → k ≡ itemSize fixup → length items < i + k → fieldsOf fixup (drop i items) ≡ []
-last-field fixup items i k ek h =
-    let g : length items < i + itemSize fixup = rw (← ek) h in
-    fields-none fixup items i g

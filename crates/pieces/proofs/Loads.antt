@@ -13,7 +13,7 @@ use Rattle.words.proofs.Numbers.{on-lt}
 use Rattle.words.proofs.Runs.{length-put, put-outside, part-at, part-put, part-put-apart, bytes-put}
 use Rattle.words.specs.Numbers.{value, on, change}
 use Rattle.words.specs.Runs.{Bytes, part, put}
-use Rattle.pieces.proofs.Edits.{Fitting, length-edited, bytes-edited, edited-plain, edited-each}
+use Rattle.pieces.proofs.Edits.{Fitting, length-edited, edited-plain, edited-each}
 use Rattle.events.proofs.Lists.{each-all, each-map, each-zip, each-zip3}
 use Rattle.pieces.specs.Places.{Placed, In, PiecesApart, FieldsApart, Inside}
 use Rattle.pieces.specs.Pieces.{Piece, size, placeOf, width, amountOf, edited, adjustments, events}
@@ -110,10 +110,6 @@ module _ (b : Bases) where
   -- memory stays as long as it was
   pub length-laid : (ps : List Piece) (m : List ℕ) → length (laid b ps m) ≡ length m
   length-laid ps m = length-lay (loaded b) b ps m
-
-  -- and its bytes stay bytes
-  pub bytes-laid : (ps : List Piece) (m : List ℕ) → Each (λ p. Bytes (p .code)) ps → Bytes m → Bytes (laid b ps m)
-  bytes-laid ps m h i = bytes-lay (loaded b) b ps m (each-map (λ p k. bytes-edited (added b) (p .fields) (p .code) k) ps h) i
 
   -- the events of pieces that fit leave the pieces in memory
   pub play-laid : (ps : List Piece) (m : List ℕ) → Each (Fits b (length m)) ps → Each (λ p. Each (Inside (size p)) (p .fields)) ps

@@ -6,9 +6,9 @@ use Prim.Native.Nat.{_-_, _≤_}
 use native.Mathlib.Omega.{arith}
 use borrow.Author.Needs.{needs}
 use lib.ListN.{length, drop}
-use Rattle.fields.proofs.Listing.{item-some}
+use Rattle.fields.proofs.Listing.{item-some, item-le, next-field, last-field}
 use Rattle.fields.specs.Fields.{itemSize, fieldsOf}
-use Rattle.pieces.proofs.Fields.{Adjusting, adjusting-none, adjusting-more, adjusting-fails, adjusting-end, item-le, next-field, last-field}
+use Rattle.pieces.proofs.Fields.{Adjusting, adjusting-none, adjusting-more, adjusting-fails, adjusting-end}
 use Rattle.pieces.proofs.adjust_fields.Statement.{statement}
 use Rattle.pieces.proofs.adjust_fields.Tie as tie
 

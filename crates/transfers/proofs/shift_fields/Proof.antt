@@ -5,8 +5,7 @@ use Prim.Native.Nat.{_≤_, _-_}
 use native.Mathlib.Omega.{arith}
 use borrow.Author.Needs.{needs}
 use lib.ListN.{length, drop}
-use Rattle.pieces.proofs.Fields.{item-le, next-field, last-field}
-use Rattle.fields.proofs.Listing.{item-some}
+use Rattle.fields.proofs.Listing.{item-some, item-le, next-field, last-field}
 use Rattle.fields.specs.Fields.{itemSize, fieldsOf}
 use Rattle.transfers.proofs.Shifting.{Shifting, shifting-none, shifting-here, shifting-more, shifting-end}
 use Rattle.transfers.proofs.shift_fields.Statement.{statement}
