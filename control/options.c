@@ -43,18 +43,18 @@ enum { OPTION_COUNT = sizeof OPTIONS / sizeof OPTIONS[0] };
 
 static const char *const COMMANDS[] = {"sdx", "acx", "move"};
 
-static void take_usual_settings(struct options *options)
+static void take_default_settings(struct options *options)
 {
     *options = (struct options){
         .form = TKW_DISK,
-        .low = TKW_USUAL_LOW,
-        .high = TKW_USUAL_HIGH,
-        .main_base = TKW_USUAL_MAIN_BASE,
-        .zero_base = TKW_USUAL_ZERO_BASE,
-        .from_main = TKW_USUAL_MAIN_BASE,
-        .from_zero = TKW_USUAL_ZERO_BASE,
-        .to_main = TKW_USUAL_MAIN_BASE,
-        .to_zero = TKW_USUAL_ZERO_BASE,
+        .low = TKW_DEFAULT_LOW,
+        .high = TKW_DEFAULT_HIGH,
+        .main_base = TKW_DEFAULT_MAIN_BASE,
+        .zero_base = TKW_DEFAULT_ZERO_BASE,
+        .from_main = TKW_DEFAULT_MAIN_BASE,
+        .from_zero = TKW_DEFAULT_ZERO_BASE,
+        .to_main = TKW_DEFAULT_MAIN_BASE,
+        .to_zero = TKW_DEFAULT_ZERO_BASE,
     };
 }
 
@@ -146,7 +146,7 @@ bool parse_options(int count, char **words, struct options *options)
 {
     unsigned long given = 0;
 
-    take_usual_settings(options);
+    take_default_settings(options);
     if (strcmp(words[1], "--help") == 0) {
         options->help = true;
         return count == 2 || misused(words[2], "nothing goes with --help");

@@ -26,7 +26,7 @@ struct options {
     uint32_t to_main, to_zero;
 };
 
-/* Reads the command line, with the usual settings where none are given. False after a complaint. */
+/* Reads the command line, with the default settings where none are given. False after a complaint. */
 bool parse_options(int count, char **words, struct options *options);
 
 #endif

@@ -88,7 +88,7 @@ enum tkw_number {
 enum { TKW_DISK = 0, TKW_DEVICE = 1 };
 
 /* The settings of the short calls. */
-enum { TKW_USUAL_LOW = 7936, TKW_USUAL_HIGH = 39936, TKW_USUAL_MAIN_BASE = 8192, TKW_USUAL_ZERO_BASE = 128 };
+enum { TKW_DEFAULT_LOW = 7936, TKW_DEFAULT_HIGH = 39936, TKW_DEFAULT_MAIN_BASE = 8192, TKW_DEFAULT_ZERO_BASE = 128 };
 
 /* Loads an SDX file. Relocatable blocks go to low and upwards, up to high (low <= high <= 65535). The known names are known_names_length / 8
  * names of eight bytes, with as many addresses beside them, two bytes each, low byte first (an odd length is 1). The file's own names come
@@ -101,8 +101,8 @@ uint32_t tkw_sdx_load(const uint8_t *file, size_t file_length, uint32_t low, uin
                       uint8_t *new_names, size_t new_names_length, uint8_t *new_addresses, size_t new_addresses_length,
                       uint8_t *answer, size_t answer_length);
 
-/* The same with the usual low and high. */
-uint32_t tkw_sdx_load_usual(const uint8_t *file, size_t file_length,
+/* The same with the default low and high. */
+uint32_t tkw_sdx_load_default(const uint8_t *file, size_t file_length,
                             const uint8_t *known_names, size_t known_names_length,
                             const uint8_t *known_addresses, size_t known_addresses_length,
                             uint8_t *memory, size_t memory_length, uint8_t *map, size_t map_length,
@@ -114,8 +114,8 @@ uint32_t tkw_acx_load(uint32_t form, const uint8_t *file, size_t file_length, ui
                       uint8_t *memory, size_t memory_length, uint8_t *map, size_t map_length,
                       uint8_t *answer, size_t answer_length);
 
-/* The same at the usual bases. */
-uint32_t tkw_acx_load_usual(uint32_t form, const uint8_t *file, size_t file_length,
+/* The same at the default bases. */
+uint32_t tkw_acx_load_default(uint32_t form, const uint8_t *file, size_t file_length,
                             uint8_t *memory, size_t memory_length, uint8_t *map, size_t map_length,
                             uint8_t *answer, size_t answer_length);
 

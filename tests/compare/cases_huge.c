@@ -12,7 +12,7 @@
 
 static const char sdx_file[] = "FF FF 00 40 00 40 11";
 static const char acx_file[] = "00 03 00 00 77 0B 00 00 00";
-static const uint32_t usual[SETTINGS] = {
+static const uint32_t defaults[SETTINGS] = {
     [FORM] = 1, [LOW] = 7936, [HIGH] = 39936, [MAIN] = 8192, [ZERO] = 128, [NEW_MAIN] = 12416, [NEW_ZERO] = 128,
 };
 
@@ -53,9 +53,9 @@ void cases_huge(struct driver *driver)
             struct rng rng = rng_start(driver->seed, 2000 + call);
             snprintf(driver->case_name, sizeof driver->case_name, "%s of a length past 32 bits", buffer_name(buffer));
             prepare(driver, &rng, call);
-            memcpy(driver->request.settings, usual, sizeof usual);
+            memcpy(driver->request.settings, defaults, sizeof defaults);
             struct contents *file = &driver->request.buffers[FILE_BYTES];
-            file->length = notation_bytes(call <= SDX_LOAD_USUAL ? sdx_file : acx_file, file->bytes, CAPACITY);
+            file->length = notation_bytes(call <= SDX_LOAD_DEFAULT ? sdx_file : acx_file, file->bytes, CAPACITY);
             bool good = huge_refused(driver, buffer, mapping);
             if (!good)
                 complain(driver, "4 GiB more than the right length is taken for it");

@@ -8,13 +8,13 @@
 
 static const char *const files[CALLS] = {
     [SDX_LOAD] = "FE FF 01 00 00 10 03 00 4C 00 10 FD FF 01 00 00 FE 01 01 FC",
-    [SDX_LOAD_USUAL] = "FE FF 01 00 00 10 03 00 4C 00 10 FD FF 01 00 00 FE 01 01 FC",
+    [SDX_LOAD_DEFAULT] = "FE FF 01 00 00 10 03 00 4C 00 10 FD FF 01 00 00 FE 01 01 FC",
     [ACX_LOAD] = "00 05 00 00 4C 03 00 06 01 01 0B 02 00 00",
-    [ACX_LOAD_USUAL] = "00 05 00 00 4C 03 00 06 01 01 0B 02 00 00",
+    [ACX_LOAD_DEFAULT] = "00 05 00 00 4C 03 00 06 01 01 0B 02 00 00",
     [ACX_MOVE] = "00 05 00 00 4C 03 00 06 01 01 0B 02 00 00",
 };
 
-static const uint32_t usual[SETTINGS] = {
+static const uint32_t defaults[SETTINGS] = {
     [FORM] = 1, [LOW] = 7936, [HIGH] = 39936, [MAIN] = 8192, [ZERO] = 128, [NEW_MAIN] = 12416, [NEW_ZERO] = 128,
 };
 
@@ -26,7 +26,7 @@ static void set_up(struct driver *driver, enum call call, bool settings_right)
     struct rng rng = rng_start(driver->seed, 1000 + call);
     struct request *request = &driver->request;
     prepare(driver, &rng, call);
-    memcpy(request->settings, usual, sizeof request->settings);
+    memcpy(request->settings, defaults, sizeof request->settings);
     if (!settings_right)
         request->settings[HIGH] = request->settings[FORM] = 70000;
     struct contents *file = &request->buffers[FILE_BYTES];

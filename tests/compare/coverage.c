@@ -19,9 +19,9 @@ struct column {
 
 static const struct column columns[COLUMNS] = {
     {"sdx_load", SDX_LOAD, 0, SDX_NUMBERS},
-    {"sdx_load_usual", SDX_LOAD_USUAL, 0, SDX_NUMBERS & ~BIT(2)},
+    {"sdx_load_default", SDX_LOAD_DEFAULT, 0, SDX_NUMBERS & ~BIT(2)},
     {"acx_load", ACX_LOAD, 0, ACX_NUMBERS},
-    {"acx_load_usual", ACX_LOAD_USUAL, 0, ACX_NUMBERS},
+    {"acx_load_default", ACX_LOAD_DEFAULT, 0, ACX_NUMBERS},
     {"acx_move old", ACX_MOVE, 0, ACX_NUMBERS},
     {"acx_move new", ACX_MOVE, 1, BIT(2) | BIT(10) | BIT(17) | BIT(20)},
 };

@@ -62,13 +62,13 @@ static bool result_holds(const struct driver *driver, const struct directed *dir
     return wrong == NULL;
 }
 
-/* The calls of the case: its own, and the short one where the settings are the usual ones. */
+/* The calls of the case: its own, and the short one where the settings are the default ones. */
 static bool call_fits(const struct directed *directed, enum call call)
 {
     const uint32_t *settings = directed->settings;
-    if (call == SDX_LOAD_USUAL)
+    if (call == SDX_LOAD_DEFAULT)
         return directed->call == SDX_LOAD && settings[LOW] == 7936 && settings[HIGH] == 39936;
-    if (call == ACX_LOAD_USUAL)
+    if (call == ACX_LOAD_DEFAULT)
         return directed->call == ACX_LOAD && settings[MAIN] == 8192 && settings[ZERO] == 128;
     return call == directed->call;
 }

@@ -20,10 +20,10 @@ struct directed {
 
 /* Settings, in the order of the C interface. */
 #define SDX_AT(low, high) SDX_LOAD, {[LOW] = (low), [HIGH] = (high)}
-#define SDX_USUAL SDX_AT(7936, 39936)
+#define SDX_DEFAULT SDX_AT(7936, 39936)
 #define ACX_AT(form, main, zero) ACX_LOAD, {[FORM] = (form), [MAIN] = (main), [ZERO] = (zero)}
-#define DEVICE_USUAL ACX_AT(1, 8192, 128)
-#define DISK_USUAL ACX_AT(0, 8192, 128)
+#define DEVICE_DEFAULT ACX_AT(1, 8192, 128)
+#define DISK_DEFAULT ACX_AT(0, 8192, 128)
 #define MOVE(form, main, zero, new_main, new_zero)                                                                                  \
     ACX_MOVE, {[FORM] = (form), [MAIN] = (main), [ZERO] = (zero), [NEW_MAIN] = (new_main), [NEW_ZERO] = (new_zero)}
 
@@ -39,7 +39,7 @@ struct directed {
     .answer = {[AT_START_PRESENT] = 1, [AT_START] = (start), [AT_PLACED] = (placed), [AT_ADJUSTED] = (adjusted),                    \
                [AT_NEW_NAMES] = (names), [AT_LOW] = (low)}
 
-/* Runs one case, at every placement of the buffers and by the short call too if it is at the usual settings, and counts it. */
+/* Runs one case, at every placement of the buffers and by the short call too if it is at the default settings, and counts it. */
 void run_directed(struct driver *driver, const struct directed *directed);
 
 void cases_sdx(struct driver *driver);

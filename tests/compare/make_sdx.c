@@ -305,7 +305,7 @@ static void choose_settings(struct plan *plan)
 {
     plan->low = rng_once_in(plan->rng, 4) ? 0x0200 + pick(plan, 0x100) : pick(plan, 65536);
     plan->high = rng_once_in(plan->rng, 3) ? 65535 : rng_between(plan->rng, plan->low, 65535);
-    if (plan->making->request->call == SDX_LOAD_USUAL) {
+    if (plan->making->request->call == SDX_LOAD_DEFAULT) {
         plan->low = 7936;
         plan->high = 39936;
     }

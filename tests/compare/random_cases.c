@@ -37,7 +37,7 @@ static void make_request(struct driver *driver, struct rng *rng, enum call call)
     prepare(driver, rng, call);
     uint32_t way = rng_below(rng, 16);
     struct making making = {.rng = rng, .request = &driver->request, .slips_once_in = way < 6 || way > 11 ? 0 : way < 9 ? 100 : 20};
-    bool sdx = call == SDX_LOAD || call == SDX_LOAD_USUAL;
+    bool sdx = call == SDX_LOAD || call == SDX_LOAD_DEFAULT;
     if (sdx)
         make_sdx(&making);
     else

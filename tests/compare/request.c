@@ -17,9 +17,9 @@ struct signature {
 
 static const struct signature signatures[CALLS] = {
     [SDX_LOAD] = {"sdx_load", SDX_BUFFERS, BIT(LOW) | BIT(HIGH)},
-    [SDX_LOAD_USUAL] = {"sdx_load_usual", SDX_BUFFERS, 0},
+    [SDX_LOAD_DEFAULT] = {"sdx_load_default", SDX_BUFFERS, 0},
     [ACX_LOAD] = {"acx_load", ACX_BUFFERS, BIT(FORM) | BIT(MAIN) | BIT(ZERO)},
-    [ACX_LOAD_USUAL] = {"acx_load_usual", ACX_BUFFERS, BIT(FORM)},
+    [ACX_LOAD_DEFAULT] = {"acx_load_default", ACX_BUFFERS, BIT(FORM)},
     [ACX_MOVE] = {"acx_move", ACX_BUFFERS | BIT(SCRATCH), BIT(FORM) | BIT(MAIN) | BIT(ZERO) | BIT(NEW_MAIN) | BIT(NEW_ZERO)},
 };
 
@@ -78,7 +78,7 @@ static uint32_t perform_sdx(const struct request *request, enum maker maker, uin
         return (maker == PRODUCT ? tkw_sdx_load : second_sdx_load)(
             LENT(FILE_BYTES), SETTING(LOW), SETTING(HIGH), LENT(KNOWN_NAMES), LENT(KNOWN_ADDRESSES), LENT(MEMORY), LENT(MAP),
             LENT(NEW_NAMES), LENT(NEW_ADDRESSES), LENT(ANSWER));
-    return (maker == PRODUCT ? tkw_sdx_load_usual : second_sdx_load_usual)(
+    return (maker == PRODUCT ? tkw_sdx_load_default : second_sdx_load_default)(
         LENT(FILE_BYTES), LENT(KNOWN_NAMES), LENT(KNOWN_ADDRESSES), LENT(MEMORY), LENT(MAP), LENT(NEW_NAMES), LENT(NEW_ADDRESSES),
         LENT(ANSWER));
 }
@@ -88,8 +88,8 @@ static uint32_t perform_acx(const struct request *request, enum maker maker, uin
     if (request->call == ACX_LOAD)
         return (maker == PRODUCT ? tkw_acx_load : second_acx_load)(
             SETTING(FORM), LENT(FILE_BYTES), SETTING(MAIN), SETTING(ZERO), LENT(MEMORY), LENT(MAP), LENT(ANSWER));
-    if (request->call == ACX_LOAD_USUAL)
-        return (maker == PRODUCT ? tkw_acx_load_usual : second_acx_load_usual)(
+    if (request->call == ACX_LOAD_DEFAULT)
+        return (maker == PRODUCT ? tkw_acx_load_default : second_acx_load_default)(
             SETTING(FORM), LENT(FILE_BYTES), LENT(MEMORY), LENT(MAP), LENT(ANSWER));
     return (maker == PRODUCT ? tkw_acx_move : second_acx_move)(
         SETTING(FORM), LENT(FILE_BYTES), SETTING(MAIN), SETTING(ZERO), SETTING(NEW_MAIN), SETTING(NEW_ZERO), LENT(MEMORY), LENT(MAP),
@@ -98,7 +98,7 @@ static uint32_t perform_acx(const struct request *request, enum maker maker, uin
 
 uint32_t perform(const struct request *request, enum maker maker, uint8_t *const lent[BUFFERS])
 {
-    bool sdx = request->call == SDX_LOAD || request->call == SDX_LOAD_USUAL;
+    bool sdx = request->call == SDX_LOAD || request->call == SDX_LOAD_DEFAULT;
     return sdx ? perform_sdx(request, maker, lent) : perform_acx(request, maker, lent);
 }
 

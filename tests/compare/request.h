@@ -9,7 +9,7 @@
 #include <stdint.h>
 #include <stdio.h>
 
-enum call { SDX_LOAD, SDX_LOAD_USUAL, ACX_LOAD, ACX_LOAD_USUAL, ACX_MOVE, CALLS };
+enum call { SDX_LOAD, SDX_LOAD_DEFAULT, ACX_LOAD, ACX_LOAD_DEFAULT, ACX_MOVE, CALLS };
 
 /* The two implementations. */
 enum maker { PRODUCT, SECOND, MAKERS };

@@ -329,7 +329,7 @@ uint32_t second_acx_load(uint32_t form, const uint8_t *file, size_t file_length,
 }
 
 /* "Short calls of the two loaders, with form and buffers still given, take ... main base 8,192 and zero-page base 128." */
-uint32_t second_acx_load_usual(uint32_t form, const uint8_t *file, size_t file_length,
+uint32_t second_acx_load_default(uint32_t form, const uint8_t *file, size_t file_length,
                                uint8_t *memory, size_t memory_length, uint8_t *map, size_t map_length,
                                uint8_t *answer, size_t answer_length)
 {

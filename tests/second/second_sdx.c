@@ -382,7 +382,7 @@ uint32_t second_sdx_load(const uint8_t *file, size_t file_length, uint32_t low, 
 }
 
 /* "Short calls of the two loaders, with form and buffers still given, take low 7,936, high 39,936" */
-uint32_t second_sdx_load_usual(const uint8_t *file, size_t file_length,
+uint32_t second_sdx_load_default(const uint8_t *file, size_t file_length,
                                const uint8_t *known_names, size_t known_names_length,
                                const uint8_t *known_addresses, size_t known_addresses_length,
                                uint8_t *memory, size_t memory_length, uint8_t *map, size_t map_length,

@@ -4,9 +4,9 @@
 #define STANDIN_H
 
 #define second_sdx_load tkw_sdx_load
-#define second_sdx_load_usual tkw_sdx_load_usual
+#define second_sdx_load_default tkw_sdx_load_default
 #define second_acx_load tkw_acx_load
-#define second_acx_load_usual tkw_acx_load_usual
+#define second_acx_load_default tkw_acx_load_default
 #define second_acx_move tkw_acx_move
 
 #define second_word standin_word

@@ -20,12 +20,7 @@ ghost use Rattle.pieces.specs.Pieces.{basesAt};
 ghost use Rattle.pieces.specs.AtBases.{startOf, EndsBy};
 ghost use Rattle.acx.specs.Walk.{recordsOf, opening as openingOf, openingSize, judged, reported};
 ghost use Rattle.acx.specs.Cursor.{firstCursor, advanced};
-ghost use Rattle.acx.specs.Call.{formOf, usual, inRange, sized, load as loadOf, Loaded};
-
-// The bases of the short call.
-pub const USUAL_MAIN_BASE: u32 = 8192;
-
-pub const USUAL_ZERO_BASE: u32 = 128;
+ghost use Rattle.acx.specs.Call.{formOf, inRange, sized, load as loadOf, Loaded};
 
 // Disk form has an opening, device form none.
 pub enum Form {
@@ -61,13 +56,6 @@ pub fn load(
         return answer::refused(Fault::WrongBuffer);
     }
     load_sized(form, file, main_base, zero_base, memory, map)
-}
-
-// Loads a file at the usual bases.
-pub fn load_usual(form: u32, file: &[u8], memory: &mut [u8], map: &mut [u8]) -> Outcome
-    ensures { λ r. ⌜ Loaded form usual (now (file .entry)) (sized (now (memory .entry)) (now (map .entry))) (now (memory .entry)) (now (map .entry)) r (now (memory .exit)) (now (map .exit)) ⌝ }
-{
-    load(form, file, USUAL_MAIN_BASE, USUAL_ZERO_BASE, memory, map)
 }
 
 // Checks a load, and carries it out where `write` is true: the settings, then the file's length, then the file. Leaves the map with the marks

@@ -5,20 +5,27 @@ use answer::Outcome;
 use mover::Site;
 ghost use mathlib.Core.Path.{_≡_};
 ghost use lib.ListN.{length};
-ghost use Rattle.acx.specs.Call.{usual as usualBases};
 ghost use Rattle.pieces.specs.Pieces.{basesAt};
 ghost use Rattle.moves.specs.Call.{callOf};
 ghost use Rattle.answer.specs.Report.{answerLength};
 ghost use Rattle.passes.specs.Rooms.{rooms};
 ghost use Rattle.passes.specs.Walk.{given};
-ghost use Rattle.sdx.specs.Call.{usual};
 ghost use Rattle.calls.specs.Answer.{answerSized, Told};
-ghost use Rattle.calls.specs.Acx.{Called as AcxCalled};
+ghost use Rattle.calls.specs.Acx.{defaultBases, Called as AcxCalled};
 ghost use Rattle.calls.specs.Move.{Called as MoveCalled};
-ghost use Rattle.calls.specs.Sdx.{Called as SdxCalled};
+ghost use Rattle.calls.specs.Sdx.{defaultInputs, Called as SdxCalled};
 
 // The length of the answer.
 const ANSWER: usize = 36;
+
+// The settings of the short calls.
+const DEFAULT_MAIN_BASE: u32 = 8192;
+
+const DEFAULT_ZERO_BASE: u32 = 128;
+
+const DEFAULT_LOW: u32 = 7936;
+
+const DEFAULT_HIGH: u32 = 39936;
 
 // Loads an ACX file at its bases.
 pub fn acx_load(
@@ -39,21 +46,21 @@ pub fn acx_load(
     tell(outcome, answer)
 }
 
-// Loads an ACX file at the usual bases.
-pub fn acx_load_usual(
+// Loads an ACX file at the default bases.
+pub fn acx_load_default(
     form: u32,
     file: &[u8],
     memory: &mut [u8],
     map: &mut [u8],
     answer: &mut [u8],
 ) -> u32
-    ensures { λ r. ⌜ AcxCalled form usualBases (now (file .entry)) (now (memory .entry)) (now (map .entry)) (now (answer .entry)) r (now (memory .exit)) (now (map .exit)) (now (answer .exit)) ⌝ }
+    ensures { λ r. ⌜ AcxCalled form defaultBases (now (file .entry)) (now (memory .entry)) (now (map .entry)) (now (answer .entry)) r (now (memory .exit)) (now (map .exit)) (now (answer .exit)) ⌝ }
 {
     acx_load(
         form,
         file,
-        acx::USUAL_MAIN_BASE,
-        acx::USUAL_ZERO_BASE,
+        DEFAULT_MAIN_BASE,
+        DEFAULT_ZERO_BASE,
         memory,
         map,
         answer,
@@ -122,8 +129,8 @@ pub fn sdx_load(
     tell(outcome, answer)
 }
 
-// Loads an SDX file between the usual low and high.
-pub fn sdx_load_usual(
+// Loads an SDX file between the default low and high.
+pub fn sdx_load_default(
     file: &[u8],
     known_names: &[u8],
     known_addresses: &[u8],
@@ -133,12 +140,12 @@ pub fn sdx_load_usual(
     new_addresses: &mut [u8],
     answer: &mut [u8],
 ) -> u32
-    ensures { λ r. ⌜ SdxCalled (now (file .entry)) (usual (now («known_names» .entry)) (now («known_addresses» .entry))) (rooms (now (memory .entry)) (now (map .entry)) (now («new_names» .entry)) (now («new_addresses» .entry))) (now (answer .entry)) r (rooms (now (memory .exit)) (now (map .exit)) (now («new_names» .exit)) (now («new_addresses» .exit))) (now (answer .exit)) ⌝ }
+    ensures { λ r. ⌜ SdxCalled (now (file .entry)) (defaultInputs (now («known_names» .entry)) (now («known_addresses» .entry))) (rooms (now (memory .entry)) (now (map .entry)) (now («new_names» .entry)) (now («new_addresses» .entry))) (now (answer .entry)) r (rooms (now (memory .exit)) (now (map .exit)) (now («new_names» .exit)) (now («new_addresses» .exit))) (now (answer .exit)) ⌝ }
 {
     sdx_load(
         file,
-        sdx::USUAL_LOW,
-        sdx::USUAL_HIGH,
+        DEFAULT_LOW,
+        DEFAULT_HIGH,
         known_names,
         known_addresses,
         memory,

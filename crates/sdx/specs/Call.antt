@@ -22,10 +22,6 @@ use Rattle.passes.specs.Rooms.{Rooms, namesRoom, addressesRoom, filledUp, start
 use Rattle.passes.specs.Walk.{Given, given, Verdict, finished, refused, begun, blocksOf}
 use Rattle.words.specs.Numbers.{value}
 
--- "Short calls of the two loaders .. take low 7,936, high 39,936"
-abbrev pub usual : List ℕ → List ℕ → Given
-usual names addresses = given names addresses 7936 39936
-
 -- "low and high, with low ≤ high ≤ 65,535"
 abbrev pub inRange : Given → Bool
 inRange g = leb (g .low) (g .high) && leb (g .high) 65535

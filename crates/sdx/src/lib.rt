@@ -12,15 +12,10 @@ ghost use Rattle.events.specs.Events.{blank};
 ghost use Rattle.events.specs.declared.Check.the-variants.{Passed};
 ghost use Rattle.passes.specs.Walk.{given};
 ghost use Rattle.passes.specs.Rooms.{rooms};
-ghost use Rattle.sdx.specs.Call.{usual, inRange, sized, opening as openingOf, admitting, Loaded};
+ghost use Rattle.sdx.specs.Call.{inRange, sized, opening as openingOf, admitting, Loaded};
 
 // The most names that are lent.
 pub const KNOWN: usize = 256;
-
-// The settings of the short call.
-pub const USUAL_LOW: u32 = 7936;
-
-pub const USUAL_HIGH: u32 = 39936;
 
 // Loads a file. Refuses with the first fault; memory and the rooms for new names are then as they were.
 pub fn load(
@@ -54,31 +49,6 @@ pub fn load(
         file,
         low as u16,
         high as u16,
-        known_names,
-        known_addresses,
-        memory,
-        map,
-        new_names,
-        new_addresses,
-    )
-}
-
-// Loads a file between the usual low and high.
-pub fn load_usual(
-    file: &[u8],
-    known_names: &[u8],
-    known_addresses: &[u16],
-    memory: &mut [u8],
-    map: &mut [u8],
-    new_names: &mut [u8],
-    new_addresses: &mut [u16],
-) -> Outcome
-    ensures { λ r. ⌜ Loaded (now (file .entry)) (usual (now («known_names» .entry)) (now («known_addresses» .entry))) (sized (usual (now («known_names» .entry)) (now («known_addresses» .entry))) (rooms (now (memory .entry)) (now (map .entry)) (now («new_names» .entry)) (now («new_addresses» .entry)))) (rooms (now (memory .entry)) (now (map .entry)) (now («new_names» .entry)) (now («new_addresses» .entry))) r (rooms (now (memory .exit)) (now (map .exit)) (now («new_names» .exit)) (now («new_addresses» .exit))) ⌝ }
-{
-    load(
-        file,
-        USUAL_LOW,
-        USUAL_HIGH,
         known_names,
         known_addresses,
         memory,

@@ -1,14 +1,12 @@
 // The functions that C calls, as include/tekoweapa.h declares them, and nothing else: each hands its buffers on.
-ghost use Rattle.acx.specs.Call.{usual as usualBases};
 ghost use Rattle.pieces.specs.Pieces.{basesAt};
 ghost use Rattle.moves.specs.Call.{callOf};
 ghost use Rattle.passes.specs.Rooms.{rooms};
 ghost use Rattle.passes.specs.Walk.{given};
-ghost use Rattle.sdx.specs.Call.{usual};
-ghost use Rattle.calls.specs.Acx.{Called as AcxCalled};
+ghost use Rattle.calls.specs.Acx.{defaultBases, Called as AcxCalled};
 ghost use Rattle.calls.specs.Answer.{answerSized};
 ghost use Rattle.calls.specs.Move.{Called as MoveCalled};
-ghost use Rattle.calls.specs.Sdx.{Called as SdxCalled};
+ghost use Rattle.calls.specs.Sdx.{defaultInputs, Called as SdxCalled};
 
 // Loads an SDX file between low and high.
 #[no_mangle]
@@ -40,9 +38,9 @@ pub extern "C" fn tkw_sdx_load(
     )
 }
 
-// Loads an SDX file between the usual low and high.
+// Loads an SDX file between the default low and high.
 #[no_mangle]
-pub extern "C" fn tkw_sdx_load_usual(
+pub extern "C" fn tkw_sdx_load_default(
     file: &[u8],
     known_names: &[u8],
     known_addresses: &[u8],
@@ -52,9 +50,9 @@ pub extern "C" fn tkw_sdx_load_usual(
     new_addresses: &mut [u8],
     answer: &mut [u8],
 ) -> u32
-    ensures { λ r. ⌜ SdxCalled (now (file .entry)) (usual (now («known_names» .entry)) (now («known_addresses» .entry))) (rooms (now (memory .entry)) (now (map .entry)) (now («new_names» .entry)) (now («new_addresses» .entry))) (now (answer .entry)) r (rooms (now (memory .exit)) (now (map .exit)) (now («new_names» .exit)) (now («new_addresses» .exit))) (now (answer .exit)) ⌝ }
+    ensures { λ r. ⌜ SdxCalled (now (file .entry)) (defaultInputs (now («known_names» .entry)) (now («known_addresses» .entry))) (rooms (now (memory .entry)) (now (map .entry)) (now («new_names» .entry)) (now («new_addresses» .entry))) (now (answer .entry)) r (rooms (now (memory .exit)) (now (map .exit)) (now («new_names» .exit)) (now («new_addresses» .exit))) (now (answer .exit)) ⌝ }
 {
-    calls::sdx_load_usual(
+    calls::sdx_load_default(
         file,
         known_names,
         known_addresses,
@@ -82,18 +80,18 @@ pub extern "C" fn tkw_acx_load(
     calls::acx_load(form, file, main_base, zero_base, memory, map, answer)
 }
 
-// Loads an ACX file at the usual bases.
+// Loads an ACX file at the default bases.
 #[no_mangle]
-pub extern "C" fn tkw_acx_load_usual(
+pub extern "C" fn tkw_acx_load_default(
     form: u32,
     file: &[u8],
     memory: &mut [u8],
     map: &mut [u8],
     answer: &mut [u8],
 ) -> u32
-    ensures { λ r. ⌜ AcxCalled form usualBases (now (file .entry)) (now (memory .entry)) (now (map .entry)) (now (answer .entry)) r (now (memory .exit)) (now (map .exit)) (now (answer .exit)) ⌝ }
+    ensures { λ r. ⌜ AcxCalled form defaultBases (now (file .entry)) (now (memory .entry)) (now (map .entry)) (now (answer .entry)) r (now (memory .exit)) (now (map .exit)) (now (answer .exit)) ⌝ }
 {
-    calls::acx_load_usual(form, file, memory, map, answer)
+    calls::acx_load_default(form, file, memory, map, answer)
 }
 
 // Moves an ACX handler from its old bases to the new ones.
