@@ -1,12 +1,12 @@
 #include "json.h"
 
-static void print_json_names(FILE *stream, const struct bench *bench, uint32_t count)
+static void print_json_names(FILE *stream, const struct buffers *buffers, uint32_t count)
 {
     fputs("\"new_names\":[", stream);
     for (uint32_t i = 0; i < count; i++) {
         fputs(i > 0 ? ",{\"name\":" : "{\"name\":", stream);
-        print_name(stream, bench->new_names + i * TKW_NAME_LENGTH, "\\u00");
-        fprintf(stream, ",\"address\":%u}", read_word(bench->new_addresses + 2 * i));
+        print_name(stream, buffers->new_names + i * TKW_NAME_LENGTH, "\\u00");
+        fprintf(stream, ",\"address\":%u}", read_word(buffers->new_addresses + 2 * i));
     }
     fputc(']', stream);
 }
@@ -27,7 +27,7 @@ static void print_json_ranges(FILE *stream, const uint8_t *map)
     fputc(']', stream);
 }
 
-void print_json(FILE *stream, const struct bench *bench, const struct answer *answer)
+void print_json(FILE *stream, const struct buffers *buffers, const struct answer *answer)
 {
     /* The meanings have no character that JSON would want escaped. */
     fprintf(stream, "{\"number\":%u,\"meaning\":\"%s\",\"offset\":%u,\"side\":%u,",
@@ -37,8 +37,8 @@ void print_json(FILE *stream, const struct bench *bench, const struct answer *an
     else
         fputs("\"start\":null,", stream);
     fprintf(stream, "\"placed\":%u,\"adjusted\":%u,", answer->placed, answer->adjusted);
-    print_json_names(stream, bench, answer->new_names);
+    print_json_names(stream, buffers, answer->new_names);
     fprintf(stream, ",\"low\":%u,", answer->low);
-    print_json_ranges(stream, bench->map);
+    print_json_ranges(stream, buffers->map);
     fputs("}\n", stream);
 }

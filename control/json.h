@@ -4,9 +4,9 @@
 
 #include <stdio.h>
 
-#include "bench.h"
+#include "buffers.h"
 
 /* Prints the object on one line. Errors stay in the stream. */
-void print_json(FILE *stream, const struct bench *bench, const struct answer *answer);
+void print_json(FILE *stream, const struct buffers *buffers, const struct answer *answer);
 
 #endif

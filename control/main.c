@@ -8,7 +8,7 @@
 #include <stdlib.h>
 #include <string.h>
 
-#include "bench.h"
+#include "buffers.h"
 #include "errors.h"
 #include "json.h"
 #include "options.h"
@@ -21,7 +21,7 @@ enum { OUT, MAP, PICTURE, OUTPUTS };
 
 /* All that a run works with. */
 struct work {
-    struct bench bench;
+    struct buffers buffers;
     uint8_t picture[PICTURE_LENGTH];
     struct output outputs[OUTPUTS];
 };
@@ -58,8 +58,8 @@ static bool spare_inputs(const struct options *options)
 
 static void plan_outputs(const struct options *options, struct work *work)
 {
-    work->outputs[OUT] = (struct output){.path = options->out, .bytes = work->bench.memory, .length = sizeof work->bench.memory};
-    work->outputs[MAP] = (struct output){.path = options->map, .bytes = work->bench.map, .length = sizeof work->bench.map};
+    work->outputs[OUT] = (struct output){.path = options->out, .bytes = work->buffers.memory, .length = sizeof work->buffers.memory};
+    work->outputs[MAP] = (struct output){.path = options->map, .bytes = work->buffers.map, .length = sizeof work->buffers.map};
     work->outputs[PICTURE] = (struct output){.path = options->picture, .bytes = work->picture, .length = sizeof work->picture};
 }
 
@@ -69,16 +69,16 @@ static int run(const struct options *options, struct work *work)
     struct answer answer;
 
     plan_outputs(options, work);
-    if (!spare_inputs(options) || !find_targets(work->outputs, OUTPUTS) || !fill_bench(options, &work->bench))
+    if (!spare_inputs(options) || !find_targets(work->outputs, OUTPUTS) || !fill_buffers(options, &work->buffers))
         return EXIT_TROUBLE;
-    answer = call_loader(options, &work->bench);
-    draw_picture(work->bench.map, work->picture);
+    answer = call_loader(options, &work->buffers);
+    draw_picture(work->buffers.map, work->picture);
     if (!write_outputs(work->outputs, OUTPUTS))
         return EXIT_TROUBLE;
     if (options->json)
-        print_json(stdout, &work->bench, &answer);
+        print_json(stdout, &work->buffers, &answer);
     else
-        print_report(stdout, options, &work->bench, &answer);
+        print_report(stdout, options, &work->buffers, &answer);
     if (!finish_printing() || !rename_outputs(work->outputs, OUTPUTS))
         return EXIT_TROUBLE;
     return answer.number == TKW_ACCEPTED ? EXIT_ACCEPTED : EXIT_REFUSED;

@@ -4,9 +4,9 @@
 
 #include <stdio.h>
 
-#include "bench.h"
+#include "buffers.h"
 
 /* Prints what came of a call. Errors stay in the stream. */
-void print_report(FILE *stream, const struct options *options, const struct bench *bench, const struct answer *answer);
+void print_report(FILE *stream, const struct options *options, const struct buffers *buffers, const struct answer *answer);
 
 #endif

@@ -21,22 +21,22 @@ use Rattle.answer.specs.declared.Start.the-variants.{Absent}
 use Rattle.events.proofs.Events.{placed-append, adjusted-append, length-blank, blank-at}
 use Rattle.events.specs.Events.{Event, place, play, marks, blank, placedIn, adjustedIn, Ran}
 use Rattle.acx.proofs.Calling.{load-follows, loaded-right}
-use Rattle.acx.proofs.Handlers.{fits-memory, handled}
+use Rattle.acx.proofs.WellPlaced.{fits-memory, placed-well}
 use Rattle.pieces.proofs.Loads.{laid, play-laid, laid-outside, laid-plain, laid-fields}
 use Rattle.pieces.proofs.Marks.{marks-outside, marks-plain, marks-fields}
 use Rattle.pieces.proofs.PieceEvents.{placed-adjustments, adjusted-adjustments}
 use Rattle.acx.proofs.Standing.{Stands}
 use Rattle.acx.specs.Call.{formOf, inRange, sized, load, call, memoryAfter, mapAfter, Loaded}
-use Rattle.acx.specs.Demand2.{total, Handler, Demand2, Asked, AcceptedCall, Claim}
+use Rattle.acx.specs.Demand2.{total, WellPlaced, Demand2, Asked, AcceptedCall, Claim}
 use Rattle.pieces.specs.Pieces.{Piece, size, placeOf, adjustments, events}
 use Rattle.acx.specs.Walk.{Verdict, accepted, refused, atOnce, judged, report, reported}
 use Rattle.pieces.specs.declared.Bases.{Bases}
 use Rattle.acx.specs.declared.Form.{Form}
 
 -- the pieces of an accepted file make a handler
-pub handler-of : (form : Form) (file : List ℕ) (b : Bases) (ps : List Piece) (start : Start) → judged form file b .answer ≡ accepted ps start
-    → Handler file b ps
-handler-of form file b ps start e = handled file b form ps start e .held .0
+pub well-placed-of : (form : Form) (file : List ℕ) (b : Bases) (ps : List Piece) (start : Start) → judged form file b .answer ≡ accepted ps start
+    → WellPlaced file b ps
+well-placed-of form file b ps start e = placed-well file b form ps start e .held .0
 
 -- the counts of the events of pieces are sums over the pieces
 placed-total : (b : Bases) (ps : List Piece) → placedIn (events b ps) ≡ total size ps
@@ -54,7 +54,7 @@ adjusted-total b (p ∷ ps) =
     ∙ omega (arith, adjusted-total b ps, adjusted-adjustments b (placeOf b p) (p .fields))
 
 -- what the events of a handler make of memory and map
-loads : (file : List ℕ) (b : Bases) (ps : List Piece) (at : ℕ) (m : List ℕ) → Handler file b ps → at ≤ length file
+loads : (file : List ℕ) (b : Bases) (ps : List Piece) (at : ℕ) (m : List ℕ) → WellPlaced file b ps → at ≤ length file
     → Stands b (record { at = at; pieces = ps })
     → length m ≡ 65536 → Demand2 file b ps m (play (events b ps) m) (marks (events b ps) blank) (placedIn (events b ps)) (adjustedIn (events b ps))
 loads file b ps at m h l s n =
@@ -62,7 +62,7 @@ loads file b ps at m h l s n =
     let clear = fits-memory b (length blank) ps length-blank (h .fits) in
     let e : play (events b ps) m ≡ laid b ps m = play-laid b ps m fits (h .inside) in
     record {
-      handler = h;
+      well-placed = h;
       loaded = rw e (laid-plain b ps m fits (h .apart));
       fields = rw e (laid-fields b ps m fits (h .apart) (h .inside) (h .distinct));
       others = λ x w. ap (λ (t : List ℕ). getD t x 0) e ∙ laid-outside b ps m x w;
@@ -81,7 +81,7 @@ pub demand2 : (form : Form) (file : List ℕ) (b : Bases) (ps : List Piece) (sta
     → Demand2 file b ps m (play (judged form file b .events) m) (marks (judged form file b .events) blank)
     (placedIn (judged form file b .events)) (adjustedIn (judged form file b .events))
 demand2 form file b ps start e m n =
-    let x = handled file b form ps start e in
+    let x = placed-well file b form ps start e in
     rw (x .events) (loads file b ps (x .at) m (x .held .0) (x .inside) (x .held .1) n)
 
 -- ---- of every call
@@ -159,7 +159,7 @@ module _ (form : ℕ) (b : Bases) (file : List ℕ) (x : Bool) (m p : List ℕ) 
   call-accepts a ps start e =
       let o = judged (formOf form) file b in
       let t : x && sized m p ≡ true = rw (a .answer, eq-eqb _ _ (a .memory), eq-eqb _ _ (a .map)) refl in
-      let h = handled file b (formOf form) ps start e in
+      let h = placed-well file b (formOf form) ps start e in
       loaded-right t d .0
       ∙ ap (λ (k : Ran Verdict). reported k .answer) (asked-judged form b file (a .settings) (a .fits))
       ∙ ap (λ (v : Verdict). report v (o .events)) e

@@ -22,7 +22,7 @@ use Rattle.records.specs.Records.{read}
 use Rattle.records.specs.declared.Entry.{Entry}
 use Rattle.records.specs.declared.Record.{Record}
 use Rattle.records.specs.declared.Record.the-variants.{End}
-use Rattle.acx.proofs.Cursors.{Came, came-first, came-found, came-ends, came-on, came-further, came-ends-by, onward-by-tag}
+use Rattle.acx.proofs.Cursors.{Tracks, tracks-first, tracks-found, tracks-ends, tracks-on, tracks-further, tracks-ends-by, onward-by-tag}
 use Rattle.acx.proofs.Turning.{Onward, turn-is, end-none, events-after}
 use Rattle.pieces.specs.AtBases.{startOf, ending, applied, EndsBy}
 use Rattle.acx.specs.Cursor.{firstCursor, advanced}
@@ -36,13 +36,13 @@ use Rattle.acx.specs.declared.Cursor.{Cursor}
 -- the walk began at an offset with memory m₀ and a clear map, and stands at the cursor c with m and p
 pub record Going (file : List ℕ) (b : Bases) (first : ℕ) (write : Bool) (m₀ : List ℕ) (c : Cursor) (m p : List ℕ) : Type 0 where
   pub progress : Progress
-  pub came : Came file b first c progress
+  pub came : Tracks file b first c progress
   pub reached : Reached (events b (progress .pieces)) write m₀ blank m p
 
 module _ {file : List ℕ} {b : Bases} {first : ℕ} {write : Bool} {m₀ : List ℕ} where
   pub going-first : {p : List ℕ} → p ≡ blank → first ≤ length file → Going file b first write m₀ (firstCursor first) m₀ p
   unfolding events
-  going-first e l = record { progress = begun first; came = came-first l; reached = rw e (reached-none write m₀ blank) }
+  going-first e l = record { progress = begun first; came = tracks-first l; reached = rw e (reached-none write m₀ blank) }
 
   module _ {c : Cursor} {m p : List ℕ} (x : Going file b first write m₀ c m p) where
     module _ {found : Record} {r : Check} {m′ p′ : List ℕ} (is : found ≡ read file (c .at) (c .last))
@@ -58,7 +58,7 @@ module _ {file : List ℕ} {b : Bases} {first : ℕ} {write : Bool} {m₀ : List
       there = marks before blank
 
       found-is : recordAt file here ≡ found
-      found-is = came-found (x .came) is
+      found-is = tracks-found (x .came) is
 
       checked-is : checked file b here there ≡ applied file b (c .place) (c .size) found p
       unfolding checked
@@ -77,7 +77,7 @@ module _ {file : List ℕ} {b : Bases} {first : ℕ} {write : Bool} {m₀ : List
       pub going-fails : {fault : Fault} → r ≡ Failed fault
           → Did Outcome (reported (recordsOf file b first)) write m₀ blank (Refused fault (c .at) 0) m′ p′
       going-fails {fault} e =
-          let o = came-ends (x .came) _ (turn-is file b here there (Failed fault) _ (answer-is ∙ e) refl) in
+          let o = tracks-ends (x .came) _ (turn-is file b here there (Failed fault) _ (answer-is ∙ e) refl) in
           subst (λ (a : ℕ). Did Outcome (reported (recordsOf file b first)) write m₀ blank (Refused fault a 0) m′ p′)
           (sym (ap (λ (k : Cursor). k .at) (x .came .here)))
           (rw o (record { answer = refl; reached = now }))
@@ -94,7 +94,7 @@ module _ {file : List ℕ} {b : Bases} {first : ℕ} {write : Bool} {m₀ : List
       pub going-ends : {entry : Entry} {next : ℕ} → r ≡ Passed → found ≡ End entry next
           → Did Outcome (reported (recordsOf file b first)) write m₀ blank (Accepted (startOf b entry) (c .placed) (c .adjusted) 0 0) m′ p′
       going-ends {entry} {next} e f =
-          let o = came-ends (x .came) _ (turn-is file b here there Passed (End entry next) (answer-is ∙ e) (found-is ∙ f)) in
+          let o = tracks-ends (x .came) _ (turn-is file b here there Passed (End entry next) (answer-is ∙ e) (found-is ∙ f)) in
           let z : before ++ checked file b here there .events ≡ before =
           ap (λ (l : List Event). before ++ l) (end-none file b here there entry next (found-is ∙ f)) ∙ append-nil before in
           let es = before ++ checked file b here there .events in
@@ -109,15 +109,15 @@ module _ {file : List ℕ} {b : Bases} {first : ℕ} {write : Bool} {m₀ : List
           let ok : checked file b here there .answer ≡ Passed = answer-is ∙ e in
           record {
             progress = stepped file here found;
-            came = came-on (x .came) found-is o ok;
+            came = tracks-on (x .came) found-is o ok;
             reached = rw (events-after file b here there found found-is o ok) now;
           }
 
       pub going-further : Onward found → c .at + 2 ≤ advanced b c found .at
-      going-further o = came-further (x .came) found-is o
+      going-further o = tracks-further (x .came) found-is o
 
       pub going-ends-by : length file ≤ 65536 → EndsBy 65536 found
-      going-ends-by l = came-ends-by (x .came) found-is 65536 l
+      going-ends-by l = tracks-ends-by (x .came) found-is 65536 l
 
       -- a record that passed and is not the end leads onward
       pub going-onward : r ≡ Passed → OneOf (0 ∷ 1 ∷ 3 ∷ []) (tagOf the-type found) → Onward found

@@ -21,7 +21,7 @@ use Rattle.acx.specs.Walk.{accepted, judged}
 use Rattle.pieces.specs.declared.Bases.{Bases}
 
 -- The pieces of an accepted file.
-pub record Handler (file : List ℕ) (b : Bases) (ps : List Piece) : Type 0 where
+pub record WellPlaced (file : List ℕ) (b : Bases) (ps : List Piece) : Type 0 where
   -- each lies in memory, in zero page if that is its kind
   pub fits : Each (λ p. placeOf b p + size p ≤ limitOf (p .kind)) ps
   -- no two share an address
@@ -40,7 +40,7 @@ total n (p ∷ ps) = n p + total n ps
 
 -- What its load leaves: it found memory m, left m′ and the map p′, and reported the two counts.
 pub record Demand2 (file : List ℕ) (b : Bases) (ps : List Piece) (m m′ p′ : List ℕ) (placed adjusted : ℕ) : Type 0 where
-  pub handler : Handler file b ps
+  pub well-placed : WellPlaced file b ps
   -- "each loaded byte as its last block put it"
   pub loaded : Each (λ p. (j : ℕ) → j < size p → Each (λ f. ¬ In j f) (p .fields) → getD m′ (placeOf b p + j) 0 ≡ getD (p .code) j 0) ps
   -- "fields listed after that adjusted as the rules say"

@@ -1,5 +1,5 @@
 // The ACX loader: the records of a file checked and carried out at a pair of bases, over a lent memory and map.
-// A file is walked twice. The first walk only checks it, with the map as its notebook; the second also writes memory. So a refusal has
+// A file is walked twice. The first walk only checks it, and marks the map as it goes; the second also writes memory. So a refusal has
 // touched no byte of memory.
 use answer::Fault;
 use answer::Outcome;

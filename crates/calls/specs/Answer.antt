@@ -14,8 +14,8 @@ use Rattle.answer.specs.declared.Outcome.{Outcome}
 abbrev pub answerSized : List ℕ → Bool
 answerSized answer = eqb (length answer) answerLength
 
--- What a call tells of its outcome: it found the answer a, and returns r and leaves a′.
-pub record Told (outcome : Outcome) (a : List ℕ) (r : ℕ) (a′ : List ℕ) : Type 0 where
+-- How a call answers with its outcome: it found the answer a, and returns r and leaves a′.
+pub record Answered (outcome : Outcome) (a : List ℕ) (r : ℕ) (a′ : List ℕ) : Type 0 where
   -- "the number is also returned"
   pub returned : r ≡ numberReturned outcome
   -- "It is written on every outcome unless its own length is wrong"

@@ -8,9 +8,9 @@ ghost use lib.ListN.{length};
 ghost use Rattle.pieces.specs.Pieces.{basesAt};
 ghost use Rattle.moves.specs.Call.{callOf};
 ghost use Rattle.answer.specs.Report.{answerLength};
-ghost use Rattle.passes.specs.Rooms.{rooms};
-ghost use Rattle.passes.specs.Walk.{given};
-ghost use Rattle.calls.specs.Answer.{answerSized, Told};
+ghost use Rattle.passes.specs.Buffers.{buffers};
+ghost use Rattle.passes.specs.Walk.{inputs};
+ghost use Rattle.calls.specs.Answer.{answerSized, Answered};
 ghost use Rattle.calls.specs.Acx.{defaultBases, Called as AcxCalled};
 ghost use Rattle.calls.specs.Move.{Called as MoveCalled};
 ghost use Rattle.calls.specs.Sdx.{defaultInputs, Called as SdxCalled};
@@ -43,7 +43,7 @@ pub fn acx_load(
         return answer::fault_number(Fault::WrongBuffer);
     }
     let outcome = acx::load(form, file, main_base, zero_base, memory, map);
-    tell(outcome, answer)
+    write_answer(outcome, answer)
 }
 
 // Loads an ACX file at the default bases.
@@ -94,7 +94,7 @@ pub fn acx_move(
         zero: new_zero,
     };
     let outcome = mover::move_handler(form, file, old, new, memory, map, scratch);
-    tell(outcome, answer)
+    write_answer(outcome, answer)
 }
 
 // Loads an SDX file between low and high.
@@ -110,7 +110,7 @@ pub fn sdx_load(
     new_addresses: &mut [u8],
     answer: &mut [u8],
 ) -> u32
-    ensures { λ r. ⌜ SdxCalled (now (file .entry)) (given (now («known_names» .entry)) (now («known_addresses» .entry)) low high) (rooms (now (memory .entry)) (now (map .entry)) (now («new_names» .entry)) (now («new_addresses» .entry))) (now (answer .entry)) r (rooms (now (memory .exit)) (now (map .exit)) (now («new_names» .exit)) (now («new_addresses» .exit))) (now (answer .exit)) ⌝ }
+    ensures { λ r. ⌜ SdxCalled (now (file .entry)) (inputs (now («known_names» .entry)) (now («known_addresses» .entry)) low high) (buffers (now (memory .entry)) (now (map .entry)) (now («new_names» .entry)) (now («new_addresses» .entry))) (now (answer .entry)) r (buffers (now (memory .exit)) (now (map .exit)) (now («new_names» .exit)) (now («new_addresses» .exit))) (now (answer .exit)) ⌝ }
 {
     if answer.len() != ANSWER {
         return answer::fault_number(Fault::WrongBuffer);
@@ -126,7 +126,7 @@ pub fn sdx_load(
         new_names,
         new_addresses,
     );
-    tell(outcome, answer)
+    write_answer(outcome, answer)
 }
 
 // Loads an SDX file between the default low and high.
@@ -140,7 +140,7 @@ pub fn sdx_load_default(
     new_addresses: &mut [u8],
     answer: &mut [u8],
 ) -> u32
-    ensures { λ r. ⌜ SdxCalled (now (file .entry)) (defaultInputs (now («known_names» .entry)) (now («known_addresses» .entry))) (rooms (now (memory .entry)) (now (map .entry)) (now («new_names» .entry)) (now («new_addresses» .entry))) (now (answer .entry)) r (rooms (now (memory .exit)) (now (map .exit)) (now («new_names» .exit)) (now («new_addresses» .exit))) (now (answer .exit)) ⌝ }
+    ensures { λ r. ⌜ SdxCalled (now (file .entry)) (defaultInputs (now («known_names» .entry)) (now («known_addresses» .entry))) (buffers (now (memory .entry)) (now (map .entry)) (now («new_names» .entry)) (now («new_addresses» .entry))) (now (answer .entry)) r (buffers (now (memory .exit)) (now (map .exit)) (now («new_names» .exit)) (now («new_addresses» .exit))) (now (answer .exit)) ⌝ }
 {
     sdx_load(
         file,
@@ -157,9 +157,9 @@ pub fn sdx_load_default(
 }
 
 // Writes the answer of an outcome, and gives its number.
-fn tell(outcome: Outcome, answer: &mut [u8]) -> u32
+fn write_answer(outcome: Outcome, answer: &mut [u8]) -> u32
     requires { ⌜ length (now answer) ≡ answerLength ⌝ }
-    ensures { λ r. ⌜ Told outcome (now (answer .entry)) r (now (answer .exit)) ⌝ }
+    ensures { λ r. ⌜ Answered outcome (now (answer .entry)) r (now (answer .exit)) ⌝ }
 {
     answer::write(outcome, answer);
     answer::number(outcome)

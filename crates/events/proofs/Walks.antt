@@ -53,17 +53,17 @@ module _ {S A : Type 0} (turn : S → List ℕ → Ran (Turn S A)) (last : S →
 
   -- ---- a walk that has come to a state, after some events
 
-  pub came-none : (s : S) (p : List ℕ) → from turn last measure s p ≡ after [] (from turn last measure s (marks [] p))
+  pub walk-begins : (s : S) (p : List ℕ) → from turn last measure s p ≡ after [] (from turn last measure s (marks [] p))
   unfolding marks
-  came-none s p = refl
+  walk-begins s p = refl
 
-  module _ (o : Ran A) (es : List Event) (s : S) (p : List ℕ) (came : o ≡ after es (from turn last measure s (marks es p))) where
+  module _ (o : Ran A) (es : List Event) (s : S) (p : List ℕ) (so-far : o ≡ after es (from turn last measure s (marks es p))) where
     -- its next turn leads on
-    pub came-on : (z : S) → turn s (marks es p) .answer ≡ leads z
+    pub walk-goes-on : (z : S) → turn s (marks es p) .answer ≡ leads z
         → o ≡ after (es ++ turn s (marks es p) .events) (from turn last measure z (marks (es ++ turn s (marks es p) .events) p))
-    came-on z e =
+    walk-goes-on z e =
         let fs = turn s (marks es p) .events in
-        came
+        so-far
         ∙ ap (λ (r : Ran A). after es r)
         (from-turn s (marks es p) ∙ ap (λ (t : Turn S A). onward (λ z q. from turn last measure z q) (marks es p) fs t) e)
         ∙ ap (λ (q : List ℕ). after es (after fs (from turn last measure z q))) (sym (marks-append es fs p))
@@ -71,10 +71,10 @@ module _ {S A : Type 0} (turn : S → List ℕ → Ran (Turn S A)) (last : S →
         (sym (append-assoc es fs (from turn last measure z (marks (es ++ fs) p) .events)))
 
     -- or ends it
-    pub came-end : (a : A) → turn s (marks es p) .answer ≡ ends a → o ≡ record { answer = a; events = es ++ turn s (marks es p) .events }
-    came-end a e =
+    pub walk-ends : (a : A) → turn s (marks es p) .answer ≡ ends a → o ≡ record { answer = a; events = es ++ turn s (marks es p) .events }
+    walk-ends a e =
         let fs = turn s (marks es p) .events in
-        came
+        so-far
         ∙ ap (λ (r : Ran A). after es r)
         (from-turn s (marks es p) ∙ ap (λ (t : Turn S A). onward (λ z q. from turn last measure z q) (marks es p) fs t) e)
 
@@ -94,16 +94,16 @@ module _ {S A : Type 0} (turn : S → List ℕ → Ran (Turn S A)) (last : S →
     (keeps : (s z : S) (es : List Event) → P s es → turn s (marks es p) .answer ≡ leads z → P z (es ++ turn s (marks es p) .events)) where
   held-from : (k : ℕ) (o : Ran A) (s : S) (es : List Event) → measure s < k → P s es → o ≡ after es (from turn last measure s (marks es p))
       → EndsAt turn P p o
-  held-from zero o s es h held came = absurd (omega arith)
-  held-from (suc k) o s es h held came =
+  held-from zero o s es h held so-far = absurd (omega arith)
+  held-from (suc k) o s es h held so-far =
       by (turn s (marks es p) .answer) refl
       (λ z e. held-from k o z (es ++ turn s (marks es p) .events) (omega (arith, falls s z (marks es p) e)) (keeps s z es held e)
-      (came-on turn last measure falls o es s p came z e))
+      (walk-goes-on turn last measure falls o es s p so-far z e))
     where
       by : (t : Turn S A) → turn s (marks es p) .answer ≡ t → ((z : S) → turn s (marks es p) .answer ≡ leads z → EndsAt turn P p o)
           → EndsAt turn P p o
       by (ends a) e go =
-          let f = came-end turn last measure falls o es s p came a e in
+          let f = walk-ends turn last measure falls o es s p so-far a e in
           record {
             state = s;
             before = es;
@@ -115,4 +115,4 @@ module _ {S A : Type 0} (turn : S → List ℕ → Ran (Turn S A)) (last : S →
 
   -- what holds at the start, and is kept by every turn that leads on, holds where the walk ends
   pub walk-keeps : (s : S) → P s [] → EndsAt turn P p (from turn last measure s p)
-  walk-keeps s held = held-from (suc (measure s)) _ s [] (omega arith) held (came-none turn last measure falls s p)
+  walk-keeps s held = held-from (suc (measure s)) _ s [] (omega arith) held (walk-begins turn last measure falls s p)

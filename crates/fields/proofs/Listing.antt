@@ -11,21 +11,21 @@ use Rattle.words.specs.Runs.{part}
 use Rattle.fields.specs.Fields.{itemSize, singles, pairs, fieldsOf}
 use Rattle.fields.specs.declared.Field.{Field}
 use Rattle.fields.specs.declared.Fixup.{Fixup}
-use Rattle.fields.specs.declared.Fixup.the-variants.{Low, Page, Word, High}
+use Rattle.fields.specs.declared.Fixup.the-variants.{LowByte, ZeroPageByte, Word, HighByte}
 
 -- an item has a byte at least
 pub item-some : (fixup : Fixup) → 1 ≤ itemSize fixup
-item-some Low = omega arith
-item-some Page = omega arith
+item-some LowByte = omega arith
+item-some ZeroPageByte = omega arith
 item-some Word = omega arith
-item-some High = omega arith
+item-some HighByte = omega arith
 
 -- an item has two bytes at most
 pub item-le : (fixup : Fixup) → itemSize fixup ≤ 2
-item-le Low = omega arith
-item-le Page = omega arith
+item-le LowByte = omega arith
+item-le ZeroPageByte = omega arith
 item-le Word = omega arith
-item-le High = omega arith
+item-le HighByte = omega arith
 
 -- a byte, and the bytes after it
 drop-next : (items : List ℕ) (i : ℕ) → i + 1 ≤ length items → drop i items ≡ getD items i 0 ∷ drop (i + 1) items
@@ -46,15 +46,15 @@ pub single-listed : (fixup kind : Fixup) (items : List ℕ) (i index : ℕ) → 
     → index ≡ getD items i 0
     → record { fixup = kind; index = index; lsb = 0 } ∷ [] ≡ fieldsOf fixup (part items i (itemSize fixup))
 unfolding fieldsOf
-single-listed fixup Low items i index e s h r = rw (e, r) (ap (singles Low) (sym (part-one items i (rw e at h))))
-single-listed fixup Page items i index e s h r = rw (e, r) (ap (singles Page) (sym (part-one items i (rw e at h))))
+single-listed fixup LowByte items i index e s h r = rw (e, r) (ap (singles LowByte) (sym (part-one items i (rw e at h))))
+single-listed fixup ZeroPageByte items i index e s h r = rw (e, r) (ap (singles ZeroPageByte) (sym (part-one items i (rw e at h))))
 single-listed fixup Word items i index e s h r = rw (e, r) (ap (singles Word) (sym (part-one items i (rw e at h))))
-single-listed fixup High items i index e s h r = absurd (omega arith)
+single-listed fixup HighByte items i index e s h r = absurd (omega arith)
 
 -- a pair lists the high byte at its index, with its LSB
-pub pair-listed : (fixup : Fixup) (items : List ℕ) (i index lsb : ℕ) → fixup ≡ High → i + itemSize fixup ≤ length items → index ≡ getD items i 0
+pub pair-listed : (fixup : Fixup) (items : List ℕ) (i index lsb : ℕ) → fixup ≡ HighByte → i + itemSize fixup ≤ length items → index ≡ getD items i 0
     → lsb ≡ getD items (i + 1) 0
-    → record { fixup = High; index = index; lsb = lsb } ∷ [] ≡ fieldsOf fixup (part items i (itemSize fixup))
+    → record { fixup = HighByte; index = index; lsb = lsb } ∷ [] ≡ fieldsOf fixup (part items i (itemSize fixup))
 unfolding fieldsOf
 pair-listed fixup items i index lsb e h r q =
     let two : i + 2 ≤ length items = rw e at h in
@@ -70,10 +70,10 @@ singles-first fixup items i h =
 item-first : (fixup : Fixup) (items : List ℕ) (i : ℕ) → i + itemSize fixup ≤ length items
     → fieldsOf fixup (drop i items) ≡ fieldsOf fixup (part items i (itemSize fixup)) ++ fieldsOf fixup (drop (i + itemSize fixup) items)
 unfolding fieldsOf
-item-first Low items i h = singles-first Low items i h
-item-first Page items i h = singles-first Page items i h
+item-first LowByte items i h = singles-first LowByte items i h
+item-first ZeroPageByte items i h = singles-first ZeroPageByte items i h
 item-first Word items i h = singles-first Word items i h
-item-first High items i h =
+item-first HighByte items i h =
     ap pairs (drop-pair items i h)
     ∙ ap (λ (l : List ℕ). pairs l ++ pairs (drop (i + 2) items)) (sym (part-two items i h))
 
@@ -93,10 +93,10 @@ pairs-none (index ∷ lsb ∷ items) h = absurd (omega arith)
 -- where no item stands, no field is left
 fields-none : (fixup : Fixup) (items : List ℕ) (i : ℕ) → length items < i + itemSize fixup → fieldsOf fixup (drop i items) ≡ []
 unfolding fieldsOf
-fields-none Low items i h = ap (singles Low) (drop-of-length-le items {i = i} (omega arith))
-fields-none Page items i h = ap (singles Page) (drop-of-length-le items {i = i} (omega arith))
+fields-none LowByte items i h = ap (singles LowByte) (drop-of-length-le items {i = i} (omega arith))
+fields-none ZeroPageByte items i h = ap (singles ZeroPageByte) (drop-of-length-le items {i = i} (omega arith))
 fields-none Word items i h = ap (singles Word) (drop-of-length-le items {i = i} (omega arith))
-fields-none High items i h = pairs-none (drop i items) (rw length-drop (omega arith))
+fields-none HighByte items i h = pairs-none (drop i items) (rw length-drop (omega arith))
 
 -- the same where the program has the item's size as a number k: a whole item lists the next field
 pub next-field : (fixup : Fixup) (items : List ℕ) (i k : ℕ) (f : Field) → k ≡ itemSize fixup → i + k ≤ length items
@@ -126,15 +126,15 @@ length-pairs (index ∷ lsb ∷ items) = let e = length-pairs items in omega ari
 -- there are as many fields as whole items
 pub length-fields : (fixup : Fixup) (items : List ℕ) → length (fieldsOf fixup items) ≡ length items / itemSize fixup
 unfolding fieldsOf
-length-fields Low items = let e = length-singles Low items in omega arith
-length-fields Page items = let e = length-singles Page items in omega arith
+length-fields LowByte items = let e = length-singles LowByte items in omega arith
+length-fields ZeroPageByte items = let e = length-singles ZeroPageByte items in omega arith
 length-fields Word items = let e = length-singles Word items in omega arith
-length-fields High items = length-pairs items
+length-fields HighByte items = length-pairs items
 
 -- there are at most as many fields as bytes
 pub fields-fit : (fixup : Fixup) (items : List ℕ) → length (fieldsOf fixup items) ≤ length items
 unfolding fieldsOf
-fields-fit Low items = let e = length-singles Low items in omega arith
-fields-fit Page items = let e = length-singles Page items in omega arith
+fields-fit LowByte items = let e = length-singles LowByte items in omega arith
+fields-fit ZeroPageByte items = let e = length-singles ZeroPageByte items in omega arith
 fields-fit Word items = let e = length-singles Word items in omega arith
-fields-fit High items = let e = length-pairs items in omega arith
+fields-fit HighByte items = let e = length-pairs items in omega arith

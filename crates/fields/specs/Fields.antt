@@ -4,21 +4,21 @@ use mathlib.Core.List.{List, [], _∷_}
 use Prim.Native.Nat.{ℕ}
 use Rattle.fields.specs.declared.Field.{Field}
 use Rattle.fields.specs.declared.Fixup.{Fixup}
-use Rattle.fields.specs.declared.Fixup.the-variants.{Low, Page, Word, High}
+use Rattle.fields.specs.declared.Fixup.the-variants.{LowByte, ZeroPageByte, Word, HighByte}
 
 -- how many bytes a field has: 06 and 07 list words, all others bytes
 abbrev pub widthOf : Fixup → ℕ
-widthOf Low = 1
-widthOf Page = 1
+widthOf LowByte = 1
+widthOf ZeroPageByte = 1
 widthOf Word = 2
-widthOf High = 1
+widthOf HighByte = 1
 
 -- how many bytes list one field: "08, 09 take (index, LSB)", all others the index alone
 abbrev pub itemSize : Fixup → ℕ
-itemSize Low = 1
-itemSize Page = 1
+itemSize LowByte = 1
+itemSize ZeroPageByte = 1
 itemSize Word = 1
-itemSize High = 2
+itemSize HighByte = 2
 
 -- the fields of a list of indices
 abbrev pub singles : Fixup → List ℕ → List Field
@@ -29,11 +29,11 @@ singles fixup (index ∷ items) = record { fixup = fixup; index = index; lsb = 0
 abbrev pub pairs : List ℕ → List Field
 pairs [] = []
 pairs (index ∷ []) = []
-pairs (index ∷ lsb ∷ items) = record { fixup = High; index = index; lsb = lsb } ∷ pairs items
+pairs (index ∷ lsb ∷ items) = record { fixup = HighByte; index = index; lsb = lsb } ∷ pairs items
 
 -- the fields that a fixup record's bytes list, in their order
 unfoldable pub fieldsOf : Fixup → List ℕ → List Field
-fieldsOf Low items = singles Low items
-fieldsOf Page items = singles Page items
+fieldsOf LowByte items = singles LowByte items
+fieldsOf ZeroPageByte items = singles ZeroPageByte items
 fieldsOf Word items = singles Word items
-fieldsOf High items = pairs items
+fieldsOf HighByte items = pairs items

@@ -9,10 +9,10 @@ ghost use Rattle.fields.specs.Fields.{itemSize, widthOf, fieldsOf};
 // What a fixup puts on its field: the main base on a byte, the zero-page base on a byte, the main base on a word, and on a high byte the
 // high byte of LSB + main base.
 pub enum Fixup {
-    Low,
-    Page,
+    LowByte,
+    ZeroPageByte,
     Word,
-    High,
+    HighByte,
 }
 
 // An address field: what is put on it, its index among the code bytes, and the low byte beside a high one (else zero).
@@ -27,10 +27,10 @@ pub fn item_size(fixup: Fixup) -> usize
     ensures { λ r. ⌜ r ≡ itemSize fixup ⌝ }
 {
     match fixup {
-        Fixup::Low => 1,
-        Fixup::Page => 1,
+        Fixup::LowByte => 1,
+        Fixup::ZeroPageByte => 1,
         Fixup::Word => 1,
-        Fixup::High => 2,
+        Fixup::HighByte => 2,
     }
 }
 
@@ -39,10 +39,10 @@ pub fn width(fixup: Fixup) -> usize
     ensures { λ r. ⌜ (r ≡ widthOf fixup) × (1 ≤ r) × (r ≤ 2) ⌝ }
 {
     match fixup {
-        Fixup::Low => 1,
-        Fixup::Page => 1,
+        Fixup::LowByte => 1,
+        Fixup::ZeroPageByte => 1,
         Fixup::Word => 2,
-        Fixup::High => 1,
+        Fixup::HighByte => 1,
     }
 }
 
@@ -53,18 +53,18 @@ pub fn field_at(items: &[u8], at: usize, fixup: Fixup) -> Field
 {
     let index = words::wide(items[at]);
     match fixup {
-        Fixup::High => Field {
-            fixup: Fixup::High,
+        Fixup::HighByte => Field {
+            fixup: Fixup::HighByte,
             index,
             lsb: words::wide(items[at + 1]),
         },
-        Fixup::Low => Field {
-            fixup: Fixup::Low,
+        Fixup::LowByte => Field {
+            fixup: Fixup::LowByte,
             index,
             lsb: 0,
         },
-        Fixup::Page => Field {
-            fixup: Fixup::Page,
+        Fixup::ZeroPageByte => Field {
+            fixup: Fixup::ZeroPageByte,
             index,
             lsb: 0,
         },

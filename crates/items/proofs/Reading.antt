@@ -12,7 +12,7 @@ use Rattle.answer.specs.Checks.{need, pick}
 use Rattle.answer.specs.declared.Fault.{Fault}
 use Rattle.answer.specs.declared.Fault.the-variants.{CutShort, NotKnown, BlockMissing, CounterUnusable}
 use Rattle.words.specs.Numbers.{value}
-use Rattle.items.specs.Items.{slotAt, adding, setting, aiming, skipped, skipping, read}
+use Rattle.items.specs.Items.{slotAt, adding, setting, settingToBlock, skipped, skipping, read}
 use Rattle.items.specs.declared.Counter.{Counter}
 use Rattle.items.specs.declared.Counter.the-variants.{Unset, Set}
 use Rattle.items.specs.declared.Item.{Item}
@@ -58,25 +58,25 @@ module _ (file : List ℕ) (at : ℕ) where
 
 module _ (file : List ℕ) (table : List Slot) (at : ℕ) where
   -- no number left
-  pub aiming-cut : length file < at + 2 → Faulty CutShort ≡ aiming file table at
-  unfolding aiming need
-  aiming-cut h = rw (lt-leb _ _ h) refl
+  pub to-block-cut : length file < at + 2 → Faulty CutShort ≡ settingToBlock file table at
+  unfolding settingToBlock need
+  to-block-cut h = rw (lt-leb _ _ h) refl
 
   module _ (number : ℕ) (h : at + 2 ≤ length file) (e : number ≡ getD file (at + 1) 0) where
     -- no number of a block
-    pub aiming-unknown : 7 < number → Faulty NotKnown ≡ aiming file table at
-    unfolding aiming need
-    aiming-unknown i = rw (le-leb _ _ h, ← e, lt-leb _ _ i) refl
+    pub to-block-unknown : 7 < number → Faulty NotKnown ≡ settingToBlock file table at
+    unfolding settingToBlock need
+    to-block-unknown i = rw (le-leb _ _ h, ← e, lt-leb _ _ i) refl
 
     -- a block that is not there
-    pub aiming-missing : number ≤ 7 → slotAt table number .taken ≡ false → Faulty BlockMissing ≡ aiming file table at
-    unfolding aiming need
-    aiming-missing i t = rw (le-leb _ _ h, ← e, le-leb _ _ i, t) refl
+    pub to-block-missing : number ≤ 7 → slotAt table number .taken ≡ false → Faulty BlockMissing ≡ settingToBlock file table at
+    unfolding settingToBlock need
+    to-block-missing i t = rw (le-leb _ _ h, ← e, le-leb _ _ i, t) refl
 
     -- the block's address
-    pub aiming-there : number ≤ 7 → slotAt table number .taken ≡ true → Move (slotAt table number .address) (at + 2) ≡ aiming file table at
-    unfolding aiming need
-    aiming-there i t = rw (le-leb _ _ h, ← e, le-leb _ _ i, t) refl
+    pub to-block-there : number ≤ 7 → slotAt table number .taken ≡ true → Move (slotAt table number .address) (at + 2) ≡ settingToBlock file table at
+    unfolding settingToBlock need
+    to-block-there i t = rw (le-leb _ _ h, ← e, le-leb _ _ i, t) refl
 
 -- ---- FF
 
@@ -117,9 +117,9 @@ module _ (file : List ℕ) (table : List Slot) (at : ℕ) (counter : Counter) wh
     unfolding read need pick
     reading-set r i e = rw (lt-ltb _ _ h, i) e
 
-    pub reading-aim : (r : Item) → getD file at 0 ≡ 0xFE → r ≡ aiming file table at → r ≡ read file table at counter
+    pub reading-set-to-block : (r : Item) → getD file at 0 ≡ 0xFE → r ≡ settingToBlock file table at → r ≡ read file table at counter
     unfolding read need pick
-    reading-aim r i e = rw (lt-ltb _ _ h, i) e
+    reading-set-to-block r i e = rw (lt-ltb _ _ h, i) e
 
     pub reading-skip : (r : Item) → getD file at 0 ≡ 0xFF → r ≡ skipping (at + 1) counter → r ≡ read file table at counter
     unfolding read need pick
@@ -158,9 +158,9 @@ setting-lies file at =
     (λ i. record { lies = (omega arith, leb-true _ _ h, leb-true _ _ i) }))
 
 -- FE
-aiming-lies : (file : List ℕ) (table : List Slot) (at : ℕ) → Lies (length file) at (aiming file table at)
-unfolding aiming
-aiming-lies file table at =
+to-block-lies : (file : List ℕ) (table : List Slot) (at : ℕ) → Lies (length file) at (settingToBlock file table at)
+unfolding settingToBlock
+to-block-lies file table at =
     let P = Lies (length file) at in
     on-need Faulty P (bad _ _) _ _ _
     (λ h. on-need Faulty P (bad _ _) _ _ _
@@ -181,7 +181,7 @@ read-lies file table at counter =
     (λ h. on-pick P _ _ _ (λ _. adding-lies (length file) at _ counter (ltb-true _ _ h))
     (λ _. on-pick P _ _ _ (λ _. end-lies (ltb-true _ _ h))
     (λ _. on-pick P _ _ _ (λ _. setting-lies file at)
-    (λ _. on-pick P _ _ _ (λ _. aiming-lies file table at)
+    (λ _. on-pick P _ _ _ (λ _. to-block-lies file table at)
     (λ _. skipping-lies (length file) at counter (ltb-true _ _ h))))))
   where
     end-lies : at < length file → Lies (length file) at (End (at + 1))

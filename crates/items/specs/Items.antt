@@ -40,8 +40,8 @@ setting file at =
     (Adjust (value 2 file (at + 1)) (at + 3)))
 
 -- FE: "present (5); for FE, number (6), block there (8)"
-unfoldable pub aiming : List ℕ → List Slot → ℕ → Item
-aiming file table at =
+unfoldable pub settingToBlock : List ℕ → List Slot → ℕ → Item
+settingToBlock file table at =
     let slot = slotAt table (getD file (at + 1) 0) in
     need Faulty (leb (at + 2) (length file)) CutShort
     (need Faulty (leb (getD file (at + 1) 0) lastNumber) NotKnown
@@ -65,5 +65,5 @@ read file table at counter =
     (pick (leb byte 0xFB) (adding byte (at + 1) counter)
     (pick (eqb byte 0xFC) (End (at + 1))
     (pick (eqb byte 0xFD) (setting file at)
-    (pick (eqb byte 0xFE) (aiming file table at)
+    (pick (eqb byte 0xFE) (settingToBlock file table at)
     (skipping (at + 1) counter)))))

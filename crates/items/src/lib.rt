@@ -3,7 +3,7 @@ use answer::Fault;
 ghost use mathlib.Core.Path.{_≡_};
 ghost use Prim.Native.Nat.{_≤_};
 ghost use lib.ListN.{length};
-ghost use Rattle.items.specs.Items.{adding, setting, aiming, skipping, read as readOf};
+ghost use Rattle.items.specs.Items.{adding, setting, settingToBlock, skipping, read as readOf};
 
 // The highest block number.
 pub const LAST_NUMBER: usize = 7;
@@ -46,7 +46,7 @@ pub fn read(file: &[u8], table: [Slot; 8], at: usize, counter: Counter) -> Item
         0..=251 => add(byte, at + 1, counter),
         252 => Item::End(at + 1),
         253 => set(file, at),
-        254 => aim(file, table, at),
+        254 => set_to_block(file, table, at),
         255 => skip(at + 1, counter),
     }
 }
@@ -87,9 +87,9 @@ fn set(file: &[u8], at: usize) -> Item
 }
 
 // FE: the counter set to the address of a block.
-fn aim(file: &[u8], table: [Slot; 8], at: usize) -> Item
+fn set_to_block(file: &[u8], table: [Slot; 8], at: usize) -> Item
     requires { ⌜ (at ≤ length (now file)) × (length (now file) ≤ 65536) ⌝ }
-    ensures { λ r. ⌜ r ≡ aiming (now (file .entry)) table at ⌝ }
+    ensures { λ r. ⌜ r ≡ settingToBlock (now (file .entry)) table at ⌝ }
 {
     let next = at + 2;
     if file.len() < next {

@@ -8,12 +8,12 @@ use native.Mathlib.Omega.{arith}
 use borrow.Author.Tests.{eq-eqb}
 use lib.ListN.{length}
 use Rattle.acx.proofs.Calling.{range-bounds, Follows, load-follows}
-use Rattle.acx.proofs.Demand2.{handler-of}
-use Rattle.acx.proofs.Handlers.{fits-memory, handled}
+use Rattle.acx.proofs.Demand2.{well-placed-of}
+use Rattle.acx.proofs.WellPlaced.{fits-memory, placed-well}
 use Rattle.pieces.proofs.Loads.{laid, play-laid}
 use Rattle.acx.proofs.Same.{Bare, bare, same-pieces}
 use Rattle.acx.specs.Call.{formOf, load, memoryAfter as playedBy, mapAfter as loadedMap}
-use Rattle.acx.specs.Demand2.{Handler}
+use Rattle.acx.specs.Demand2.{WellPlaced}
 use Rattle.pieces.specs.Pieces.{Piece, events}
 use Rattle.acx.specs.Walk.{Verdict, accepted, refused, judged, report as outcomeReported, reported}
 use Rattle.pieces.specs.declared.Bases.{Bases}
@@ -53,12 +53,12 @@ module _ (file : List ℕ) (form : ℕ) (ps : List Piece) (b : Bases) (h : Accep
   reported-accepted = ap (λ (v : Verdict). isRefused (outcomeReported v (load form b file .events))) (h .1)
 
   -- its pieces make a handler
-  pub handler-at : Handler file b ps
-  handler-at = handler-of (formOf form) file b ps (h .0) verdict
+  pub well-placed-at : WellPlaced file b ps
+  well-placed-at = well-placed-of (formOf form) file b ps (h .0) verdict
 
   -- its code is bytes where the file is
   pub code-bytes : Bytes file → Each (λ p. Bytes (p .code)) ps
-  code-bytes y = each-map (λ p x. rw (x .2) (bytes-part file (x .0) _ y)) ps (handler-at .from-file)
+  code-bytes y = each-map (λ p x. rw (x .2) (bytes-part file (x .0) _ y)) ps (well-placed-at .from-file)
 
   -- no piece at a fixed address has fields
   pub bare-at : Each (λ p. Bare (p .kind) (p .fields)) ps
@@ -66,14 +66,14 @@ module _ (file : List ℕ) (form : ℕ) (ps : List Piece) (b : Bases) (h : Accep
 
   -- its events are those of the pieces
   pub events-at : load form b file .events ≡ events b ps
-  events-at = ap (λ (o : Ran Verdict). o .events) (follows .by-rules) ∙ handled file b (formOf form) ps (h .0) verdict .events
+  events-at = ap (λ (o : Ran Verdict). o .events) (follows .by-rules) ∙ placed-well file b (formOf form) ps (h .0) verdict .events
 
   -- it leaves the pieces in memory
   pub load-laid : (r : List ℕ) → length r ≡ 65536 → loadInto file form b r ≡ laid b ps r
   load-laid r n =
       ap (λ (v : Verdict). playedBy v (load form b file .events) r) (h .1)
       ∙ ap (λ (t : List Event). play t r) events-at
-      ∙ play-laid b ps r (fits-memory b (length r) ps n (handler-at .fits)) (handler-at .inside)
+      ∙ play-laid b ps r (fits-memory b (length r) ps n (well-placed-at .fits)) (well-placed-at .inside)
 
 -- accepted at two pairs of bases it has the same pieces at both
 pub same-at : (file : List ℕ) (form : ℕ) (ps qs : List Piece) (b c : Bases) → AcceptedAt file form ps b → AcceptedAt file form qs c → ps ≡ qs

@@ -16,8 +16,8 @@ use Rattle.answer.specs.declared.Outcome.{Outcome}
 use Rattle.answer.specs.declared.Outcome.the-variants.{Accepted, Refused}
 use Rattle.answer.specs.declared.Start.{Start}
 use Rattle.events.specs.Events.{Ran}
-use Rattle.passes.specs.Rooms.{Rooms}
-use Rattle.passes.specs.Walk.{Given, given, Verdict, finished, refused}
+use Rattle.passes.specs.Buffers.{Buffers}
+use Rattle.passes.specs.Walk.{Inputs, inputs, Verdict, finished, refused}
 use Rattle.sdx.specs.Call.{sized, call, report, addressesAfter, Loaded}
 use Rattle.words.proofs.Numbers.{length-decoded}
 use Rattle.words.proofs.Runs.{front-holds}
@@ -31,7 +31,7 @@ use Rattle.pairs.specs.Pairs.{paired, addressesIn, asWords, withAddresse
 length-addresses : (bytes : List ℕ) → length (addressesIn bytes) ≡ length bytes / 2
 length-addresses bytes = length-decoded _ (length bytes / 2) bytes
 
-module _ (g : Given) (b : Rooms) where
+module _ (g : Inputs) (b : Buffers) where
   -- the lengths of all that is lent but the answer
   abbrev pub right : Bool
   right = bothPaired g b && sized (asWords g) (inWords b)
@@ -61,7 +61,7 @@ module _ (g : Given) (b : Rooms) where
           and-false (eqb (length (b .memory)) 65536) _
           (and-false (eqb (length (b .map)) 65536) _ (and-false (eqb (length (b .names)) 256) _ (rw (ne-eqb _ _ other) refl)))
 
-module _ {file : List ℕ} {g : Given} {b : Rooms} {o : Outcome} (e : o ≡ Refused WrongBuffer 0 0) where
+module _ {file : List ℕ} {g : Inputs} {b : Buffers} {o : Outcome} (e : o ≡ Refused WrongBuffer 0 0) where
   -- where some length is wrong, nothing is done
   pub loads-wrong : (answered : Bool) → (answered && bothPaired g b) && sized (asWords g) (inWords b) ≡ false → Loads file g answered b o b
   unfolding call need pick
@@ -105,16 +105,16 @@ abbrev pub newWords : List ℕ
 newWords = replicate 32 0
 
 -- the lengths of pairs are right where those of the words are
-same-lengths : (g : Given) (b : Rooms) → paired (g .addresses) ≡ true → length (b .addresses) ≡ 64
+same-lengths : (g : Inputs) (b : Buffers) → paired (g .addresses) ≡ true → length (b .addresses) ≡ 64
     → (true && bothPaired g b) && sized (asWords g) (inWords b) ≡ sized (asWords g) (withAddresses b newWords)
 same-lengths g b e n =
     let l : length (addressesIn (b .addresses)) ≡ 32 = length-addresses (b .addresses) ∙ ap (λ (k : ℕ). k / 2) n in
     rw (e, l, n) refl
 
-module _ (file : List ℕ) (g : Given) (b b′ : Rooms) (o : Outcome) (known new : List ℕ) (even : paired (g .addresses) ≡ true)
+module _ (file : List ℕ) (g : Inputs) (b b′ : Buffers) (o : Outcome) (known new : List ℕ) (even : paired (g .addresses) ≡ true)
     (n : length (b .addresses) ≡ 64) (words : known ≡ addressesIn (g .addresses))
-    (loaded : Loaded file (given (g .names) known (g .low) (g .high))
-    (sized (given (g .names) known (g .low) (g .high)) (withAddresses b newWords)) (withAddresses b newWords) o (withAddresses b′ new)) where
+    (loaded : Loaded file (inputs (g .names) known (g .low) (g .high))
+    (sized (inputs (g .names) known (g .low) (g .high)) (withAddresses b newWords)) (withAddresses b newWords) o (withAddresses b′ new)) where
   d : Loaded file (asWords g) (sized (asWords g) (withAddresses b newWords)) (withAddresses b newWords) o (withAddresses b′ new)
   d = rw (← words) loaded
 

@@ -1,5 +1,5 @@
 -- An SDX load whose address lists are byte pairs (document 01, "What the bench lends", "C calls"): here the addresses of what is given, and of the
--- rooms, are bytes.
+-- buffers, are bytes.
 -- Assumes nothing.
 use mathlib.Core.Bool.{Bool, _&&_}
 use mathlib.Core.List.{List}
@@ -9,8 +9,8 @@ use lib.Dec.{eqb}
 use lib.ListN.{length}
 use Rattle.answer.specs.declared.Outcome.{Outcome}
 use Rattle.answer.specs.declared.Outcome.the-variants.{Accepted, Refused}
-use Rattle.passes.specs.Rooms.{Rooms, rooms}
-use Rattle.passes.specs.Walk.{Given, given}
+use Rattle.passes.specs.Buffers.{Buffers, buffers}
+use Rattle.passes.specs.Walk.{Inputs, inputs}
 use Rattle.sdx.specs.Call.{sized, Loaded}
 use Rattle.words.specs.Numbers.{decoded, encoded}
 
@@ -23,19 +23,19 @@ abbrev pub addressesIn : List ℕ → List ℕ
 addressesIn bytes = decoded 2 (length bytes / 2) bytes
 
 -- what is given, with the known addresses as words
-abbrev pub asWords : Given → Given
-asWords g = given (g .names) (addressesIn (g .addresses)) (g .low) (g .high)
+abbrev pub asWords : Inputs → Inputs
+asWords g = inputs (g .names) (addressesIn (g .addresses)) (g .low) (g .high)
 
--- rooms with other addresses
-abbrev pub withAddresses : Rooms → List ℕ → Rooms
-withAddresses b addresses = rooms (b .memory) (b .map) (b .names) addresses
+-- buffers with other addresses
+abbrev pub withAddresses : Buffers → List ℕ → Buffers
+withAddresses b addresses = buffers (b .memory) (b .map) (b .names) addresses
 
--- the rooms, with the new addresses as words
-abbrev pub inWords : Rooms → Rooms
+-- the buffers, with the new addresses as words
+abbrev pub inWords : Buffers → Buffers
 inWords b = withAddresses b (addressesIn (b .addresses))
 
 -- "(an odd length is 1)": both address lists are pairs
-abbrev pub bothPaired : Given → Rooms → Bool
+abbrev pub bothPaired : Inputs → Buffers → Bool
 bothPaired g b = paired (g .addresses) && paired (b .addresses)
 
 -- the room for new addresses after a load that left these words: pairs on an acceptance, and "as they were" on a refusal
@@ -43,9 +43,9 @@ abbrev pub pairsAfter : Outcome → List ℕ → List ℕ → List ℕ
 pairsAfter (Accepted start placed adjusted named low) new bytes = encoded 2 new
 pairsAfter (Refused fault offset side) new bytes = bytes
 
--- What a load over pairs does: it found the rooms b, comes to the outcome o, and leaves b′, as the loader does over the words. `right` says
+-- What a load over pairs does: it found the buffers b, comes to the outcome o, and leaves b′, as the loader does over the words. `right` says
 -- whether all else that is lent has its length (the answer, in a call from C).
-pub record Loads (file : List ℕ) (g : Given) (right : Bool) (b : Rooms) (o : Outcome) (b′ : Rooms) : Type 0 where
+pub record Loads (file : List ℕ) (g : Inputs) (right : Bool) (b : Buffers) (o : Outcome) (b′ : Buffers) : Type 0 where
   pub new : List ℕ
   pub loaded : Loaded file (asWords g) ((right && bothPaired g b) && sized (asWords g) (inWords b)) (inWords b) o (withAddresses b′ new)
   pub addresses : b′ .addresses ≡ pairsAfter o new (b .addresses)

@@ -7,11 +7,11 @@ ghost use mathlib.Core.Bool.{Bool};
 ghost use mathlib.Core.Path.{_≡_};
 ghost use Prim.Native.Nat.{_≤_};
 ghost use lib.ListN.{length};
-ghost use Rattle.passes.specs.Rooms.{rooms};
-ghost use Rattle.passes.specs.Walk.{given};
+ghost use Rattle.passes.specs.Buffers.{buffers};
+ghost use Rattle.passes.specs.Walk.{inputs};
 ghost use Rattle.pairs.specs.Pairs.{paired, Loads};
 
-// Loads a file. Refuses with the first fault; memory and the rooms for new names are then as they were.
+// Loads a file. Refuses with the first fault; memory and the buffers for new names are then as they were.
 pub fn load(
     file: &[u8],
     low: u32,
@@ -23,7 +23,7 @@ pub fn load(
     new_names: &mut [u8],
     new_addresses: &mut [u8],
 ) -> Outcome
-    ensures { λ r. ⌜ Loads (now (file .entry)) (given (now («known_names» .entry)) (now («known_addresses» .entry)) low high) Bool.true (rooms (now (memory .entry)) (now (map .entry)) (now («new_names» .entry)) (now («new_addresses» .entry))) r (rooms (now (memory .exit)) (now (map .exit)) (now («new_names» .exit)) (now («new_addresses» .exit))) ⌝ }
+    ensures { λ r. ⌜ Loads (now (file .entry)) (inputs (now («known_names» .entry)) (now («known_addresses» .entry)) low high) Bool.true (buffers (now (memory .entry)) (now (map .entry)) (now («new_names» .entry)) (now («new_addresses» .entry))) r (buffers (now (memory .exit)) (now (map .exit)) (now («new_names» .exit)) (now («new_addresses» .exit))) ⌝ }
 {
     let size = known_addresses.len();
     if size % 2 != 0 {
@@ -61,7 +61,7 @@ fn load_words(
     new_addresses: &mut [u8],
 ) -> Outcome
     requires { ⌜ (paired (now «known_addresses») ≡ Bool.true) × (length (now «known_addresses») ≤ 512) × (length (now «new_addresses») ≡ 64) ⌝ }
-    ensures { λ r. ⌜ Loads (now (file .entry)) (given (now («known_names» .entry)) (now («known_addresses» .entry)) low high) Bool.true (rooms (now (memory .entry)) (now (map .entry)) (now («new_names» .entry)) (now («new_addresses» .entry))) r (rooms (now (memory .exit)) (now (map .exit)) (now («new_names» .exit)) (now («new_addresses» .exit))) ⌝ }
+    ensures { λ r. ⌜ Loads (now (file .entry)) (inputs (now («known_names» .entry)) (now («known_addresses» .entry)) low high) Bool.true (buffers (now (memory .entry)) (now (map .entry)) (now («new_names» .entry)) (now («new_addresses» .entry))) r (buffers (now (memory .exit)) (now (map .exit)) (now («new_names» .exit)) (now («new_addresses» .exit))) ⌝ }
 {
     let mut known = [0u16; sdx::KNOWN];
     words::decode_words(&mut known, known_addresses);

@@ -1,4 +1,4 @@
--- The end of a load, over plain values: the rest of the rooms cleared, the start, and the walk that only checks.
+-- The end of a load, over plain values: the rest of the buffers cleared, the start, and the walk that only checks.
 -- Assumes nothing.
 use mathlib.Core.Bool.{Bool, true, false}
 use mathlib.Core.List.{List, [], _++_, append-nil}
@@ -18,11 +18,11 @@ use Rattle.words.proofs.Runs.{length-part}
 use Rattle.words.specs.Runs.{part, put}
 use Rattle.updates.specs.Bodies.{wordLoaded}
 use Rattle.words.specs.Numbers.{value}
-use Rattle.passes.specs.Parts.{Went, Checked, Reported}
-use Rattle.passes.specs.Rooms.{startIn, filledUp, rooms}
+use Rattle.passes.specs.Parts.{Walked, Checked, Reported}
+use Rattle.passes.specs.Buffers.{startIn, filledUp, buffers}
 use Rattle.passes.specs.Walk.{Verdict}
 use Rattle.passes.specs.declared.Totals.{Totals}
-use Rattle.passes.specs.declared.Walked.{Walked}
+use Rattle.passes.specs.declared.WalkEnd.{WalkEnd}
 
 -- ---- the rest of a room is cleared
 
@@ -48,17 +48,17 @@ rest-cleared n k l w h e f =
     ∙ ap (λ (r : List ℕ). take k l ++ r) is
     ∙ ap (λ (i : ℕ). take k l ++ replicate (n - i) 0) (sym front)
 
--- an acceptance, with both rooms
+-- an acceptance, with both buffers
 pub reported-as : {t : Totals} {m p ns ads ns′ ads′ : List ℕ} {start : Start} → start ≡ startIn p m
     → ns′ ≡ filledUp 256 (part ns 0 (8 * t .named)) → ads′ ≡ filledUp 32 (part ads 0 (t .named))
-    → Reported t (rooms m p ns ads) (Accepted start (t .placed) (t .adjusted) (t .named) (t .low)) ns′ ads′
+    → Reported t (buffers m p ns ads) (Accepted start (t .placed) (t .adjusted) (t .named) (t .low)) ns′ ads′
 reported-as e f g = record { outcome = rw e refl; names = f; addresses = g }
 
 -- ---- first checked, then carried out
 
 -- a walk that only checks has written no memory
-pub checked-as : {o : Ran Verdict} {m p ns ads m′ p′ ns′ ads′ p″ : List ℕ} {r : Walked}
-    → Went o false (rooms m p ns ads) r (rooms m′ p′ ns′ ads′) → p″ ≡ blank → Checked o m r m′ p″
+pub checked-as : {o : Ran Verdict} {m p ns ads m′ p′ ns′ ads′ p″ : List ℕ} {r : WalkEnd}
+    → Walked o false (buffers m p ns ads) r (buffers m′ p′ ns′ ads′) → p″ ≡ blank → Checked o m r m′ p″
 checked-as h clear = record { answer = h .did .answer; memory = h .did .reached .memory; map = clear; bounded = h .bounded }
 
 -- ---- the start

@@ -1,4 +1,4 @@
--- The loop of a walk: the definition's walk has come to the cursor, with the memory, the map and the rooms of what it did so far.
+-- The loop of a walk: the definition's walk has come to the cursor, with the memory, the map and the buffers of what it did so far.
 -- Assumes nothing.
 use mathlib.Core.Bool.{Bool}
 use mathlib.Core.List.{List, [], _∷_, _++_, append-nil}
@@ -14,7 +14,7 @@ use Rattle.blocks.specs.Bounds.{Fits}
 use Rattle.blocks.specs.declared.Block.{Block}
 use Rattle.blocks.specs.declared.Cursor.{Cursor}
 use Rattle.events.proofs.Events.{placed-append, adjusted-append, reached-none, reached-more}
-use Rattle.events.proofs.Walks.{came-on, came-end}
+use Rattle.events.proofs.Walks.{walk-goes-on, walk-ends}
 use Rattle.events.specs.Events.{Event, marks, blank, placedIn, adjustedIn, Ran, Reached, Did}
 use Rattle.events.specs.Walk.{Turn, ends, leads, after, bytesLeft}
 use Rattle.updates.specs.Bodies.{Stop, broken, done, counted, ended}
@@ -22,17 +22,17 @@ use Rattle.updates.specs.declared.Ended.{Ended}
 use Rattle.updates.specs.declared.Ended.the-variants.{Broken, Done}
 use Rattle.words.proofs.Runs.{front-holds}
 use Rattle.words.specs.Runs.{put}
-use Rattle.deeds.proofs.Ending.{Ends, carried-ends, advanced-at, Behind, behind-first, behind-on, placed-by, stop-broken, stop-done}
-use Rattle.deeds.proofs.Rooms.{front-is, behind, Counted, counted-first, counted-on, Tabled, tabled-first, tabled-on}
-use Rattle.deeds.specs.Deeds.{placedBy, carried, advanced, nameIn, addressIn, firstCursor}
-use Rattle.deeds.specs.Parts.{NameFits, RoomFits, Noted}
+use Rattle.effects.proofs.Ending.{Ends, carried-ends, advanced-at, Behind, behind-first, behind-on, placed-by, stop-broken, stop-done}
+use Rattle.effects.proofs.NewNames.{front-is, behind, Counted, counted-first, counted-on, Tabled, tabled-first, tabled-on}
+use Rattle.effects.specs.Effects.{placedBy, carried, advanced, nameIn, addressIn, firstCursor}
+use Rattle.effects.specs.Parts.{NameFits, RoomFits, NameStored}
 use Rattle.passes.proofs.Turning.{turn-end, turn-block, block-fits, turn-falls}
-use Rattle.passes.specs.Parts.{totals, Bounded, Went}
-use Rattle.passes.specs.Rooms.{Rooms, rooms}
-use Rattle.passes.specs.Walk.{stepped, Given, Deed, Progress, Verdict, finished, refused, judge, blockAt, carriedAt, turn, blocksFrom, begun, blocksOf}
+use Rattle.passes.specs.Parts.{totals, Bounded, Walked}
+use Rattle.passes.specs.Buffers.{Buffers, buffers}
+use Rattle.passes.specs.Walk.{stepped, Inputs, Effect, Progress, Verdict, finished, refused, judge, blockAt, carriedAt, turn, blocksFrom, begun, blocksOf}
 use Rattle.passes.specs.declared.Totals.{Totals}
-use Rattle.passes.specs.declared.Walked.{Walked}
-use Rattle.passes.specs.declared.Walked.the-variants.{Stopped, Finished}
+use Rattle.passes.specs.declared.WalkEnd.{WalkEnd}
+use Rattle.passes.specs.declared.WalkEnd.the-variants.{Stopped, Finished}
 
 eighth : {n k : ℕ} → n ≡ 8 * k → n / 8 ≡ k
 eighth e = omega (arith, e)
@@ -44,7 +44,7 @@ pub stopped-finished : {fault : Fault} {offset : ℕ} {t : Totals} → Stopped f
 stopped-finished e = let z : _≡_ {A = ℕ} 0 1 = cc in omega arith
 
 -- what a walk that has finished comes to
-abbrev pub totalsIn : Walked → Totals
+abbrev pub totalsIn : WalkEnd → Totals
 totalsIn (Stopped fault offset) = totals 0 0 0 0
 totalsIn (Finished t) = t
 
@@ -58,16 +58,16 @@ bounded-finished low named placed adjusted h i j =
     record {
       offset = λ f at e. absurd (stopped-finished (sym e));
       counts = λ t e. (
-        omega (arith, ap (λ (w : Walked). totalsIn w .named) e, h),
-        omega (arith, ap (λ (w : Walked). totalsIn w .placed) e, i),
-        omega (arith, ap (λ (w : Walked). totalsIn w .adjusted) e, j),
+        omega (arith, ap (λ (w : WalkEnd). totalsIn w .named) e, h),
+        omega (arith, ap (λ (w : WalkEnd). totalsIn w .placed) e, i),
+        omega (arith, ap (λ (w : WalkEnd). totalsIn w .adjusted) e, j),
       );
     }
 
 -- ---- where the loop stands
 
 -- what is lent to the walk, which no turn changes
-pub record Lent (file : List ℕ) (g : Given) (b : Rooms) : Type 0 where
+pub record Lent (file : List ℕ) (g : Inputs) (b : Buffers) : Type 0 where
   pub short : length file ≤ 65536
   pub top : g .high ≤ 65535
   pub known : length (g .names) ≡ 8 * length (g .addresses)
@@ -76,14 +76,14 @@ pub record Lent (file : List ℕ) (g : Given) (b : Rooms) : Type 0 where
   pub spots : length (b .addresses) ≡ 32
 
 -- the walk began with the buffers b and a clear map, and stands at the cursor c with two counts and the buffers b′
-pub record Going (file : List ℕ) (g : Given) (write : Bool) (b : Rooms) (c : Cursor) (placed adjusted : ℕ) (b′ : Rooms) : Type 0 where
+pub record Going (file : List ℕ) (g : Inputs) (write : Bool) (b : Buffers) (c : Cursor) (placed adjusted : ℕ) (b′ : Buffers) : Type 0 where
   pub lent : Lent file g b
   pub events : List Event
   pub names : List ℕ
   pub addresses : List ℕ
-  pub deeds : List Deed
-  pub came : blocksOf file g
-      ≡ after events (blocksFrom file g (record { cursor = c; names = names; addresses = addresses; deeds = deeds }) (marks events blank))
+  pub effects : List Effect
+  pub so-far : blocksOf file g
+      ≡ after events (blocksFrom file g (record { cursor = c; names = names; addresses = addresses; effects = effects }) (marks events blank))
   pub reached : Reached events write (b .memory) blank (b′ .memory) (b′ .map)
   pub placed-is : placed ≡ placedIn events
   pub adjusted-is : adjusted ≡ adjustedIn events
@@ -93,9 +93,9 @@ pub record Going (file : List ℕ) (g : Given) (write : Bool) (b : Rooms) (c : C
   pub counted : Counted c names addresses
   pub tabled : Tabled c
 
-module _ {file : List ℕ} {g : Given} {write : Bool} {b : Rooms} where
+module _ {file : List ℕ} {g : Inputs} {write : Bool} {b : Buffers} where
   -- before the first block
-  pub going-first : Lent file g b → Going file g write b (firstCursor (g .low)) 0 0 (rooms (b .memory) blank (b .names) (b .addresses))
+  pub going-first : Lent file g b → Going file g write b (firstCursor (g .low)) 0 0 (buffers (b .memory) blank (b .names) (b .addresses))
   unfolding placedIn adjustedIn put blocksFrom marks
   going-first lent =
       record {
@@ -103,8 +103,8 @@ module _ {file : List ℕ} {g : Given} {write : Bool} {b : Rooms} where
         events = [];
         names = [];
         addresses = [];
-        deeds = [];
-        came = came-first;
+        effects = [];
+        so-far = so-far-first;
         reached = reached-none write (b .memory) blank;
         placed-is = refl;
         adjusted-is = refl;
@@ -115,15 +115,15 @@ module _ {file : List ℕ} {g : Given} {write : Bool} {b : Rooms} where
         tabled = tabled-first (g .low);
       }
     where
-      came-first : blocksOf file g ≡ after [] (blocksFrom file g (begun g) (marks [] blank))
-      came-first = refl
+      so-far-first : blocksOf file g ≡ after [] (blocksFrom file g (begun g) (marks [] blank))
+      so-far-first = refl
 
-  module _ {c : Cursor} {placed adjusted : ℕ} {b′ : Rooms} (x : Going file g write b c placed adjusted b′) where
+  module _ {c : Cursor} {placed adjusted : ℕ} {b′ : Buffers} (x : Going file g write b c placed adjusted b′) where
     -- the progress that the loop stands for
     abbrev here : Progress
-    here = record { cursor = c; names = x .names; addresses = x .addresses; deeds = x .deeds }
+    here = record { cursor = c; names = x .names; addresses = x .addresses; effects = x .effects }
 
-    -- the file's own names so far, and their addresses, are the fronts of their rooms
+    -- the file's own names so far, and their addresses, are the fronts of their buffers
     own-names : midOf 0 (8 * c .named - 0) (b′ .names) ≡ x .names
     own-names =
         front-is (8 * c .named) (b′ .names)
@@ -140,11 +140,11 @@ module _ {file : List ℕ} {g : Given} {write : Bool} {b : Rooms} where
         → blocksOf file g ≡ record { answer = v; events = x .events ++ turn file g here (marks (x .events) blank) .events }
     unfolding blocksFrom
     ends-with v e =
-        came-end (turn file g) (λ y. refused CutShort y) (λ y. bytesLeft file (y .cursor .at)) (turn-falls file g (x .lent .top)) (blocksOf file g) (x .events) here blank
-        (x .came) v e
+        walk-ends (turn file g) (λ y. refused CutShort y) (λ y. bytesLeft file (y .cursor .at)) (turn-falls file g (x .lent .top)) (blocksOf file g) (x .events) here blank
+        (x .so-far) v e
 
     -- at the file's end the walk has finished
-    pub going-done : c .at ≡ length file → Went (blocksOf file g) write b (Finished (totals (c .low) (c .named) placed adjusted)) b′
+    pub going-done : c .at ≡ length file → Walked (blocksOf file g) write b (Finished (totals (c .low) (c .named) placed adjusted)) b′
     going-done e =
         let t = turn-end file g here (marks (x .events) blank) e in
         let w : blocksOf file g ≡ record { answer = finished here; events = x .events } =
@@ -216,7 +216,7 @@ module _ {file : List ℕ} {g : Given} {write : Bool} {b : Rooms} where
 
         -- a fault ends the walk there
         pub going-stops : (fault : Fault) → r ≡ Broken fault
-            → Went (blocksOf file g) write b (Stopped fault (c .at)) (rooms m p (b′ .names) (b′ .addresses))
+            → Walked (blocksOf file g) write b (Stopped fault (c .at)) (buffers m p (b′ .names) (b′ .addresses))
         going-stops fault e =
             let k : o .answer ≡ broken fault = stop-broken (o .answer) (o .events) fault (sym (did-is .answer) ∙ e) in
             let t : turn file g here (marks (x .events) blank) ≡ record { answer = ends (refused fault here); events = o .events } =
@@ -247,15 +247,15 @@ module _ {file : List ℕ} {g : Given} {write : Bool} {b : Rooms} where
           unfolding carriedAt
           ends-there = carried-ends file (g .addresses) (x .addresses) c (blockAt file g here) _ _ _ (block-fits file g (x .lent .top) here) next (stopped .0)
 
-          came-then : blocksOf file g
+          so-far-then : blocksOf file g
               ≡ after (x .events ++ o .events) (blocksFrom file g then (marks (x .events ++ o .events) blank))
           unfolding blocksFrom
-          came-then =
+          so-far-then =
               let t : turn file g here (marks (x .events) blank) ≡ record { answer = leads then; events = o .events } =
               turn-is
               ∙ ap (λ (s : Stop). record { answer = judge file here (blockAt file g here) (o .events) s; events = o .events }) (stopped .0) in
-              came-on (turn file g) (λ y. refused CutShort y) (λ y. bytesLeft file (y .cursor .at)) (turn-falls file g (x .lent .top)) (blocksOf file g) (x .events) here blank
-              (x .came) then (ap (λ (q : Ran (Turn Progress Verdict)). q .answer) t)
+              walk-goes-on (turn file g) (λ y. refused CutShort y) (λ y. bytesLeft file (y .cursor .at)) (turn-falls file g (x .lent .top)) (blocksOf file g) (x .events) here blank
+              (x .so-far) then (ap (λ (q : Ran (Turn Progress Verdict)). q .answer) t)
               ∙ ap
               (λ (es : List Event). after (x .events ++ es) (blocksFrom file g then (marks (x .events ++ es) blank)))
               (ap (λ (q : Ran (Turn Progress Verdict)). q .events) t)
@@ -283,18 +283,18 @@ module _ {file : List ℕ} {g : Given} {write : Bool} {b : Rooms} where
               )
 
           -- and there it stands, with the block's name behind those before it
-          pub going-on : (ns ads : List ℕ) → Noted file found (c .named) (b′ .names) (b′ .addresses) ns ads
-              → Going file g write b (advanced c found next) (placed + placedBy found) (adjusted + adjusts) (rooms m p ns ads)
-          going-on ns ads noted =
-              subst (λ (q : Block). Going file g write b (advanced c q next) (placed + placedBy q) (adjusted + adjusts) (rooms m p ns ads))
+          pub going-on : (ns ads : List ℕ) → NameStored file found (c .named) (b′ .names) (b′ .addresses) ns ads
+              → Going file g write b (advanced c found next) (placed + placedBy found) (adjusted + adjusts) (buffers m p ns ads)
+          going-on ns ads stored =
+              subst (λ (q : Block). Going file g write b (advanced c q next) (placed + placedBy q) (adjusted + adjusts) (buffers m p ns ads))
               (sym found-is)
               (record {
                 lent = x .lent;
                 events = x .events ++ o .events;
                 names = x .names ++ nameIn file (blockAt file g here);
                 addresses = x .addresses ++ addressIn (blockAt file g here);
-                deeds = record { at = c .at; block = blockAt file g here; events = o .events } ∷ x .deeds;
-                came = came-then;
+                effects = record { at = c .at; block = blockAt file g here; events = o .events } ∷ x .effects;
+                so-far = so-far-then;
                 reached = reached-then;
                 placed-is = omega (arith, x .placed-is, placed-then, placed-append (x .events) (o .events));
                 adjusted-is = omega (arith, x .adjusted-is, stopped .1, adjusted-append (x .events) (o .events));
@@ -307,5 +307,5 @@ module _ {file : List ℕ} {g : Given} {write : Bool} {b : Rooms} where
                 tabled = tabled-on c (blockAt file g here) next _ _ _ (block-fits file g (x .lent .top) here) (x .tabled);
               })
             where
-              as-found : Noted file (blockAt file g here) (c .named) (b′ .names) (b′ .addresses) ns ads
-              as-found = subst (λ (q : Block). Noted file q (c .named) (b′ .names) (b′ .addresses) ns ads) found-is noted
+              as-found : NameStored file (blockAt file g here) (c .named) (b′ .names) (b′ .addresses) ns ads
+              as-found = subst (λ (q : Block). NameStored file q (c .named) (b′ .names) (b′ .addresses) ns ads) found-is stored

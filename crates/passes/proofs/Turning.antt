@@ -17,9 +17,9 @@ use Rattle.events.proofs.Walks.{ends-leads, leads-same, ends-same, walk-keeps}
 use Rattle.events.specs.Events.{Event, marks, blank, Ran}
 use Rattle.events.specs.Walk.{Turn, ends, leads, bytesLeft}
 use Rattle.updates.specs.Bodies.{Stop, broken, done}
-use Rattle.deeds.proofs.Ending.{Ends, carried-ends, advanced-at}
+use Rattle.effects.proofs.Ending.{Ends, carried-ends, advanced-at}
 use Rattle.passes.specs.Parts.{progressOf}
-use Rattle.passes.specs.Walk.{Given, Progress, Verdict, finished, refused, judge, blockAt, carriedAt, turn, blocksFrom, begun, blocksOf, stepped}
+use Rattle.passes.specs.Walk.{Inputs, Progress, Verdict, finished, refused, judge, blockAt, carriedAt, turn, blocksFrom, begun, blocksOf, stepped}
 
 -- a refusal is no end of a file
 pub refused-finished : {fault : Fault} {y z : Progress} → refused fault y ≡ finished z → ⊥
@@ -28,14 +28,14 @@ refused-finished e = let n : _≡_ {A = ℕ} 0 1 = cc in omega arith
 -- ---- where a turn leads
 
 -- a turn that leads on is a block that is carried out
-pub record Led (file : List ℕ) (g : Given) (y z : Progress) (map : List ℕ) : Type 0 where
+pub record Led (file : List ℕ) (g : Inputs) (y z : Progress) (map : List ℕ) : Type 0 where
   pub next : ℕ
   pub more : y .cursor .at ≡ length file → ⊥
   pub done-at : carriedAt file g y map .answer ≡ done next
   pub leads-to : stepped file y (blockAt file g y) (carriedAt file g y map .events) next ≡ z
   pub events : turn file g y map .events ≡ carriedAt file g y map .events
 
-module _ (file : List ℕ) (g : Given) (y : Progress) (map : List ℕ) where
+module _ (file : List ℕ) (g : Inputs) (y : Progress) (map : List ℕ) where
   -- at the file's end a turn finishes the walk and does nothing
   pub turn-end : y .cursor .at ≡ length file → turn file g y map ≡ record { answer = ends (finished y); events = [] }
   unfolding turn pick
@@ -96,7 +96,7 @@ module _ (file : List ℕ) (g : Given) (y : Progress) (map : List ℕ) where
           (sym (ap (λ (r : Ran (Turn Progress Verdict)). r .answer) (turn-block (eqb-false _ _ h))) ∙ e))
 
 -- where blocks lie and end, with high below 65,536
-module _ (file : List ℕ) (g : Given) (top : g .high ≤ 65535) where
+module _ (file : List ℕ) (g : Inputs) (top : g .high ≤ 65535) where
   -- what the next block says lies past its offset and in the file, in memory, in the table or in a list of names
   pub block-fits : (y : Progress) → Fits (length file) (y .cursor) (length (g .names) / 8) (length (y .names) / 8) (blockAt file g y)
   block-fits y = read-lies file (g .high) (g .names) (y .names) (y .cursor) top

@@ -10,24 +10,24 @@ use Rattle.answer.specs.declared.Fault.the-variants.{CutShort}
 use Rattle.blocks.specs.Blocks.{read}
 use Rattle.blocks.specs.declared.Block.{Block}
 use Rattle.blocks.specs.declared.Cursor.{Cursor}
-use Rattle.deeds.specs.Deeds.{carried, firstCursor, advanced, nameIn, addressIn}
+use Rattle.effects.specs.Effects.{carried, firstCursor, advanced, nameIn, addressIn}
 use Rattle.events.specs.Events.{Event, blank, Ran}
 use Rattle.events.specs.Walk.{Turn, ends, leads, from, bytesLeft}
 use Rattle.updates.specs.Bodies.{Stop, broken, done}
 
 -- "SDX: known names .., beside a list of as many 16-bit addresses ..; low and high"
-pub record Given : Type 0 where
+pub record Inputs : Type 0 where
   pub names : List ℕ
   pub addresses : List ℕ
   pub low : ℕ
   pub high : ℕ
 
 -- these four
-abbrev pub given : List ℕ → List ℕ → ℕ → ℕ → Given
-given names addresses low high = record { names = names; addresses = addresses; low = low; high = high }
+abbrev pub inputs : List ℕ → List ℕ → ℕ → ℕ → Inputs
+inputs names addresses low high = record { names = names; addresses = addresses; low = low; high = high }
 
 -- what a block did: where it begins, what it says (a body with what its words grow by: a block, a lent name, a name of the file), its events
-pub record Deed : Type 0 where
+pub record Effect : Type 0 where
   pub at : ℕ
   pub block : Block
   pub events : List Event
@@ -37,7 +37,7 @@ pub record Progress : Type 0 where
   pub cursor : Cursor
   pub names : List ℕ
   pub addresses : List ℕ
-  pub deeds : List Deed
+  pub effects : List Effect
 
 -- how a file ends: at its end, or at its first fault
 pub data Verdict : Type 0 where
@@ -51,7 +51,7 @@ stepped file z found es next =
       cursor = advanced (z .cursor) found next;
       names = z .names ++ nameIn file found;
       addresses = z .addresses ++ addressIn found;
-      deeds = record { at = z .cursor .at; block = found; events = es } ∷ z .deeds;
+      effects = record { at = z .cursor .at; block = found; events = es } ∷ z .effects;
     }
 
 -- where a block leads: on, or at its fault to the end
@@ -60,15 +60,15 @@ judge file z found es (broken fault) = ends (refused fault z)
 judge file z found es (done next) = leads (stepped file z found es next)
 
 -- the next block
-abbrev pub blockAt : List ℕ → Given → Progress → Block
+abbrev pub blockAt : List ℕ → Inputs → Progress → Block
 blockAt file g z = read file (g .high) (g .names) (z .names) (z .cursor)
 
 -- and what it comes to
-unfoldable pub carriedAt : List ℕ → Given → Progress → List ℕ → Ran Stop
+unfoldable pub carriedAt : List ℕ → Inputs → Progress → List ℕ → Ran Stop
 carriedAt file g z map = carried file (g .addresses) (z .addresses) (z .cursor) (blockAt file g z) map
 
 -- one turn: the file's end, or the next block
-unfoldable pub turn : List ℕ → Given → Progress → List ℕ → Ran (Turn Progress Verdict)
+unfoldable pub turn : List ℕ → Inputs → Progress → List ℕ → Ran (Turn Progress Verdict)
 turn file g z map =
     pick (eqb (z .cursor .at) (length file))
     (record { answer = ends (finished z); events = [] })
@@ -78,13 +78,13 @@ turn file g z map =
     })
 
 -- the blocks from some progress on
-unfoldable pub blocksFrom : List ℕ → Given → Progress → List ℕ → Ran Verdict
+unfoldable pub blocksFrom : List ℕ → Inputs → Progress → List ℕ → Ran Verdict
 blocksFrom file g z map = from (turn file g) (λ y. refused CutShort y) (λ y. bytesLeft file (y .cursor .at)) z map
 
 -- before the first block
-abbrev pub begun : Given → Progress
-begun g = record { cursor = firstCursor (g .low); names = []; addresses = []; deeds = [] }
+abbrev pub begun : Inputs → Progress
+begun g = record { cursor = firstCursor (g .low); names = []; addresses = []; effects = [] }
 
 -- all blocks
-abbrev pub blocksOf : List ℕ → Given → Ran Verdict
+abbrev pub blocksOf : List ℕ → Inputs → Ran Verdict
 blocksOf file g = blocksFrom file g (begun g) blank

@@ -1,5 +1,5 @@
-// A pass over all blocks of an SDX file. The first only checks, with the map as its notebook and rooms of its own for new names; the second
-// also writes memory and the lent rooms. So a refusal has touched none of them.
+// A pass over all blocks of an SDX file. The first only checks; it marks the map as it goes, and has buffers of its own for new names. The second
+// also writes memory and the lent buffers. So a refusal has touched none of them.
 use answer::Fault;
 use answer::Outcome;
 use answer::Start;
@@ -9,11 +9,11 @@ ghost use mathlib.Core.Path.{_≡_};
 ghost use Prim.Native.Nat.{_*_, _≤_};
 ghost use lib.ListN.{length, replicate};
 ghost use Rattle.events.specs.Events.{blank};
-ghost use Rattle.passes.specs.Walk.{given, blocksOf};
-ghost use Rattle.passes.specs.Rooms.{rooms, startIn};
-ghost use Rattle.passes.specs.Parts.{totals, Went, Checked, Reported};
+ghost use Rattle.passes.specs.Walk.{inputs, blocksOf};
+ghost use Rattle.passes.specs.Buffers.{buffers, startIn};
+ghost use Rattle.passes.specs.Parts.{totals, Walked, Checked, Reported};
 
-// The rooms for new names: their bytes, and their addresses.
+// The buffers for new names: their bytes, and their addresses.
 pub const NAMES: usize = 256;
 
 pub const ADDRESSES: usize = 32;
@@ -30,12 +30,12 @@ pub struct Totals {
 }
 
 // How a walk ends: with the fault of the block at an offset, or at the file's end.
-pub enum Walked {
+pub enum WalkEnd {
     Stopped(Fault, usize),
     Finished(Totals),
 }
 
-// Goes through all blocks and only checks them, with rooms of its own for new names. The map is clear again after it.
+// Goes through all blocks and only checks them, with buffers of its own for new names. The map is clear again after it.
 pub fn check(
     file: &[u8],
     low: u16,
@@ -44,9 +44,9 @@ pub fn check(
     known_addresses: &[u16],
     memory: &mut [u8],
     map: &mut [u8],
-) -> Walked
+) -> WalkEnd
     requires { ⌜ (length (now file) ≤ 65536) × (length (now «known_names») ≡ 8 * length (now «known_addresses»)) × (length (now memory) ≡ 65536) × (length (now map) ≡ 65536) × (now map ≡ blank) ⌝ }
-    ensures { λ r. ⌜ Checked (blocksOf (now (file .entry)) (given (now («known_names» .entry)) (now («known_addresses» .entry)) low high)) (now (memory .entry)) r (now (memory .exit)) (now (map .exit)) ⌝ }
+    ensures { λ r. ⌜ Checked (blocksOf (now (file .entry)) (inputs (now («known_names» .entry)) (now («known_addresses» .entry)) low high)) (now (memory .entry)) r (now (memory .exit)) (now (map .exit)) ⌝ }
 {
     let mut names = [0u8; NAMES];
     let mut addresses = [0u16; ADDRESSES];
@@ -66,7 +66,7 @@ pub fn check(
     walked
 }
 
-// Goes through all blocks of a file, over a clear map. `write` decides whether memory is written too; new names go to the lent rooms, behind
+// Goes through all blocks of a file, over a clear map. `write` decides whether memory is written too; new names go to the lent buffers, behind
 // those before them.
 pub fn walk(
     file: &[u8],
@@ -79,35 +79,44 @@ pub fn walk(
     map: &mut [u8],
     new_names: &mut [u8],
     new_addresses: &mut [u16],
-) -> Walked
+) -> WalkEnd
     requires { ⌜ (length (now file) ≤ 65536) × (length (now «lent_names») ≡ 8 * length (now «lent_addresses»)) × (length (now memory) ≡ 65536) × (length (now map) ≡ 65536) × (length (now «new_names») ≡ 256) × (length (now «new_addresses») ≡ 32) × (now map ≡ blank) ⌝ }
-    ensures { λ r. ⌜ Went (blocksOf (now (file .entry)) (given (now («lent_names» .entry)) (now («lent_addresses» .entry)) low high)) write (rooms (now (memory .entry)) (now (map .entry)) (now («new_names» .entry)) (now («new_addresses» .entry))) r (rooms (now (memory .exit)) (now (map .exit)) (now («new_names» .exit)) (now («new_addresses» .exit))) ⌝ }
+    ensures { λ r. ⌜ Walked (blocksOf (now (file .entry)) (inputs (now («lent_names» .entry)) (now («lent_addresses» .entry)) low high)) write (buffers (now (memory .entry)) (now (map .entry)) (now («new_names» .entry)) (now («new_addresses» .entry))) r (buffers (now (memory .exit)) (now (map .exit)) (now («new_names» .exit)) (now («new_addresses» .exit))) ⌝ }
 {
-    let mut cursor = deeds::first(low);
+    let mut cursor = effects::first(low);
     let mut bytes = 0;
     let mut fields = 0;
     loop {
         if cursor.at == file.len() {
-            return Walked::Finished(total(cursor, bytes, fields));
+            return WalkEnd::Finished(total(cursor, bytes, fields));
         }
         let named = cursor.named;
         let size = names::NAME * named;
         let found = blocks::read(file, high, lent_names, &new_names[0..size], cursor);
         let own = &new_addresses[0..named];
-        let ended = deeds::carry_out(file, found, cursor, lent_addresses, own, write, memory, map);
+        let ended = effects::carry_out(
+            file,
+            found,
+            cursor,
+            lent_addresses,
+            own,
+            write,
+            memory,
+            map,
+        );
         match ended {
-            Ended::Broken(fault) => return Walked::Stopped(fault, cursor.at),
+            Ended::Broken(fault) => return WalkEnd::Stopped(fault, cursor.at),
             Ended::Done { next, adjusted } => {
-                deeds::note(file, found, named, new_names, new_addresses);
-                bytes += deeds::placed_by(found);
+                effects::store_name(file, found, named, new_names, new_addresses);
+                bytes += effects::placed_by(found);
                 fields += adjusted;
-                cursor = deeds::advance(cursor, found, next);
+                cursor = effects::advance(cursor, found, next);
             }
         }
     }
 }
 
-// Reports the acceptance of a file whose blocks are carried out, and clears the rest of the rooms for new names.
+// Reports the acceptance of a file whose blocks are carried out, and clears the rest of the buffers for new names.
 pub fn finish(
     totals: Totals,
     memory: &[u8],
@@ -116,7 +125,7 @@ pub fn finish(
     new_addresses: &mut [u16],
 ) -> Outcome
     requires { ⌜ (totals .named ≤ 32) × (totals .placed ≤ 65536) × (totals .adjusted ≤ 65536) × (length (now memory) ≡ 65536) × (length (now map) ≡ 65536) × (length (now «new_names») ≡ 256) × (length (now «new_addresses») ≡ 32) ⌝ }
-    ensures { λ r. ⌜ Reported totals (rooms (now (memory .entry)) (now (map .entry)) (now («new_names» .entry)) (now («new_addresses» .entry))) r (now («new_names» .exit)) (now («new_addresses» .exit)) ⌝ }
+    ensures { λ r. ⌜ Reported totals (buffers (now (memory .entry)) (now (map .entry)) (now («new_names» .entry)) (now («new_addresses» .entry))) r (now («new_names» .exit)) (now («new_addresses» .exit)) ⌝ }
 {
     let named = totals.named;
     let size = names::NAME * named;

@@ -8,7 +8,7 @@ use Rattle.events.specs.Sizes.{memorySize}
 use Rattle.fields.specs.Fields.{widthOf}
 use Rattle.fields.specs.declared.Field.{Field}
 use Rattle.fields.specs.declared.Fixup.{Fixup}
-use Rattle.fields.specs.declared.Fixup.the-variants.{Low, Page, Word, High}
+use Rattle.fields.specs.declared.Fixup.the-variants.{LowByte, ZeroPageByte, Word, HighByte}
 use Rattle.records.specs.declared.Kind.{Kind}
 use Rattle.records.specs.declared.Kind.the-variants.{Main, ZeroPage, Absolute}
 use Rattle.words.specs.Numbers.{change}
@@ -51,10 +51,10 @@ width f = widthOf (f .fixup)
 
 -- the amount by the kind of fixup, where the field's LSB is given
 abbrev pub amountBy : Bases → ℕ → Fixup → ℕ
-amountBy b lsb Low = b .main
-amountBy b lsb Page = b .zero
+amountBy b lsb LowByte = b .main
+amountBy b lsb ZeroPageByte = b .zero
 amountBy b lsb Word = b .main
-amountBy b lsb High = (lsb + b .main) / 256
+amountBy b lsb HighByte = (lsb + b .main) / 256
 
 -- "The amount of a field is main base for 02, 03, 06 and 07, zero-page base for 04 and 05, floor((LSB + main base) / 256) for 08 and 09"
 unfoldable pub amountOf : Bases → Field → ℕ

@@ -73,10 +73,10 @@ pub fn amount(bases: Bases, field: Field) -> u16
 {
     let fixup = field.fixup;
     match fixup {
-        Fixup::Low => bases.main,
-        Fixup::Page => bases.zero,
+        Fixup::LowByte => bases.main,
+        Fixup::ZeroPageByte => bases.zero,
         Fixup::Word => bases.main,
-        Fixup::High => ((field.lsb + bases.main as usize) / 256) as u16,
+        Fixup::HighByte => ((field.lsb + bases.main as usize) / 256) as u16,
     }
 }
 

@@ -12,7 +12,7 @@ use Rattle.words.specs.Numbers.{value}
 use Rattle.records.specs.declared.Entry.{Entry}
 use Rattle.records.specs.declared.Entry.the-variants.{Nowhere, Fixed, Relative}
 use Rattle.fields.specs.declared.Fixup.{Fixup}
-use Rattle.fields.specs.declared.Fixup.the-variants.{Low, Page, Word, High}
+use Rattle.fields.specs.declared.Fixup.the-variants.{LowByte, ZeroPageByte, Word, HighByte}
 use Rattle.records.specs.declared.Kind.{Kind}
 use Rattle.records.specs.declared.Kind.the-variants.{Main, ZeroPage, Absolute}
 use Rattle.records.specs.declared.Last.{Last}
@@ -32,14 +32,14 @@ abbrev pub types : List RecordType
 types =
     code Main
     ∷ code Absolute
-    ∷ fixups Main Low
-    ∷ fixups ZeroPage Low
-    ∷ fixups Main Page
-    ∷ fixups ZeroPage Page
+    ∷ fixups Main LowByte
+    ∷ fixups ZeroPage LowByte
+    ∷ fixups Main ZeroPageByte
+    ∷ fixups ZeroPage ZeroPageByte
     ∷ fixups Main Word
     ∷ fixups ZeroPage Word
-    ∷ fixups Main High
-    ∷ fixups ZeroPage High
+    ∷ fixups Main HighByte
+    ∷ fixups ZeroPage HighByte
     ∷ code ZeroPage
     ∷ end
     ∷ []
@@ -67,10 +67,10 @@ suits Absolute last = false
 
 -- "Length 1 to 253; for 08 and 09 even, 0 to 254 (9)"
 abbrev pub lengthAllowed : Fixup → ℕ → Bool
-lengthAllowed Low n = leb 1 n && leb n 253
-lengthAllowed Page n = leb 1 n && leb n 253
+lengthAllowed LowByte n = leb 1 n && leb n 253
+lengthAllowed ZeroPageByte n = leb 1 n && leb n 253
 lengthAllowed Word n = leb 1 n && leb n 253
-lengthAllowed High n = eqb (n % 2) 0 && leb n 254
+lengthAllowed HighByte n = eqb (n % 2) 0 && leb n 254
 
 -- "Length .. (9). Bytes present (5)."
 unfoldable pub readItems : List ℕ → ℕ → Fixup → Record

@@ -59,14 +59,14 @@ pub fn read(file: &[u8], at: usize, last: Last) -> Record
     match record_type {
         0 => read_code(file, at, Kind::Main),
         1 => read_code(file, at, Kind::Absolute),
-        2 => read_fixups(file, at, last, Kind::Main, Fixup::Low),
-        3 => read_fixups(file, at, last, Kind::ZeroPage, Fixup::Low),
-        4 => read_fixups(file, at, last, Kind::Main, Fixup::Page),
-        5 => read_fixups(file, at, last, Kind::ZeroPage, Fixup::Page),
+        2 => read_fixups(file, at, last, Kind::Main, Fixup::LowByte),
+        3 => read_fixups(file, at, last, Kind::ZeroPage, Fixup::LowByte),
+        4 => read_fixups(file, at, last, Kind::Main, Fixup::ZeroPageByte),
+        5 => read_fixups(file, at, last, Kind::ZeroPage, Fixup::ZeroPageByte),
         6 => read_fixups(file, at, last, Kind::Main, Fixup::Word),
         7 => read_fixups(file, at, last, Kind::ZeroPage, Fixup::Word),
-        8 => read_fixups(file, at, last, Kind::Main, Fixup::High),
-        9 => read_fixups(file, at, last, Kind::ZeroPage, Fixup::High),
+        8 => read_fixups(file, at, last, Kind::Main, Fixup::HighByte),
+        9 => read_fixups(file, at, last, Kind::ZeroPage, Fixup::HighByte),
         10 => read_code(file, at, Kind::ZeroPage),
         11 => read_end(file, at),
         _ => Record::Faulty(Fault::NotKnown),
@@ -158,9 +158,9 @@ fn length_allowed(fixup: Fixup, length: usize) -> bool
     ensures { λ r. ⌜ r ≡ lengthAllowed fixup length ⌝ }
 {
     match fixup {
-        Fixup::High => length % 2 == 0 && length <= 254,
-        Fixup::Low => 1 <= length && length <= 253,
-        Fixup::Page => 1 <= length && length <= 253,
+        Fixup::HighByte => length % 2 == 0 && length <= 254,
+        Fixup::LowByte => 1 <= length && length <= 253,
+        Fixup::ZeroPageByte => 1 <= length && length <= 253,
         Fixup::Word => 1 <= length && length <= 253,
     }
 }

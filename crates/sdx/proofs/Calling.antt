@@ -25,21 +25,21 @@ use Rattle.words.proofs.Runs.{front-holds}
 use Rattle.words.specs.Runs.{part, put}
 use Rattle.words.specs.Numbers.{value}
 use Rattle.events.specs.declared.Check.{Check}
-use Rattle.deeds.proofs.Ending.{Behind, behind-first, behind-on}
+use Rattle.effects.proofs.Ending.{Behind, behind-first, behind-on}
 use Rattle.passes.proofs.Going.{stopped-finished, totalsIn}
 use Rattle.passes.proofs.Turning.{refused-finished, led-ends, blocks-hold}
-use Rattle.passes.specs.Parts.{walked, progressOf, Went, Checked, Reported}
-use Rattle.passes.specs.Rooms.{startIn, filledUp, Rooms, rooms}
-use Rattle.passes.specs.Walk.{Given, given, Progress, Verdict, finished, refused, turn, blocksOf, begun}
+use Rattle.passes.specs.Parts.{walkEnd, progressOf, Walked, Checked, Reported}
+use Rattle.passes.specs.Buffers.{startIn, filledUp, Buffers, buffers}
+use Rattle.passes.specs.Walk.{Inputs, inputs, Progress, Verdict, finished, refused, turn, blocksOf, begun}
 use Rattle.passes.specs.declared.Totals.{Totals}
-use Rattle.passes.specs.declared.Walked.{Walked}
-use Rattle.passes.specs.declared.Walked.the-variants.{Stopped, Finished}
+use Rattle.passes.specs.declared.WalkEnd.{WalkEnd}
+use Rattle.passes.specs.declared.WalkEnd.the-variants.{Stopped, Finished}
 use Rattle.sdx.specs.Call.{inRange, listed, sized, atOnce, opening, opened, judged, admitting, load, call, report, memoryAfter, mapAfter, namesAfter, addressesAfter, Loaded}
 
 -- ---- before the first block
 
 -- low above high
-pub range-not : (low high : ℕ) → high < low → false ≡ inRange (given [] [] low high)
+pub range-not : (low high : ℕ) → high < low → false ≡ inRange (inputs [] [] low high)
 range-not low high h = rw (lt-leb _ _ h) refl
 
 module _ (file : List ℕ) where
@@ -59,7 +59,7 @@ module _ (file : List ℕ) where
   opening-right word e h i = rw (le-leb _ _ h, ← e, le-leb _ _ i) refl
 
 -- the checks before the first block, in their order
-module _ (file : List ℕ) (g : Given) where
+module _ (file : List ℕ) (g : Inputs) where
   -- a setting outside its range: 2
   pub admit-range : inRange g ≡ false → Failed SettingOutOfRange ≡ admitting file g
   unfolding admitting need
@@ -77,18 +77,18 @@ module _ (file : List ℕ) (g : Given) where
 
 -- (they ask of the settings alone)
 pub admit-settings : (file names addresses : List ℕ) (low high : ℕ)
-    → admitting file (given [] [] low high) ≡ admitting file (given names addresses low high)
+    → admitting file (inputs [] [] low high) ≡ admitting file (inputs names addresses low high)
 unfolding admitting
 admit-settings file names addresses low high = refl
 
 -- where all have passed
-pub record Admitted (file : List ℕ) (g : Given) : Type 0 where
+pub record Admitted (file : List ℕ) (g : Inputs) : Type 0 where
   pub settings : inRange g ≡ true
   pub fits : length file ≤ 65536
   pub opens : opening file ≡ Passed
 
 -- a load that was admitted passed each
-pub admitted : (file : List ℕ) (g : Given) → admitting file g ≡ Passed → Admitted file g
+pub admitted : (file : List ℕ) (g : Inputs) → admitting file g ≡ Passed → Admitted file g
 unfolding admitting
 admitted file g e =
     let x = check-passed _ _ _ e in
@@ -96,13 +96,13 @@ admitted file g e =
     record { settings = x .0; fits = leb-true _ _ (y .0); opens = y .1 }
 
 -- settings in range
-pub range-bounds : (g : Given) → inRange g ≡ true → (g .low ≤ g .high) × (g .high ≤ 65535)
+pub range-bounds : (g : Inputs) → inRange g ≡ true → (g .low ≤ g .high) × (g .high ≤ 65535)
 range-bounds g e = let x = and-true (leb (g .low) (g .high)) (leb (g .high) 65535) e in (leb-true _ _ (x .0), leb-true _ _ (x .1))
 
 -- ---- first checked, then carried out
 
 -- What a load does whose blocks come to o: it found b, and answers r and leaves b′.
-record Carried (o : Ran Verdict) (b : Rooms) (r : Outcome) (b′ : Rooms) : Type 0 where
+record Carried (o : Ran Verdict) (b : Buffers) (r : Outcome) (b′ : Buffers) : Type 0 where
   outcome : r ≡ report (b .memory) (o .answer) (o .events)
   memory : b′ .memory ≡ memoryAfter (o .answer) (o .events) (b .memory)
   map : b′ .map ≡ mapAfter (o .answer) (o .events)
@@ -110,23 +110,23 @@ record Carried (o : Ran Verdict) (b : Rooms) (r : Outcome) (b′ : Rooms) : Type
   addresses : b′ .addresses ≡ addressesAfter (o .answer) (b .addresses)
 
 -- what a stopped walk is reported as
-abbrev refusal : Walked → Outcome
+abbrev refusal : WalkEnd → Outcome
 refusal (Stopped fault offset) = Refused fault offset 0
 refusal (Finished t) = Accepted Absent 0 0 0 0
 
 accepted-same : {start t : Start} {a b i j k l n q : ℕ} → start ≡ t → a ≡ b → i ≡ j → k ≡ l → n ≡ q → Accepted start a i k n ≡ Accepted t b j l q
 accepted-same e f g h i = rw (e, f, g, h, i) refl
 
-module _ {o : Ran Verdict} {m p ns ads m₁ p₁ : List ℕ} {r₁ : Walked} (first : Checked o m r₁ m₁ p₁) where
+module _ {o : Ran Verdict} {m p ns ads m₁ p₁ : List ℕ} {r₁ : WalkEnd} (first : Checked o m r₁ m₁ p₁) where
   carried-refused : {fault : Fault} {offset : ℕ} → r₁ ≡ Stopped fault offset
-      → Carried o (rooms m p ns ads) (Refused fault offset 0) (rooms m₁ p₁ ns ads)
+      → Carried o (buffers m p ns ads) (Refused fault offset 0) (buffers m₁ p₁ ns ads)
   carried-refused {fault} {offset} e = by (o .answer) refl
     where
-      by : (v : Verdict) → o .answer ≡ v → Carried o (rooms m p ns ads) (Refused fault offset 0) (rooms m₁ p₁ ns ads)
-      by (finished z) f = absurd (stopped-finished (sym e ∙ first .answer ∙ ap (λ (v : Verdict). walked v (o .events)) f))
+      by : (v : Verdict) → o .answer ≡ v → Carried o (buffers m p ns ads) (Refused fault offset 0) (buffers m₁ p₁ ns ads)
+      by (finished z) f = absurd (stopped-finished (sym e ∙ first .answer ∙ ap (λ (v : Verdict). walkEnd v (o .events)) f))
       by (refused k z) f =
           record {
-            outcome = rw f (ap refusal (sym e ∙ first .answer ∙ ap (λ (v : Verdict). walked v (o .events)) f));
+            outcome = rw f (ap refusal (sym e ∙ first .answer ∙ ap (λ (v : Verdict). walkEnd v (o .events)) f));
             memory = rw f (first .memory);
             map = rw f (first .map);
             names = rw f refl;
@@ -134,16 +134,16 @@ module _ {o : Ran Verdict} {m p ns ads m₁ p₁ : List ℕ} {r₁ : Walked} (fi
           }
 
   -- the second walk does what the first one found, and the acceptance reports it
-  carried-accepted : {t : Totals} {m₂ p₂ ns₂ ads₂ ns₃ ads₃ : List ℕ} {r₂ : Walked} {r : Outcome} → r₁ ≡ Finished t → length ns ≡ 256
-      → length ads ≡ 32 → Went o true (rooms m₁ p₁ ns ads) r₂ (rooms m₂ p₂ ns₂ ads₂) → Reported t (rooms m₂ p₂ ns₂ ads₂) r ns₃ ads₃
-      → Carried o (rooms m p ns ads) r (rooms m₂ p₂ ns₃ ads₃)
+  carried-accepted : {t : Totals} {m₂ p₂ ns₂ ads₂ ns₃ ads₃ : List ℕ} {r₂ : WalkEnd} {r : Outcome} → r₁ ≡ Finished t → length ns ≡ 256
+      → length ads ≡ 32 → Walked o true (buffers m₁ p₁ ns ads) r₂ (buffers m₂ p₂ ns₂ ads₂) → Reported t (buffers m₂ p₂ ns₂ ads₂) r ns₃ ads₃
+      → Carried o (buffers m p ns ads) r (buffers m₂ p₂ ns₃ ads₃)
   carried-accepted {t} {m₂} {p₂} {ns₂} {ads₂} {ns₃} {ads₃} {r₂} {r} e room spots second told = by (o .answer) refl
     where
-      by : (v : Verdict) → o .answer ≡ v → Carried o (rooms m p ns ads) r (rooms m₂ p₂ ns₃ ads₃)
-      by (refused k z) f = absurd (stopped-finished (sym (ap (λ (v : Verdict). walked v (o .events)) f) ∙ sym (first .answer) ∙ e))
+      by : (v : Verdict) → o .answer ≡ v → Carried o (buffers m p ns ads) r (buffers m₂ p₂ ns₃ ads₃)
+      by (refused k z) f = absurd (stopped-finished (sym (ap (λ (v : Verdict). walkEnd v (o .events)) f) ∙ sym (first .answer) ∙ e))
       by (finished z) f =
-          let w : Finished t ≡ walked (finished z) (o .events) = sym e ∙ first .answer ∙ ap (λ (v : Verdict). walked v (o .events)) f in
-          let n : t .named ≡ length (z .addresses) = ap (λ (q : Walked). totalsIn q .named) w in
+          let w : Finished t ≡ walkEnd (finished z) (o .events) = sym e ∙ first .answer ∙ ap (λ (v : Verdict). walkEnd v (o .events)) f in
+          let n : t .named ≡ length (z .addresses) = ap (λ (q : WalkEnd). totalsIn q .named) w in
           let few : t .named ≤ 32 = first .bounded .counts t e .0 in
           let bytes : length (z .names) ≡ 8 * t .named =
           ap (λ (v : Verdict). length (progressOf v .names)) (sym f) ∙ second .eights
@@ -160,8 +160,8 @@ module _ {o : Ran Verdict} {m p ns ads m₁ p₁ : List ℕ} {r₁ : Walked} (fi
             outcome = rw f
                 (told .outcome
                 ∙ accepted-same (ap (λ (q : List ℕ). startIn q m₂) map ∙ ap (λ (l : List ℕ). startIn (marks (o .events) blank) l) memory)
-                (ap (λ (q : Walked). totalsIn q .placed) w) (ap (λ (q : Walked). totalsIn q .adjusted) w) n
-                (ap (λ (q : Walked). totalsIn q .low) w));
+                (ap (λ (q : WalkEnd). totalsIn q .placed) w) (ap (λ (q : WalkEnd). totalsIn q .adjusted) w) n
+                (ap (λ (q : WalkEnd). totalsIn q .low) w));
             memory = rw f memory;
             map = rw f map;
             names = rw f (told .names ∙ ap (λ (l : List ℕ). filledUp 256 l) names);
@@ -169,7 +169,7 @@ module _ {o : Ran Verdict} {m p ns ads m₁ p₁ : List ℕ} {r₁ : Walked} (fi
           }
 
 -- what every turn keeps holds of every file that is accepted
-module _ (file : List ℕ) (g : Given) (top : g .high ≤ 65535) (P : Progress → List Event → Type 0) (first : P (begun g) [])
+module _ (file : List ℕ) (g : Inputs) (top : g .high ≤ 65535) (P : Progress → List Event → Type 0) (first : P (begun g) [])
     (keeps : (y z : Progress) (es : List Event) → P y es → turn file g y (marks es blank) .answer ≡ leads z
     → P z (es ++ turn file g y (marks es blank) .events)) where
   pub judged-holds : (z : Progress) → judged file g .answer ≡ finished z → P z (judged file g .events)
@@ -186,7 +186,7 @@ module _ (file : List ℕ) (g : Given) (top : g .high ≤ 65535) (P : Progress �
 pub record Few (n : ℕ) (o : Ran Verdict) : Type 0 where
   pub counts : (z : Progress) → o .answer ≡ finished z → placedIn (o .events) + adjustedIn (o .events) ≤ n
 
-blocks-few : (file : List ℕ) (g : Given) → g .high ≤ 65535 → Few (length file) (blocksOf file g)
+blocks-few : (file : List ℕ) (g : Inputs) → g .high ≤ 65535 → Few (length file) (blocksOf file g)
 blocks-few file g top =
     let h = blocks-hold file g top (λ y es. Behind (length file) (y .cursor) es) (behind-first (length file) (g .low)) keeps in
     record { counts = λ z e. omega (arith, h z e .counts, h z e .inside) }
@@ -195,10 +195,10 @@ blocks-few file g top =
         → Behind (length file) (z .cursor) (es ++ turn file g y (marks es blank) .events)
     keeps y z es h e = behind-on (length file) (y .cursor) (z .cursor) es _ (led-ends file g top y z (marks es blank) e) h
 
-few-at-once : (n : ℕ) (g : Given) (fault : Fault) → Few n (atOnce g fault)
+few-at-once : (n : ℕ) (g : Inputs) (fault : Fault) → Few n (atOnce g fault)
 few-at-once n g fault = record { counts = λ z e. absurd (refused-finished e) }
 
-load-few : (file : List ℕ) (g : Given) → Few (length file) (load file g)
+load-few : (file : List ℕ) (g : Inputs) → Few (length file) (load file g)
 unfolding load
 load-few file g = by (admitting file g) refl
   where
@@ -216,14 +216,14 @@ reported-few n m o h = by (o .answer) refl
     by (finished z) e = let k = h .counts z e in (omega (arith, k), omega (arith, k))
     by (refused fault z) e = (omega arith, omega arith)
 
-at-once-carried : (file : List ℕ) (g : Given) {m p ns ads p′ : List ℕ} {fault : Fault} {r : Outcome} → admitting file g ≡ Failed fault
-    → r ≡ Refused fault 0 0 → p′ ≡ blank → Carried (load file g) (rooms m p ns ads) r (rooms m p′ ns ads)
+at-once-carried : (file : List ℕ) (g : Inputs) {m p ns ads p′ : List ℕ} {fault : Fault} {r : Outcome} → admitting file g ≡ Failed fault
+    → r ≡ Refused fault 0 0 → p′ ≡ blank → Carried (load file g) (buffers m p ns ads) r (buffers m p′ ns ads)
 unfolding load
 at-once-carried file g e f clear = rw e (record { outcome = f; memory = refl; map = clear; names = refl; addresses = refl })
 
-module _ (file : List ℕ) (g : Given) where
+module _ (file : List ℕ) (g : Inputs) where
   -- some length is wrong: 1, and nothing is changed
-  pub loaded-wrong : (right : Bool) (b : Rooms) (r : Outcome) → right ≡ false → r ≡ Refused WrongBuffer 0 0 → Loaded file g right b r b
+  pub loaded-wrong : (right : Bool) (b : Buffers) (r : Outcome) → right ≡ false → r ≡ Refused WrongBuffer 0 0 → Loaded file g right b r b
   unfolding call need pick
   loaded-wrong right b r h e =
       record {
@@ -237,7 +237,7 @@ module _ (file : List ℕ) (g : Given) where
       }
 
   -- a load with the right buffers
-  loaded-right : (b : Rooms) (r : Outcome) (b′ : Rooms) → Carried (load file g) b r b′ → Loaded file g true b r b′
+  loaded-right : (b : Buffers) (r : Outcome) (b′ : Buffers) → Carried (load file g) b r b′ → Loaded file g true b r b′
   unfolding call need pick
   loaded-right b r b′ d =
       let few = reported-few (length file) (b .memory) (load file g) (load-few file g) in
@@ -252,8 +252,8 @@ module _ (file : List ℕ) (g : Given) where
       }
 
   -- (it clears the map before anything else, so what the map held does not matter)
-  pub loaded-sized : {right : Bool} {m p p₀ ns ads : List ℕ} {r : Outcome} {b′ : Rooms} → right ≡ true → Loaded file g true (rooms m p₀ ns ads) r b′
-      → Loaded file g right (rooms m p ns ads) r b′
+  pub loaded-sized : {right : Bool} {m p p₀ ns ads : List ℕ} {r : Outcome} {b′ : Buffers} → right ≡ true → Loaded file g true (buffers m p₀ ns ads) r b′
+      → Loaded file g right (buffers m p ns ads) r b′
   unfolding pick
   loaded-sized e d =
       rw e
@@ -269,9 +269,9 @@ module _ (file : List ℕ) (g : Given) where
 
   -- refused before the first block
   pub loaded-at-once : {right : Bool} {m p ns ads p′ : List ℕ} {fault : Fault} {r : Outcome} → right ≡ true → admitting file g ≡ Failed fault
-      → r ≡ Refused fault 0 0 → p′ ≡ blank → Loaded file g right (rooms m p ns ads) r (rooms m p′ ns ads)
+      → r ≡ Refused fault 0 0 → p′ ≡ blank → Loaded file g right (buffers m p ns ads) r (buffers m p′ ns ads)
   loaded-at-once {m = m} {p = p} {ns = ns} {ads = ads} {p′ = p′} {r = r} h e f clear =
-      loaded-sized h (loaded-right (rooms m p ns ads) r (rooms m p′ ns ads) (at-once-carried file g e f clear))
+      loaded-sized h (loaded-right (buffers m p ns ads) r (buffers m p′ ns ads) (at-once-carried file g e f clear))
 
   -- the blocks decide
   module _ (entered : admitting file g ≡ Passed) where
@@ -280,19 +280,19 @@ module _ (file : List ℕ) (g : Given) where
     load-blocks = rw entered refl
 
     -- where the first walk stopped, the load is refused there
-    pub blocks-refused : {m p ns ads m₁ p₁ : List ℕ} {r₁ : Walked} → Checked (blocksOf file g) m r₁ m₁ p₁ → {fault : Fault} {offset : ℕ}
-        → r₁ ≡ Stopped fault offset → Loaded file g true (rooms m p ns ads) (Refused fault offset 0) (rooms m₁ p₁ ns ads)
+    pub blocks-refused : {m p ns ads m₁ p₁ : List ℕ} {r₁ : WalkEnd} → Checked (blocksOf file g) m r₁ m₁ p₁ → {fault : Fault} {offset : ℕ}
+        → r₁ ≡ Stopped fault offset → Loaded file g true (buffers m p ns ads) (Refused fault offset 0) (buffers m₁ p₁ ns ads)
     blocks-refused first e = loaded-right _ _ _ (rw load-blocks (carried-refused first e))
 
     -- where it finished, the second walk carries the file out
-    pub blocks-accepted : {m p ns ads m₁ p₁ : List ℕ} {r₁ : Walked} → Checked (blocksOf file g) m r₁ m₁ p₁
-        → {t : Totals} {m₂ p₂ ns₂ ads₂ ns₃ ads₃ : List ℕ} {r₂ : Walked} {r : Outcome} → r₁ ≡ Finished t → length ns ≡ 256 → length ads ≡ 32
-        → Went (blocksOf file g) true (rooms m₁ p₁ ns ads) r₂ (rooms m₂ p₂ ns₂ ads₂) → Reported t (rooms m₂ p₂ ns₂ ads₂) r ns₃ ads₃
-        → Loaded file g true (rooms m p ns ads) r (rooms m₂ p₂ ns₃ ads₃)
+    pub blocks-accepted : {m p ns ads m₁ p₁ : List ℕ} {r₁ : WalkEnd} → Checked (blocksOf file g) m r₁ m₁ p₁
+        → {t : Totals} {m₂ p₂ ns₂ ads₂ ns₃ ads₃ : List ℕ} {r₂ : WalkEnd} {r : Outcome} → r₁ ≡ Finished t → length ns ≡ 256 → length ads ≡ 32
+        → Walked (blocksOf file g) true (buffers m₁ p₁ ns ads) r₂ (buffers m₂ p₂ ns₂ ads₂) → Reported t (buffers m₂ p₂ ns₂ ads₂) r ns₃ ads₃
+        → Loaded file g true (buffers m p ns ads) r (buffers m₂ p₂ ns₃ ads₃)
     blocks-accepted first e room spots second told = loaded-right _ _ _ (rw load-blocks (carried-accepted first e room spots second told))
 
 -- all that is lent has its length
-pub record Sizes (g : Given) (b : Rooms) : Type 0 where
+pub record Sizes (g : Inputs) (b : Buffers) : Type 0 where
   pub memory : length (b .memory) ≡ 65536
   pub map : length (b .map) ≡ 65536
   pub names : length (b .names) ≡ 256
@@ -300,7 +300,7 @@ pub record Sizes (g : Given) (b : Rooms) : Type 0 where
   pub known : length (g .names) ≡ 8 * length (g .addresses)
 
 -- so it is where the test of the lengths holds
-pub right-sizes : (g : Given) (b : Rooms) → sized g b ≡ true → Sizes g b
+pub right-sizes : (g : Inputs) (b : Buffers) → sized g b ≡ true → Sizes g b
 right-sizes g b e =
     let h = and-true (eqb (length (b .memory)) 65536) _ e in
     let i = and-true (eqb (length (b .map)) 65536) _ (h .1) in

@@ -23,25 +23,25 @@ use Rattle.events.specs.declared.Check.{Check}
 use Rattle.events.specs.declared.Check.the-variants.{Passed, Failed}
 use Rattle.words.specs.Runs.{Bytes}
 use Rattle.passes.proofs.Turning.{refused-finished}
-use Rattle.passes.specs.Rooms.{namesRoom, addressesRoom, startIn, filledUp, Rooms}
-use Rattle.passes.specs.Walk.{Given, Progress, Verdict, finished, refused, blocksOf}
+use Rattle.passes.specs.Buffers.{namesRoom, addressesRoom, startIn, filledUp, Buffers}
+use Rattle.passes.specs.Walk.{Inputs, Progress, Verdict, finished, refused, blocksOf}
 use Rattle.sdx.proofs.Calling.{admitted, range-bounds, right-sizes}
-use Rattle.sdx.proofs.Keeping.{Keeps, judged-keeps, judged-came}
+use Rattle.sdx.proofs.Keeping.{Keeps, judged-keeps, judged-trace}
 use Rattle.sdx.proofs.Lawful.{Lawful, marks-untouched, marks-last, play-others, put-held, play-fields}
 use Rattle.sdx.specs.Call.{atOnce, opened, admitting, load, call, report, memoryAfter, mapAfter, namesAfter, addressesAfter, sized, Loaded, judged}
-use Rattle.sdx.specs.Demand2.{Among, Came, Demand2, Asked, AcceptedCall, Claim}
+use Rattle.sdx.specs.Demand2.{Among, Trace, Demand2, Asked, AcceptedCall, Claim}
 
 -- what the events of a file leave that kept to the rules
-kept-demand2 : (file : List ℕ) (g : Given) (z : Progress) (es : List Event) (m : List ℕ) → Came file g z es → Keeps file g z es
+kept-demand2 : (file : List ℕ) (g : Inputs) (z : Progress) (es : List Event) (m : List ℕ) → Trace file g z es → Keeps file g z es
     → length m ≡ 65536
     → Demand2 file g z es m (play es m) (marks es blank) (placedIn es) (adjustedIn es)
 kept-demand2 file g z es m c k n =
     let split : (before : List Event) (e : Event) (after : List Event) → Among es before e after → Lawful blank (before ++ (e ∷ after)) =
     λ before e after h. rw (h .order) at (k .lawful) in
     record {
-      came = c;
-      deeds = k .deeds;
-      by-rule = each-map (λ d h. h .by-rule) (z .deeds) (k .ruled);
+      trace = c;
+      effects = k .effects;
+      by-rule = each-map (λ d h. h .by-rule) (z .effects) (k .ruled);
       names = k .names;
       addresses = k .addresses;
       loaded = λ x byte h. put-held es blank m x byte n (k .lawful) h;
@@ -57,16 +57,16 @@ kept-demand2 file g z es m c k n =
     }
 
 -- Demand 2, of every accepted file, with all settings and in every memory
-pub demand2 : (file : List ℕ) (g : Given) (z : Progress) (m : List ℕ) → g .high ≤ 65535 → Bytes file → length m ≡ 65536
+pub demand2 : (file : List ℕ) (g : Inputs) (z : Progress) (m : List ℕ) → g .high ≤ 65535 → Bytes file → length m ≡ 65536
     → judged file g .answer ≡ finished z
     → Demand2 file g z (judged file g .events) m (play (judged file g .events) m) (marks (judged file g .events) blank)
     (placedIn (judged file g .events)) (adjustedIn (judged file g .events))
-demand2 file g z m top bytes n e = kept-demand2 file g z (judged file g .events) m (judged-came file g top bytes z e) (judged-keeps file g top bytes z e) n
+demand2 file g z m top bytes n e = kept-demand2 file g z (judged file g .events) m (judged-trace file g top bytes z e) (judged-keeps file g top bytes z e) n
 
 -- ---- of every call
 
 -- an acceptance is of a call as asked
-pub finished-asked : (file : List ℕ) (g : Given) (x : Bool) (b : Rooms) (z : Progress) → call file g (x && sized g b) .answer ≡ finished z
+pub finished-asked : (file : List ℕ) (g : Inputs) (x : Bool) (b : Buffers) (z : Progress) → call file g (x && sized g b) .answer ≡ finished z
     → Asked file g x b
 unfolding call load need
 finished-asked file g x b z e = by (x && sized g b) (admitting file g) refl refl e
@@ -82,22 +82,22 @@ finished-asked file g x b z e = by (x && sized g b) (admitting file g) refl refl
     by false c h i f = absurd (refused-finished f)
 
 -- and comes to what the file comes to
-pub asked-judged : (file : List ℕ) (g : Given) (x : Bool) (b : Rooms) → Asked file g x b → call file g (x && sized g b) ≡ judged file g
+pub asked-judged : (file : List ℕ) (g : Inputs) (x : Bool) (b : Buffers) → Asked file g x b → call file g (x && sized g b) ≡ judged file g
 unfolding call load judged admitting need
 asked-judged file g x b a = rw (a .lengths, a .buffers, a .settings, le-leb _ _ (a .fits)) refl
 
 -- the lengths are right, memory's among them, and so are the settings
-pub asked-sized : {file : List ℕ} {g : Given} {x : Bool} {b : Rooms} → Asked file g x b → x && sized g b ≡ true
+pub asked-sized : {file : List ℕ} {g : Inputs} {x : Bool} {b : Buffers} → Asked file g x b → x && sized g b ≡ true
 asked-sized a = rw (a .lengths, a .buffers) refl
 
-pub asked-memory : (file : List ℕ) (g : Given) (x : Bool) (b : Rooms) → Asked file g x b → length (b .memory) ≡ 65536
+pub asked-memory : (file : List ℕ) (g : Inputs) (x : Bool) (b : Buffers) → Asked file g x b → length (b .memory) ≡ 65536
 asked-memory file g x b a = right-sizes g b (a .buffers) .memory
 
-pub asked-top : (file : List ℕ) (g : Given) (x : Bool) (b : Rooms) → Asked file g x b → g .high ≤ 65535
+pub asked-top : (file : List ℕ) (g : Inputs) (x : Bool) (b : Buffers) → Asked file g x b → g .high ≤ 65535
 asked-top file g x b a = range-bounds g (a .settings) .1
 
 -- What a call as asked answers and leaves, of a file that the rules accept.
-pub record Left (file : List ℕ) (g : Given) (z : Progress) (b : Rooms) (r : Outcome) (b′ : Rooms) : Type 0 where
+pub record Left (file : List ℕ) (g : Inputs) (z : Progress) (b : Buffers) (r : Outcome) (b′ : Buffers) : Type 0 where
   pub outcome : r ≡ report (b .memory) (finished z) (judged file g .events)
   pub memory : b′ .memory ≡ play (judged file g .events) (b .memory)
   pub map : b′ .map ≡ marks (judged file g .events) blank
@@ -105,7 +105,7 @@ pub record Left (file : List ℕ) (g : Given) (z : Progress) (b : Rooms) (r : Ou
   pub addresses : b′ .addresses ≡ filledUp addressesRoom (z .addresses)
 
 -- such a call leaves what its events make
-pub call-leaves : (file : List ℕ) (g : Given) (x : Bool) (b b′ : Rooms) (r : Outcome) → Loaded file g (x && sized g b) b r b′ → Asked file g x b → (z : Progress)
+pub call-leaves : (file : List ℕ) (g : Inputs) (x : Bool) (b b′ : Buffers) (r : Outcome) → Loaded file g (x && sized g b) b r b′ → Asked file g x b → (z : Progress)
     → judged file g .answer ≡ finished z
     → Left file g z b r b′
 unfolding pick
@@ -142,7 +142,7 @@ reported-finished m (finished z) es e = (z, refl)
 reported-finished m (refused fault z) es e = absurd (false≢true (sym e))
 
 -- a call as asked of a file that the rules accept
-accepted-call : (file : List ℕ) (g : Given) (x : Bool) (b b′ : Rooms) (r : Outcome) (z : Progress) → Loaded file g (x && sized g b) b r b′ → Bytes file → Asked file g x b
+accepted-call : (file : List ℕ) (g : Inputs) (x : Bool) (b b′ : Buffers) (r : Outcome) (z : Progress) → Loaded file g (x && sized g b) b r b′ → Bytes file → Asked file g x b
     → judged file g .answer ≡ finished z
     → (start : Start) (placed adjusted named low : ℕ)
     → r ≡ Accepted start placed adjusted named low
@@ -165,7 +165,7 @@ accepted-call file g x b b′ r z d bytes a f start placed adjusted named low e 
     }
 
 -- an accepted call
-call-accepted : (file : List ℕ) (g : Given) (x : Bool) (b b′ : Rooms) (r : Outcome) → Loaded file g (x && sized g b) b r b′ → Bytes file → (start : Start)
+call-accepted : (file : List ℕ) (g : Inputs) (x : Bool) (b b′ : Buffers) (r : Outcome) → Loaded file g (x && sized g b) b r b′ → Bytes file → (start : Start)
     (placed adjusted named low : ℕ)
     → r ≡ Accepted start placed adjusted named low
     → AcceptedCall file g x b b′ start placed adjusted named low
@@ -177,7 +177,7 @@ call-accepted file g x b b′ r d bytes start placed adjusted named low e =
     accepted-call file g x b b′ r (y .0) d bytes a f start placed adjusted named low e
 
 -- a call as asked accepts every file that the rules accept
-call-accepts : (file : List ℕ) (g : Given) (x : Bool) (b b′ : Rooms) (r : Outcome) → Loaded file g (x && sized g b) b r b′ → Asked file g x b → (z : Progress)
+call-accepts : (file : List ℕ) (g : Inputs) (x : Bool) (b b′ : Buffers) (r : Outcome) → Loaded file g (x && sized g b) b r b′ → Asked file g x b → (z : Progress)
     → judged file g .answer ≡ finished z
     → r ≡ Accepted (startIn (b′ .map) (b′ .memory)) (placedIn (judged file g .events)) (adjustedIn (judged file g .events)) (length (z .addresses))
     (z .cursor .low)

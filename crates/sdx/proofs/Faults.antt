@@ -8,12 +8,12 @@ use Rattle.blocks.specs.Blocks.{readPlain, readRoom, readRelocatable, readUpdat
 use Rattle.blocks.specs.declared.Block.{Block}
 use Rattle.blocks.specs.declared.Block.the-variants.{Plain, Relocatable, Update, NewName, Faulty}
 use Rattle.blocks.specs.declared.Cursor.{Cursor}
-use Rattle.deeds.specs.Deeds.{carried}
+use Rattle.effects.specs.Effects.{carried}
 use Rattle.events.proofs.Faults.{wrongCheck, wrongRan, wrongTurn, late-ran, late-answer, late-runs}
 use Rattle.events.specs.Events.{Event, Ran}
 use Rattle.events.specs.declared.Check.{Check}
 use Rattle.events.specs.declared.Check.the-variants.{Passed, Failed}
-use Rattle.items.specs.Items.{setting, aiming, read as read-item}
+use Rattle.items.specs.Items.{setting, settingToBlock, read as read-item}
 use Rattle.items.specs.declared.Counter.{Counter}
 use Rattle.items.specs.declared.Counter.the-variants.{Unset, Set}
 use Rattle.items.specs.declared.Item.{Item}
@@ -21,7 +21,7 @@ use Rattle.items.specs.declared.Item.the-variants.{Faulty as FaultyItem, End, M
 use Rattle.items.specs.declared.Slot.{Slot}
 use Rattle.names.specs.declared.Definition.{Definition}
 use Rattle.names.specs.declared.Definition.the-variants.{Missing, Own, Lent}
-use Rattle.passes.specs.Walk.{Given, Progress, Verdict, finished, refused, judge as judge-block, blockAt, carriedAt, turn as turn-block, blocksFrom, blocksOf}
+use Rattle.passes.specs.Walk.{Inputs, Progress, Verdict, finished, refused, judge as judge-block, blockAt, carriedAt, turn as turn-block, blocksFrom, blocksOf}
 use Rattle.updates.specs.Bodies.{adjusting, applied, BodyState, Stop, broken, done, judge, turn, items, body}
 use Rattle.sdx.specs.Call.{opening, opened, admitting, load, report}
 
@@ -52,7 +52,7 @@ wrongVerdict (refused fault z) = isWrong fault
 
 -- an item, read
 item-late : (file : List ℕ) (table : List Slot) (at : ℕ) (counter : Counter) → Late wrongItem (read-item file table at counter)
-unfolding read-item setting aiming
+unfolding read-item setting settingToBlock
 item-late file table at Unset = search late-runs depth 10
 item-late file table at (Set counter) = search late-runs depth 10
 
@@ -107,7 +107,7 @@ carried-late file lent own c (Update source from) map h = body-late file (c .tab
 carried-late file lent own c (NewName from address) map h = search late-runs
 carried-late file lent own c (Faulty fault) map h = search late-runs
 
-carried-at-late : (file : List ℕ) (g : Given) (z : Progress) (map : List ℕ) → Late (wrongRan wrongStop) (carriedAt file g z map)
+carried-at-late : (file : List ℕ) (g : Inputs) (z : Progress) (map : List ℕ) → Late (wrongRan wrongStop) (carriedAt file g z map)
 unfolding carriedAt
 carried-at-late file g z map = carried-late file _ _ (z .cursor) _ map (block-late file (g .high) (g .names) (z .names) (z .cursor))
 
@@ -120,21 +120,21 @@ judge-block-late file z b es (broken fault) h = search late-runs
 judge-block-late file z b es (done next) h = search late-runs
 
 -- so every turn of a file, and all its blocks
-turn-block-late : (file : List ℕ) (g : Given) (z : Progress) (map : List ℕ) → Late (wrongRan (wrongTurn wrongVerdict)) (turn-block file g z map)
+turn-block-late : (file : List ℕ) (g : Inputs) (z : Progress) (map : List ℕ) → Late (wrongRan (wrongTurn wrongVerdict)) (turn-block file g z map)
 unfolding turn-block
 turn-block-late file g z map = search (late-runs, judge-block-late file z (blockAt file g z), carried-at-late)
 
-blocks-late : (file : List ℕ) (g : Given) → Late (wrongRan wrongVerdict) (blocksOf file g)
+blocks-late : (file : List ℕ) (g : Inputs) → Late (wrongRan wrongVerdict) (blocksOf file g)
 unfolding blocksFrom
 blocks-late file g = search (late-runs, turn-block-late)
 
 -- the checks before the first block, and then the blocks
-opened-late : (g : Given) (c : Check) (rest : Ran Verdict) → Late wrongCheck c → Late (wrongRan wrongVerdict) rest
+opened-late : (g : Inputs) (c : Check) (rest : Ran Verdict) → Late wrongCheck c → Late (wrongRan wrongVerdict) rest
     → Late (wrongRan wrongVerdict) (opened g c rest)
 opened-late g Passed rest h i = i
 opened-late g (Failed fault) rest h i = search late-runs
 
-loads-late : (file : List ℕ) (g : Given) → Late (wrongRan wrongVerdict) (load file g)
+loads-late : (file : List ℕ) (g : Inputs) → Late (wrongRan wrongVerdict) (load file g)
 unfolding load admitting opening
 loads-late file g = search (late-runs, opened-late, blocks-late) depth 6
 
@@ -144,5 +144,5 @@ report-late memory (finished z) es h = search late-runs
 report-late memory (refused fault z) es h = search late-runs
 
 -- no load with the right buffers is refused with 1
-pub load-late : (file : List ℕ) (g : Given) (memory : List ℕ) → Late wrongOutcome (report memory (load file g .answer) (load file g .events))
+pub load-late : (file : List ℕ) (g : Inputs) (memory : List ℕ) → Late wrongOutcome (report memory (load file g .answer) (load file g .events))
 load-late file g memory = search (late-runs, report-late memory (load file g .answer) (load file g .events), loads-late)

@@ -15,9 +15,9 @@ use Rattle.blocks.specs.declared.Block.the-variants.{Plain, Relocatable, Update
 use Rattle.blocks.specs.declared.Cursor.{Cursor}
 use Rattle.blocks.specs.declared.Source.{Source}
 use Rattle.blocks.specs.declared.Source.the-variants.{Number, LentName, OwnName}
-use Rattle.deeds.proofs.Ending.{carried-ends, advanced-at, Behind, behind-first, behind-on}
-use Rattle.deeds.proofs.Rooms.{Counted, counted-first, counted-on, Tabled, tabled-first, tabled-on}
-use Rattle.deeds.specs.Deeds.{carried, advanced, nameIn, addressIn}
+use Rattle.effects.proofs.Ending.{carried-ends, advanced-at, Behind, behind-first, behind-on}
+use Rattle.effects.proofs.NewNames.{Counted, counted-first, counted-on, Tabled, tabled-first, tabled-on}
+use Rattle.effects.specs.Effects.{carried, advanced, nameIn, addressIn}
 use Rattle.events.proofs.Events.{length-marks, length-blank}
 use Rattle.events.proofs.Lists.{each-map}
 use Rattle.events.specs.Events.{Event, place, reserve, marks, blank, Ran}
@@ -26,7 +26,7 @@ use Rattle.events.specs.Walk.{leads}
 use Rattle.items.specs.Items.{emptySlot, slotAt}
 use Rattle.items.specs.declared.Slot.{Slot}
 use Rattle.passes.proofs.Turning.{turn-led, block-fits}
-use Rattle.passes.specs.Walk.{stepped, Given, Deed, Progress, finished, blockAt, carriedAt, turn, begun}
+use Rattle.passes.specs.Walk.{stepped, Inputs, Effect, Progress, finished, blockAt, carriedAt, turn, begun}
 use Rattle.updates.proofs.Bounds.{body-each}
 use Rattle.updates.proofs.Turning.{Adjusts, broken-done}
 use Rattle.updates.specs.Bodies.{Stop, done}
@@ -36,7 +36,7 @@ use Rattle.sdx.proofs.Calling.{judged-holds}
 use Rattle.sdx.proofs.Lawful.{Lawful, lawful-append}
 use Rattle.sdx.proofs.Passing.{Granted, read-granted, body-lawful}
 use Rattle.sdx.specs.Call.{judged}
-use Rattle.sdx.specs.Demand2.{AdjustsBy, ByRule, Came, at-start, after-block, eventsOf, namesOf, addressesOf}
+use Rattle.sdx.specs.Demand2.{AdjustsBy, ByRule, Trace, at-start, after-block, eventsOf, namesOf, addressesOf}
 
 -- ---- progress that only grows
 
@@ -83,7 +83,7 @@ module _ (y z : Progress) (grown : Grown y z) where
   amount-grown lent (OwnName i) from h = sym (grown .addresses i h)
 
   -- and a block's events are the rule's still
-  rule-grown : (file : List ℕ) (g : Given) (b : Block) (es : List Event) → Known y b → ByRule file g y b es → ByRule file g z b es
+  rule-grown : (file : List ℕ) (g : Inputs) (b : Block) (es : List Event) → Known y b → ByRule file g y b es → ByRule file g z b es
   rule-grown file g (Plain address from size) es k h = h
   rule-grown file g (Relocatable true number offset from size) es k h = h ∙ ap (λ (a : ℕ). reserve a size ∷ []) (slot-address number k)
   rule-grown file g (Relocatable false number offset from size) es k h =
@@ -137,7 +137,7 @@ adjusts-by : (amount : ℕ) (e : Event) → Adjusts amount e → AdjustsBy amoun
 adjusts-by amount e h = record { address = h .address; is = h .same }
 
 -- a block that fits and has passed, at some progress of which the lengths are right
-module _ (file : List ℕ) (g : Given) (y : Progress) (lent : ℕ) (tabled : Tabled (y .cursor))
+module _ (file : List ℕ) (g : Inputs) (y : Progress) (lent : ℕ) (tabled : Tabled (y .cursor))
     (counted : Counted (y .cursor) (y .names) (y .addresses)) where
   -- what it did
   abbrev did : Block → List ℕ → Ran Stop
@@ -196,13 +196,13 @@ carried-lawful file lent own c (Faulty fault) map n k l f p = tt
 
 -- ---- what every block keeps
 
--- a deed by the rules, and what its rule asks is known
-pub record Ruled (file : List ℕ) (g : Given) (z : Progress) (d : Deed) : Type 0 where
+-- an effect by the rules, and what its rule asks is known
+pub record Ruled (file : List ℕ) (g : Inputs) (z : Progress) (d : Effect) : Type 0 where
   known : Known z (d .block)
   pub by-rule : ByRule file g z (d .block) (d .events)
 
--- a deed by the rules stays one
-ruled-grown : (file : List ℕ) (g : Given) (y z : Progress) → Grown y z → (d : Deed) → Ruled file g y d → Ruled file g z d
+-- an effect by the rules stays one
+ruled-grown : (file : List ℕ) (g : Inputs) (y z : Progress) → Grown y z → (d : Effect) → Ruled file g y d → Ruled file g z d
 ruled-grown file g y z grown d h =
     record {
       known = known-grown y z grown (d .block) (h .known);
@@ -210,23 +210,23 @@ ruled-grown file g y z grown d h =
     }
 
 -- some progress, after the events es
-pub record Keeps (file : List ℕ) (g : Given) (z : Progress) (es : List Event) : Type 0 where
+pub record Keeps (file : List ℕ) (g : Inputs) (z : Progress) (es : List Event) : Type 0 where
   pub lawful : Lawful blank es
-  pub deeds : es ≡ eventsOf (z .deeds)
-  pub ruled : Each (Ruled file g z) (z .deeds)
-  pub names : z .names ≡ namesOf file (z .deeds)
-  pub addresses : z .addresses ≡ addressesOf (z .deeds)
+  pub effects : es ≡ eventsOf (z .effects)
+  pub ruled : Each (Ruled file g z) (z .effects)
+  pub names : z .names ≡ namesOf file (z .effects)
+  pub addresses : z .addresses ≡ addressesOf (z .effects)
   pub counted : Counted (z .cursor) (z .names) (z .addresses)
   pub tabled : Tabled (z .cursor)
   pub passed : Behind (length file) (z .cursor) es
 
 -- before the first block
-keeps-first : (file : List ℕ) (g : Given) → Keeps file g (begun g) []
+keeps-first : (file : List ℕ) (g : Inputs) → Keeps file g (begun g) []
 unfolding eventsOf namesOf addressesOf
 keeps-first file g =
     record {
       lawful = tt;
-      deeds = refl;
+      effects = refl;
       ruled = tt;
       names = refl;
       addresses = refl;
@@ -236,7 +236,7 @@ keeps-first file g =
     }
 
 -- a block that is carried out keeps it
-stepped-keeps : (file : List ℕ) (g : Given) (y : Progress) (b : Block) (es : List Event) (next : ℕ)
+stepped-keeps : (file : List ℕ) (g : Inputs) (y : Progress) (b : Block) (es : List Event) (next : ℕ)
     → Fits (length file) (y .cursor) (length (g .names) / 8) (length (y .names) / 8) b
     → Granted (y .cursor) b
     → carried file (g .addresses) (y .addresses) (y .cursor) b (marks es blank) .answer ≡ done next
@@ -253,13 +253,13 @@ stepped-keeps file g y b es next f p e h =
     let at = advanced-at file (g .addresses) (y .addresses) (y .cursor) b map next e in
     record {
       lawful = lawful-append blank es fs (h .lawful) (carried-lawful file (g .addresses) (y .addresses) (y .cursor) b map _ _ n f p);
-      deeds = ap (λ (gs : List Event). gs ++ fs) (h .deeds);
+      effects = ap (λ (gs : List Event). gs ++ fs) (h .effects);
       ruled = (
         record {
           known = stepped-known file g y _ (h .tabled) (h .counted) map next b f p;
           by-rule = stepped-rule file g y _ (h .tabled) (h .counted) map next b f p e;
         },
-        each-map (ruled-grown file g y z (stepped-grown file y b fs next p)) (y .deeds) (h .ruled),
+        each-map (ruled-grown file g y z (stepped-grown file y b fs next p)) (y .effects) (h .ruled),
       );
       names = ap (λ (l : List ℕ). l ++ nameIn file b) (h .names);
       addresses = ap (λ (l : List ℕ). l ++ addressIn b) (h .addresses);
@@ -270,7 +270,7 @@ stepped-keeps file g y b es next f p e h =
 
 -- ---- of every accepted file
 
-module _ (file : List ℕ) (g : Given) (top : g .high ≤ 65535) (bytes : Bytes file) where
+module _ (file : List ℕ) (g : Inputs) (top : g .high ≤ 65535) (bytes : Bytes file) where
   -- every turn that leads on keeps it
   keeps-on : (y z : Progress) (es : List Event) → Keeps file g y es → turn file g y (marks es blank) .answer ≡ leads z
       → Keeps file g z (es ++ turn file g y (marks es blank) .events)
@@ -285,11 +285,11 @@ module _ (file : List ℕ) (g : Given) (top : g .high ≤ 65535) (bytes : Bytes 
   judged-keeps = judged-holds file g top (Keeps file g) (keeps-first file g) keeps-on
 
   -- and it came there block by block
-  came-on : (y z : Progress) (es : List Event) → Came file g y es → turn file g y (marks es blank) .answer ≡ leads z
-      → Came file g z (es ++ turn file g y (marks es blank) .events)
-  came-on y z es h e =
+  trace-on : (y z : Progress) (es : List Event) → Trace file g y es → turn file g y (marks es blank) .answer ≡ leads z
+      → Trace file g z (es ++ turn file g y (marks es blank) .events)
+  trace-on y z es h e =
       let l = turn-led file g y (marks es blank) z e in
       rw (l .events) (after-block h (record { end = l .next; carried-out = l .done-at; leads-to = sym (l .leads-to) }))
 
-  pub judged-came : (z : Progress) → judged file g .answer ≡ finished z → Came file g z (judged file g .events)
-  judged-came = judged-holds file g top (Came file g) at-start came-on
+  pub judged-trace : (z : Progress) → judged file g .answer ≡ finished z → Trace file g z (judged file g .events)
+  judged-trace = judged-holds file g top (Trace file g) at-start trace-on

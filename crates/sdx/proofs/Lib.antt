@@ -7,4 +7,4 @@ pub mod Keeping
 pub mod Demand2
 pub mod Same
 pub mod Faults
-pub mod Benches
+pub mod Determinism

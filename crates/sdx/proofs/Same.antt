@@ -16,7 +16,7 @@ use Rattle.words.proofs.Numbers.{value-word}
 use Rattle.words.proofs.Runs.{put-inside}
 use Rattle.words.specs.Numbers.{digits, value, on, change}
 use Rattle.words.specs.Runs.{Within, put}
-use Rattle.passes.specs.Rooms.{startIn, startPlace}
+use Rattle.passes.specs.Buffers.{startIn, startPlace}
 use Rattle.sdx.proofs.Lawful.{Allowed, Lawful, lawful-before, lawful-after, touches?, mark-untouched, mark-touched, write-none, change-byte}
 use Rattle.sdx.specs.Demand2.{Places, Touches}
 

@@ -18,12 +18,12 @@ use Rattle.events.specs.Sizes.{memorySize, fileLimit}
 use Rattle.events.specs.declared.Check.{Check}
 use Rattle.events.specs.declared.Check.the-variants.{Passed, Failed}
 use Rattle.names.specs.Names.{nameSize}
-use Rattle.passes.specs.Rooms.{Rooms, namesRoom, addressesRoom, filledUp, startIn}
-use Rattle.passes.specs.Walk.{Given, given, Verdict, finished, refused, begun, blocksOf}
+use Rattle.passes.specs.Buffers.{Buffers, namesRoom, addressesRoom, filledUp, startIn}
+use Rattle.passes.specs.Walk.{Inputs, Verdict, finished, refused, begun, blocksOf}
 use Rattle.words.specs.Numbers.{value}
 
 -- "low and high, with low ≤ high ≤ 65,535"
-abbrev pub inRange : Given → Bool
+abbrev pub inRange : Inputs → Bool
 inRange g = leb (g .low) (g .high) && leb (g .high) 65535
 
 -- "at most 256"
@@ -31,18 +31,18 @@ abbrev pub mostKnown : ℕ
 mostKnown = 256
 
 -- "known names, eight bytes each, beside a list of as many 16-bit addresses, at most 256"
-abbrev pub listed : Given → Bool
+abbrev pub listed : Inputs → Bool
 listed g = leb (length (g .addresses)) mostKnown && eqb (length (g .names)) (nameSize * length (g .addresses))
 
 -- the lengths of all that is lent
-abbrev pub sized : Given → Rooms → Bool
+abbrev pub sized : Inputs → Buffers → Bool
 sized g b =
     eqb (length (b .memory)) memorySize
     && (eqb (length (b .map)) memorySize
     && (eqb (length (b .names)) namesRoom && (eqb (length (b .addresses)) addressesRoom && listed g)))
 
 -- a refusal before the first block: "0 for 1 to 4 and a cut opening"
-abbrev pub atOnce : Given → Fault → Ran Verdict
+abbrev pub atOnce : Inputs → Fault → Ran Verdict
 atOnce g fault = record { answer = refused fault (begun g); events = [] }
 
 -- "One leftover byte, or an empty file, is 5. The first word must be FFFA to FFFF, else 4."
@@ -50,27 +50,27 @@ unfoldable pub opening : List ℕ → Check
 opening file = need Failed (leb 2 (length file)) CutShort (need Failed (leb firstMarker (value 2 file 0)) WrongOpening Passed)
 
 -- where the checks before the first block have passed, the rest decides
-abbrev pub opened : Given → Check → Ran Verdict → Ran Verdict
+abbrev pub opened : Inputs → Check → Ran Verdict → Ran Verdict
 opened g Passed rest = rest
 opened g (Failed fault) rest = atOnce g fault
 
 -- the whole file
-unfoldable pub judged : List ℕ → Given → Ran Verdict
+unfoldable pub judged : List ℕ → Inputs → Ran Verdict
 judged file g = opened g (opening file) (blocksOf file g)
 
 -- what a load with the right buffers checks before the first block: 2, then 3, then the opening
-unfoldable pub admitting : List ℕ → Given → Check
+unfoldable pub admitting : List ℕ → Inputs → Check
 admitting file g =
     need Failed (inRange g) SettingOutOfRange
     (need Failed (leb (length file) fileLimit) FileTooLong
     (opening file))
 
 -- a load with the right buffers
-unfoldable pub load : List ℕ → Given → Ran Verdict
+unfoldable pub load : List ℕ → Inputs → Ran Verdict
 load file g = opened g (admitting file g) (blocksOf file g)
 
 -- and whatever the buffers: 1 first
-unfoldable pub call : List ℕ → Given → Bool → Ran Verdict
+unfoldable pub call : List ℕ → Inputs → Bool → Ran Verdict
 call file g right = need (atOnce g) right WrongBuffer (load file g)
 
 -- what is reported of a load into a memory: the start, the counts of its events, the number of new names and low afterwards; or a fault and
@@ -101,7 +101,7 @@ addressesAfter (finished z) addresses = filledUp addressesRoom (z .addresses)
 addressesAfter (refused fault z) addresses = addresses
 
 -- What a call promises: it found the buffers b, of the right lengths or not, and answers r and leaves b′.
-pub record Loaded (file : List ℕ) (g : Given) (right : Bool) (b : Rooms) (r : Outcome) (b′ : Rooms) : Type 0 where
+pub record Loaded (file : List ℕ) (g : Inputs) (right : Bool) (b : Buffers) (r : Outcome) (b′ : Buffers) : Type 0 where
   pub outcome : r ≡ report (b .memory) (call file g right .answer) (call file g right .events)
   pub memory : b′ .memory ≡ memoryAfter (call file g right .answer) (call file g right .events) (b .memory)
   -- ("Refusal 1 changes nothing")

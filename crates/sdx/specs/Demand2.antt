@@ -12,13 +12,13 @@ use Rattle.answer.specs.declared.Start.{Start}
 use Rattle.blocks.specs.Blocks.{amountOf}
 use Rattle.blocks.specs.declared.Block.{Block}
 use Rattle.blocks.specs.declared.Block.the-variants.{Plain, Relocatable, Update, NewName, Faulty}
-use Rattle.deeds.specs.Deeds.{nameIn, addressIn}
+use Rattle.effects.specs.Effects.{nameIn, addressIn}
 use Rattle.events.specs.Events.{Event, place, reserve, adjust, marks, blank, placedMark, reservedMark, adjustedMark, placedIn, adjustedIn}
 use Rattle.events.specs.Lists.{Each}
 use Rattle.events.specs.Sizes.{fileLimit}
 use Rattle.items.specs.Items.{slotAt}
-use Rattle.passes.specs.Rooms.{Rooms, namesRoom, addressesRoom, filledUp, startIn}
-use Rattle.passes.specs.Walk.{Given, Deed, Progress, finished, stepped, blockAt, carriedAt, begun}
+use Rattle.passes.specs.Buffers.{Buffers, namesRoom, addressesRoom, filledUp, startIn}
+use Rattle.passes.specs.Walk.{Inputs, Effect, Progress, finished, stepped, blockAt, carriedAt, begun}
 use Rattle.updates.specs.Bodies.{done}
 use Rattle.words.specs.Numbers.{value, digits, on}
 use Rattle.words.specs.Runs.{Bytes, Within, part}
@@ -88,8 +88,8 @@ pub record AdjustsBy (amount : ℕ) (e : Event) : Type 0 where
   pub is : e ≡ adjust 2 address amount
 
 -- the events of a block are those of the rules; z is where the file ended, with the table and the names of all its blocks (of a body: each event
--- adjusts a word by the rules' amount; which words it lists, `body` says, by `Came` below)
-abbrev pub ByRule : List ℕ → Given → Progress → Block → List Event → Type 0
+-- adjusts a word by the rules' amount; which words it lists, `body` says, by `Trace` below)
+abbrev pub ByRule : List ℕ → Inputs → Progress → Block → List Event → Type 0
 ByRule file g z (Plain address from size) es = es ≡ place address (part file from size) ∷ []
 ByRule file g z (Relocatable true number offset from size) es = es ≡ reserve (slotAt (z .cursor .table) number .address) size ∷ []
 ByRule file g z (Relocatable false number offset from size) es =
@@ -99,43 +99,43 @@ ByRule file g z (NewName from address) es = es ≡ []
 ByRule file g z (Faulty fault) es = ⊥
 
 -- The block at which a load stands at y, by the events es, is carried out over the map as these left it, and leads on to z.
-pub record NextBlock (file : List ℕ) (g : Given) (y : Progress) (es : List Event) (z : Progress) : Type 0 where
+pub record NextBlock (file : List ℕ) (g : Inputs) (y : Progress) (es : List Event) (z : Progress) : Type 0 where
   pub end : ℕ
   pub carried-out : carriedAt file g y (marks es blank) .answer ≡ done end
   pub leads-to : z ≡ stepped file y (blockAt file g y) (carriedAt file g y (marks es blank) .events) end
 
 -- How a load came to z, by the events es: from the first block on, each read where the one before it ended, with the table and the names as those
--- before it left them. So each deed of z is the block that stands at its offset, and its events are all that this block does: of a body, one for
+-- before it left them. So each effect of z is the block that stands at its offset, and its events are all that this block does: of a body, one for
 -- each word that it lists.
-pub data Came (file : List ℕ) (g : Given) : Progress → List Event → Type 0 where
-  at-start : Came file g (begun g) []
-  after-block : {y z : Progress} {es : List Event} → Came file g y es → NextBlock file g y es z
-      → Came file g z (es ++ carriedAt file g y (marks es blank) .events)
+pub data Trace (file : List ℕ) (g : Inputs) : Progress → List Event → Type 0 where
+  at-start : Trace file g (begun g) []
+  after-block : {y z : Progress} {es : List Event} → Trace file g y es → NextBlock file g y es z
+      → Trace file g z (es ++ carriedAt file g y (marks es blank) .events)
 
--- what all blocks did, in file order (the latest deed stands first)
-unfoldable pub eventsOf : List Deed → List Event
+-- what all blocks did, in file order (the latest effect stands first)
+unfoldable pub eventsOf : List Effect → List Event
 eventsOf [] = []
 eventsOf (d ∷ ds) = eventsOf ds ++ d .events
 
 -- the names that they brought
-unfoldable pub namesOf : List ℕ → List Deed → List ℕ
+unfoldable pub namesOf : List ℕ → List Effect → List ℕ
 namesOf file [] = []
 namesOf file (d ∷ ds) = namesOf file ds ++ nameIn file (d .block)
 
 -- and the addresses of these
-unfoldable pub addressesOf : List Deed → List ℕ
+unfoldable pub addressesOf : List Effect → List ℕ
 addressesOf [] = []
 addressesOf (d ∷ ds) = addressesOf ds ++ addressIn (d .block)
 
 -- What a load leaves that accepted a file, after the events es: it found memory m, left m′ and the map p′, and reported the two counts.
-pub record Demand2 (file : List ℕ) (g : Given) (z : Progress) (es : List Event) (m m′ p′ : List ℕ) (placed adjusted : ℕ) : Type 0 where
+pub record Demand2 (file : List ℕ) (g : Inputs) (z : Progress) (es : List Event) (m m′ p′ : List ℕ) (placed adjusted : ℕ) : Type 0 where
   -- the events are those of its blocks, one after the other, and those are the rules'
-  pub came : Came file g z es
-  pub deeds : es ≡ eventsOf (z .deeds)
-  pub by-rule : Each (λ d. ByRule file g z (d .block) (d .events)) (z .deeds)
+  pub trace : Trace file g z es
+  pub effects : es ≡ eventsOf (z .effects)
+  pub by-rule : Each (λ d. ByRule file g z (d .block) (d .events)) (z .effects)
   -- "New names and addresses stand in file order"
-  pub names : z .names ≡ namesOf file (z .deeds)
-  pub addresses : z .addresses ≡ addressesOf (z .deeds)
+  pub names : z .names ≡ namesOf file (z .effects)
+  pub addresses : z .addresses ≡ addressesOf (z .effects)
   -- "each loaded byte as its last block put it"
   pub loaded : (x byte : ℕ) → Put es x byte → getD m′ x 0 ≡ byte
   -- "fields listed after that adjusted as the rules say"
@@ -155,14 +155,14 @@ pub record Demand2 (file : List ℕ) (g : Given) (z : Progress) (es : List Event
 
 -- "settings and buffers as document 01 asks" (`others` says whether all else that is lent has its length: of a call from C the answer, and the
 -- address lists as pairs; of other calls there is nothing else)
-pub record Asked (file : List ℕ) (g : Given) (others : Bool) (b : Rooms) : Type 0 where
+pub record Asked (file : List ℕ) (g : Inputs) (others : Bool) (b : Buffers) : Type 0 where
   pub lengths : others ≡ true
   pub buffers : sized g b ≡ true
   pub settings : inRange g ≡ true
   pub fits : length file ≤ fileLimit
 
 -- A call that was accepted: it was as asked, the file follows the rules, and this is what it left and reported.
-pub record AcceptedCall (file : List ℕ) (g : Given) (others : Bool) (b b′ : Rooms) (start : Start) (placed adjusted named low : ℕ) : Type 0 where
+pub record AcceptedCall (file : List ℕ) (g : Inputs) (others : Bool) (b b′ : Buffers) (start : Start) (placed adjusted named low : ℕ) : Type 0 where
   pub asked : Asked file g others b
   pub end : Progress
   pub follows : judged file g .answer ≡ finished end
@@ -177,7 +177,7 @@ pub record AcceptedCall (file : List ℕ) (g : Given) (others : Bool) (b b′ : 
 
 -- "With settings and buffers as document 01 asks, a file is accepted exactly if it follows the SpartaDOS X .. rules of document 01 and fits": of a
 -- call that found the buffers b, answered r and left b′
-pub record Exactly (file : List ℕ) (g : Given) (others : Bool) (b : Rooms) (r : Outcome) (b′ : Rooms) : Type 0 where
+pub record Exactly (file : List ℕ) (g : Inputs) (others : Bool) (b : Buffers) (r : Outcome) (b′ : Buffers) : Type 0 where
   -- only if: an acceptance is of a call as asked and of a file that the rules accept, and leaves what demand 2 says
   pub only : (start : Start) (placed adjusted named low : ℕ) → r ≡ Accepted start placed adjusted named low
       → AcceptedCall file g others b b′ start placed adjusted named low
@@ -191,5 +191,5 @@ pub record Exactly (file : List ℕ) (g : Given) (others : Bool) (b : Rooms) (r 
 -- The claim: of every file, whatever is given and lent, and of every call that keeps the loader's contract.
 abbrev pub Claim : Type 0
 Claim =
-    (file : List ℕ) → Bytes file → (g : Given) (others : Bool) (b b′ : Rooms) (r : Outcome) → Loaded file g (others && sized g b) b r b′
+    (file : List ℕ) → Bytes file → (g : Inputs) (others : Bool) (b b′ : Buffers) (r : Outcome) → Loaded file g (others && sized g b) b r b′
     → Exactly file g others b r b′

@@ -1,4 +1,4 @@
 -- What the contracts of `sdx` cite; then what that comes to, in the user's words.
 pub mod Call
 pub mod Demand2
-pub mod Benches
+pub mod Determinism

@@ -2,7 +2,7 @@
 use answer::Fault;
 use answer::Outcome;
 use events::Check;
-use passes::Walked;
+use passes::WalkEnd;
 ghost use mathlib.Core.Bool.{true};
 ghost use mathlib.Core.List.{[]};
 ghost use mathlib.Core.Path.{_≡_};
@@ -10,14 +10,14 @@ ghost use Prim.Native.Nat.{_*_, _≤_};
 ghost use lib.ListN.{length};
 ghost use Rattle.events.specs.Events.{blank};
 ghost use Rattle.events.specs.declared.Check.the-variants.{Passed};
-ghost use Rattle.passes.specs.Walk.{given};
-ghost use Rattle.passes.specs.Rooms.{rooms};
+ghost use Rattle.passes.specs.Walk.{inputs};
+ghost use Rattle.passes.specs.Buffers.{buffers};
 ghost use Rattle.sdx.specs.Call.{inRange, sized, opening as openingOf, admitting, Loaded};
 
 // The most names that are lent.
 pub const KNOWN: usize = 256;
 
-// Loads a file. Refuses with the first fault; memory and the rooms for new names are then as they were.
+// Loads a file. Refuses with the first fault; memory and the buffers for new names are then as they were.
 pub fn load(
     file: &[u8],
     low: u32,
@@ -29,7 +29,7 @@ pub fn load(
     new_names: &mut [u8],
     new_addresses: &mut [u16],
 ) -> Outcome
-    ensures { λ r. ⌜ Loaded (now (file .entry)) (given (now («known_names» .entry)) (now («known_addresses» .entry)) low high) (sized (given (now («known_names» .entry)) (now («known_addresses» .entry)) low high) (rooms (now (memory .entry)) (now (map .entry)) (now («new_names» .entry)) (now («new_addresses» .entry)))) (rooms (now (memory .entry)) (now (map .entry)) (now («new_names» .entry)) (now («new_addresses» .entry))) r (rooms (now (memory .exit)) (now (map .exit)) (now («new_names» .exit)) (now («new_addresses» .exit))) ⌝ }
+    ensures { λ r. ⌜ Loaded (now (file .entry)) (inputs (now («known_names» .entry)) (now («known_addresses» .entry)) low high) (sized (inputs (now («known_names» .entry)) (now («known_addresses» .entry)) low high) (buffers (now (memory .entry)) (now (map .entry)) (now («new_names» .entry)) (now («new_addresses» .entry)))) (buffers (now (memory .entry)) (now (map .entry)) (now («new_names» .entry)) (now («new_addresses» .entry))) r (buffers (now (memory .exit)) (now (map .exit)) (now («new_names» .exit)) (now («new_addresses» .exit))) ⌝ }
 {
     if !is_sized(
         known_names,
@@ -67,7 +67,7 @@ fn is_sized(
     new_names: &[u8],
     new_addresses: &[u16],
 ) -> bool
-    ensures { λ r. ⌜ r ≡ sized (given (now («known_names» .entry)) (now («known_addresses» .entry)) 0 0) (rooms (now (memory .entry)) (now (map .entry)) (now («new_names» .entry)) (now («new_addresses» .entry))) ⌝ }
+    ensures { λ r. ⌜ r ≡ sized (inputs (now («known_names» .entry)) (now («known_addresses» .entry)) 0 0) (buffers (now (memory .entry)) (now (map .entry)) (now («new_names» .entry)) (now («new_addresses» .entry))) ⌝ }
 {
     if memory.len() != events::MEMORY {
         return false;
@@ -89,7 +89,7 @@ fn is_sized(
 
 // Checks what comes before the first block: the settings, the file's length, its opening.
 fn admit(file: &[u8], low: u32, high: u32) -> Check
-    ensures { λ r. ⌜ r ≡ admitting (now (file .entry)) (given [] [] low high) ⌝ }
+    ensures { λ r. ⌜ r ≡ admitting (now (file .entry)) (inputs [] [] low high) ⌝ }
 {
     if !in_range(low, high) {
         return Check::Failed(Fault::SettingOutOfRange);
@@ -102,7 +102,7 @@ fn admit(file: &[u8], low: u32, high: u32) -> Check
 
 // Whether the settings of a call are in their ranges.
 fn in_range(low: u32, high: u32) -> bool
-    ensures { λ r. ⌜ r ≡ inRange (given [] [] low high) ⌝ }
+    ensures { λ r. ⌜ r ≡ inRange (inputs [] [] low high) ⌝ }
 {
     if high < low {
         return false;
@@ -136,17 +136,17 @@ fn load_blocks(
     new_names: &mut [u8],
     new_addresses: &mut [u16],
 ) -> Outcome
-    requires { ⌜ (length (now file) ≤ 65536) × (length (now «known_names») ≡ 8 * length (now «known_addresses»)) × (length (now memory) ≡ 65536) × (length (now map) ≡ 65536) × (length (now «new_names») ≡ 256) × (length (now «new_addresses») ≡ 32) × (now map ≡ blank) × (admitting (now file) (given (now «known_names») (now «known_addresses») low high) ≡ Passed) ⌝ }
-    ensures { λ r. ⌜ Loaded (now (file .entry)) (given (now («known_names» .entry)) (now («known_addresses» .entry)) low high) true (rooms (now (memory .entry)) (now (map .entry)) (now («new_names» .entry)) (now («new_addresses» .entry))) r (rooms (now (memory .exit)) (now (map .exit)) (now («new_names» .exit)) (now («new_addresses» .exit))) ⌝ }
+    requires { ⌜ (length (now file) ≤ 65536) × (length (now «known_names») ≡ 8 * length (now «known_addresses»)) × (length (now memory) ≡ 65536) × (length (now map) ≡ 65536) × (length (now «new_names») ≡ 256) × (length (now «new_addresses») ≡ 32) × (now map ≡ blank) × (admitting (now file) (inputs (now «known_names») (now «known_addresses») low high) ≡ Passed) ⌝ }
+    ensures { λ r. ⌜ Loaded (now (file .entry)) (inputs (now («known_names» .entry)) (now («known_addresses» .entry)) low high) true (buffers (now (memory .entry)) (now (map .entry)) (now («new_names» .entry)) (now («new_addresses» .entry))) r (buffers (now (memory .exit)) (now (map .exit)) (now («new_names» .exit)) (now («new_addresses» .exit))) ⌝ }
 {
     let checked = passes::check(file, low, high, known_names, known_addresses, memory, map);
     match checked {
-        Walked::Stopped(fault, offset) => Outcome::Refused {
+        WalkEnd::Stopped(fault, offset) => Outcome::Refused {
             fault,
             offset: offset as u32,
             side: 0,
         },
-        Walked::Finished(totals) => {
+        WalkEnd::Finished(totals) => {
             let again = passes::walk(
                 file,
                 low,

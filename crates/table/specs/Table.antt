@@ -1,7 +1,7 @@
 -- The bench table of document 01, P1 to P10, about the definitions that the loaders and the mover are proved to keep.
 -- A row is a call and all that it gives: its outcome, and every byte of every room that it is lent. Each room holds zeros before the call; only
 -- before a move memory is as a load at the old bases left it.
--- `Bench` is the statement, proved in proofs/Table.antt.
+-- `TableHolds` is the statement, proved in proofs/Table.antt.
 -- Assumes nothing.
 use mathlib.Core.Bool.{true}
 use mathlib.Core.List.{List, [], _∷_, _++_, map}
@@ -17,8 +17,8 @@ use Rattle.answer.specs.declared.Outcome.the-variants.{Accepted, Refused}
 use Rattle.answer.specs.declared.Start.the-variants.{Absent, At}
 use Rattle.events.specs.Events.{blank}
 use Rattle.moves.specs.Call as moves
-use Rattle.passes.specs.Rooms.{Rooms, rooms, namesRoom, addressesRoom}
-use Rattle.passes.specs.Walk.{given}
+use Rattle.passes.specs.Buffers.{Buffers, buffers, namesRoom, addressesRoom}
+use Rattle.passes.specs.Walk.{inputs}
 use Rattle.pieces.specs.Pieces.{basesAt}
 use Rattle.pieces.specs.declared.Bases.{Bases}
 use Rattle.sdx.specs.Call as sdx
@@ -186,13 +186,13 @@ pub record Result : Type 0 where
   pub map : List ℕ
   pub others : List (List ℕ)
 
--- the rooms of an SDX load, all zero
-abbrev pub clear : Rooms
-clear = rooms blank blank (replicate namesRoom 0) (replicate addressesRoom 0)
+-- the buffers of an SDX load, all zero
+abbrev pub clear : Buffers
+clear = buffers blank blank (replicate namesRoom 0) (replicate addressesRoom 0)
 
 abbrev pub sdxLoaded : List ℕ → ℕ → ℕ → Result
 sdxLoaded file low high =
-    let g = given [] [] low high in
+    let g = inputs [] [] low high in
     let o = sdx.call file g (sdx.sized g clear) in
     record {
       outcome = sdx.report (clear .memory) (o .answer) (o .events);
@@ -234,7 +234,7 @@ abbrev pub holding : List Region → List ℕ
 holding [] = blank
 holding (r ∷ rs) = put (holding rs) (r .from) (r .bytes)
 
--- the other rooms, all zero: no row brings a new name, and a scratch is "all zero after it"
+-- the other buffers, all zero: no row brings a new name, and a scratch is "all zero after it"
 abbrev pub cleared : Case → List (List ℕ)
 cleared (loadSdx file low high) = clear .names ∷ clear .addresses ∷ []
 cleared (loadAcx form file b) = []
@@ -247,5 +247,5 @@ abbrev pub wanted : Row → Result
 wanted row = record { outcome = row .outcome; memory = holding (row .memory); map = holding (row .map); others = cleared (row .case) }
 
 -- the statement: every call of the table gives what its row says
-abbrev pub Bench : Type 0
-Bench = map got table ≡ map wanted table
+abbrev pub TableHolds : Type 0
+TableHolds = map got table ≡ map wanted table

@@ -1,8 +1,8 @@
 // The functions that C calls, as include/tekoweapa.h declares them, and nothing else: each hands its buffers on.
 ghost use Rattle.pieces.specs.Pieces.{basesAt};
 ghost use Rattle.moves.specs.Call.{callOf};
-ghost use Rattle.passes.specs.Rooms.{rooms};
-ghost use Rattle.passes.specs.Walk.{given};
+ghost use Rattle.passes.specs.Buffers.{buffers};
+ghost use Rattle.passes.specs.Walk.{inputs};
 ghost use Rattle.calls.specs.Acx.{defaultBases, Called as AcxCalled};
 ghost use Rattle.calls.specs.Answer.{answerSized};
 ghost use Rattle.calls.specs.Move.{Called as MoveCalled};
@@ -22,7 +22,7 @@ pub extern "C" fn tkw_sdx_load(
     new_addresses: &mut [u8],
     answer: &mut [u8],
 ) -> u32
-    ensures { λ r. ⌜ SdxCalled (now (file .entry)) (given (now («known_names» .entry)) (now («known_addresses» .entry)) low high) (rooms (now (memory .entry)) (now (map .entry)) (now («new_names» .entry)) (now («new_addresses» .entry))) (now (answer .entry)) r (rooms (now (memory .exit)) (now (map .exit)) (now («new_names» .exit)) (now («new_addresses» .exit))) (now (answer .exit)) ⌝ }
+    ensures { λ r. ⌜ SdxCalled (now (file .entry)) (inputs (now («known_names» .entry)) (now («known_addresses» .entry)) low high) (buffers (now (memory .entry)) (now (map .entry)) (now («new_names» .entry)) (now («new_addresses» .entry))) (now (answer .entry)) r (buffers (now (memory .exit)) (now (map .exit)) (now («new_names» .exit)) (now («new_addresses» .exit))) (now (answer .exit)) ⌝ }
 {
     calls::sdx_load(
         file,
@@ -50,7 +50,7 @@ pub extern "C" fn tkw_sdx_load_default(
     new_addresses: &mut [u8],
     answer: &mut [u8],
 ) -> u32
-    ensures { λ r. ⌜ SdxCalled (now (file .entry)) (defaultInputs (now («known_names» .entry)) (now («known_addresses» .entry))) (rooms (now (memory .entry)) (now (map .entry)) (now («new_names» .entry)) (now («new_addresses» .entry))) (now (answer .entry)) r (rooms (now (memory .exit)) (now (map .exit)) (now («new_names» .exit)) (now («new_addresses» .exit))) (now (answer .exit)) ⌝ }
+    ensures { λ r. ⌜ SdxCalled (now (file .entry)) (defaultInputs (now («known_names» .entry)) (now («known_addresses» .entry))) (buffers (now (memory .entry)) (now (map .entry)) (now («new_names» .entry)) (now («new_addresses» .entry))) (now (answer .entry)) r (buffers (now (memory .exit)) (now (map .exit)) (now («new_names» .exit)) (now («new_addresses» .exit))) (now (answer .exit)) ⌝ }
 {
     calls::sdx_load_default(
         file,

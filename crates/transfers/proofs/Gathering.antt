@@ -8,7 +8,7 @@ use types.Run.{OneOf}
 use denote.Enum.Declared.{tagOf}
 use borrow.Rule.Slice.PartMut.{midOf, putMid}
 use lib.ListN.{length}
-use Rattle.acx.proofs.Cursors.{Came, came-first, came-found, came-on, came-passes, came-to-end, came-onward}
+use Rattle.acx.proofs.Cursors.{Tracks, tracks-first, tracks-found, tracks-on, tracks-passes, tracks-to-end, tracks-onward}
 use Rattle.pieces.proofs.Edits.{length-edited, edited-append}
 use Rattle.pieces.proofs.Marks.{fields-fresh}
 use Rattle.acx.proofs.Turning.{Onward, fixups-passed}
@@ -41,7 +41,7 @@ use Rattle.words.specs.Runs.{part, put}
 use Rattle.moves.proofs.Rulings.{follows, verdict, allows-is, both}
 use Rattle.moves.specs.Call.{rulingOf, Allows, piecesOf}
 use Rattle.moves.specs.Move.{shift, carried, transfer}
-use Rattle.transfers.specs.Scratch.{taken, Sound}
+use Rattle.transfers.specs.Scratch.{scratchWith, Sound}
 
 -- ---- the file
 
@@ -77,24 +77,24 @@ walkable form old new file first e h =
 -- ---- one record
 
 -- code
-code-taken : (old new : Bases) (m t₀ t : List ℕ) (ps : List Piece) (kind : Kind) (address : ℕ) (code : List ℕ) (n : ℕ) → length code ≡ n
+code-gathered : (old new : Bases) (m t₀ t : List ℕ) (ps : List Piece) (kind : Kind) (address : ℕ) (code : List ℕ) (n : ℕ) → length code ≡ n
     → t ≡ transfer old new ps m t₀
     → put t (placeAt new kind address) (part m (placeAt old kind address) n)
     ≡ transfer old new (record { kind = kind; address = address; code = code; fields = [] } ∷ ps) m t₀
 unfolding transfer carried edited
-code-taken old new m t₀ t ps kind address code n l e =
+code-gathered old new m t₀ t ps kind address code n l e =
     ap (λ (k : ℕ). put t (placeAt new kind address) (part m (placeAt old kind address) k)) (sym l)
     ∙ ap (λ (r : List ℕ). put r (placeAt new kind address) (part m (placeAt old kind address) (length code))) e
 
 -- fields more
-fields-taken : (old new : Bases) (m t₀ : List ℕ) (fs : List Field) (ps : List Piece) (t : List ℕ) → Moving (lastOf ps)
+fields-gathered : (old new : Bases) (m t₀ : List ℕ) (fs : List Field) (ps : List Piece) (t : List ℕ) → Moving (lastOf ps)
     → lastPlace old ps + lastSize ps ≤ length m
     → lastPlace new ps + lastSize ps ≤ length t
     → t ≡ transfer old new ps m t₀
     → put t (lastPlace new ps) (edited (shift old new) fs (part t (lastPlace new ps) (lastSize ps))) ≡ transfer old new (withFields fs ps) m t₀
 unfolding transfer carried
-fields-taken old new m t₀ fs [] t h i j e = absurd h
-fields-taken old new m t₀ fs (p ∷ ps) t h i j e =
+fields-gathered old new m t₀ fs [] t h i j e = absurd h
+fields-gathered old new m t₀ fs (p ∷ ps) t h i j e =
     let g = shift old new in
     let a = placeOf new p in
     let u : List ℕ = transfer old new ps m t₀ in
@@ -121,7 +121,7 @@ fields-inside file b s fixup from n h e c =
     (fixups-passed file b s p fixup from n e c) .inside
 
 -- what a record brings to the scratch is what its piece brings, or its fields
-taken-on : (file : List ℕ) (old new : Bases) (m t₀ t : List ℕ) (source target : Cursor) (s : Progress) (r : Record)
+gathered-on : (file : List ℕ) (old new : Bases) (m t₀ t : List ℕ) (source target : Cursor) (s : Progress) (r : Record)
     → length m ≡ 65536
     → length t ≡ 65536 → lastPlace old (s .pieces) + lastSize (s .pieces) ≤ 65536
     → lastPlace new (s .pieces) + lastSize (s .pieces) ≤ 65536
@@ -130,19 +130,19 @@ taken-on : (file : List ℕ) (old new : Bases) (m t₀ t : List ℕ) (source tar
     → recordAt file s ≡ r
     → Onward r
     → t ≡ transfer old new (s .pieces) m t₀
-    → taken file old new (advanced old source r) (advanced new target r) m t r ≡ transfer old new (stepped file s r .pieces) m t₀
-unfolding taken
-taken-on file old new m t₀ t source target s (Code kind address from n) lm lt i j ep es e o g =
+    → scratchWith file old new (advanced old source r) (advanced new target r) m t r ≡ transfer old new (stepped file s r .pieces) m t₀
+unfolding scratchWith
+gathered-on file old new m t₀ t source target s (Code kind address from n) lm lt i j ep es e o g =
     let h = lies-as file (s .at) (lastOf (s .pieces)) _ e .1 in
-    code-taken old new m t₀ t (s .pieces) kind address (part file from n) n (length-part file from n h) g
-taken-on file old new m t₀ t source target s (Fixups fixup from n) lm lt i j ep es e o g =
+    code-gathered old new m t₀ t (s .pieces) kind address (part file from n) n (length-part file from n h) g
+gathered-on file old new m t₀ t source target s (Fixups fixup from n) lm lt i j ep es e o g =
     rw (ep, es)
-    (fields-taken old new m t₀ (fieldsOf fixup (part file from n)) (s .pieces) t
+    (fields-gathered old new m t₀ (fieldsOf fixup (part file from n)) (s .pieces) t
     (fixups-after file (s .at) (lastOf (s .pieces)) fixup from n e)
     (omega arith)
     (omega arith) g)
-taken-on file old new m t₀ t source target s (End entry next) lm lt i j ep es e o g = absurd o
-taken-on file old new m t₀ t source target s (Faulty fault) lm lt i j ep es e o g = absurd o
+gathered-on file old new m t₀ t source target s (End entry next) lm lt i j ep es e o g = absurd o
+gathered-on file old new m t₀ t source target s (Faulty fault) lm lt i j ep es e o g = absurd o
 
 -- the fields of a record lie in the last code
 sound : (file : List ℕ) (b : Bases) (c : Cursor) (s : Progress) (r : Record) → lastPlace b (s .pieces) + lastSize (s .pieces) ≤ 65536
@@ -160,27 +160,27 @@ sound file b c s (Faulty fault) i es e k = tt
 
 module _ (file : List ℕ) (old new : Bases) (source target : Cursor) (m t : List ℕ) {r : Record} where
   -- code
-  pub takes-code : {kind : Kind} {address from n : ℕ} {bs : List ℕ} → r ≡ Code kind address from n
+  pub gathers-code : {kind : Kind} {address from n : ℕ} {bs : List ℕ} → r ≡ Code kind address from n
       → source .place + source .size ≤ length m
       → target .place + target .size ≤ length t
       → source .size ≡ target .size
       → bs ≡ midOf (source .place) (source .place + source .size - source .place) m
-      → putMid (target .place) (target .place + target .size - target .place) t bs ≡ taken file old new source target m t r
-  unfolding taken
-  takes-code {kind} {address} {from} {n} {bs} e i j k d =
+      → putMid (target .place) (target .place + target .size - target .place) t bs ≡ scratchWith file old new source target m t r
+  unfolding scratchWith
+  gathers-code {kind} {address} {from} {n} {bs} e i j k d =
       let is : bs ≡ part m (source .place) (source .size) = d ∙ lent-is (source .place) (source .size) m in
       let l : length bs ≡ target .size = ap length is ∙ length-part m (source .place) (source .size) i ∙ k in
       rw e (back-is (target .place) (target .size) t bs j l ∙ ap (put t (target .place)) is)
 
   -- fields
-  pub takes-fields : {fixup : Fixup} {from n : ℕ} {bs : List ℕ} → r ≡ Fixups fixup from n
+  pub gathers-fields : {fixup : Fixup} {from n : ℕ} {bs : List ℕ} → r ≡ Fixups fixup from n
       → target .place + target .size ≤ length t
       → bs
       ≡ edited (shift old new) (fieldsOf fixup (midOf from (from + n - from) file))
       (midOf (target .place) (target .place + target .size - target .place) t)
-      → putMid (target .place) (target .place + target .size - target .place) t bs ≡ taken file old new source target m t r
-  unfolding taken
-  takes-fields {fixup} {from} {n} {bs} e j d =
+      → putMid (target .place) (target .place + target .size - target .place) t bs ≡ scratchWith file old new source target m t r
+  unfolding scratchWith
+  gathers-fields {fixup} {from} {n} {bs} e j d =
       let g = shift old new in
       let cs : List ℕ = part t (target .place) (target .size) in
       let is : bs ≡ edited g (fieldsOf fixup (part file from n)) cs =
@@ -193,27 +193,27 @@ module _ (file : List ℕ) (old new : Bases) (source target : Cursor) (m t : Lis
       rw e (back-is (target .place) (target .size) t bs j l ∙ ap (put t (target .place)) is)
 
   -- nothing
-  pub takes-end : {entry : Entry} {next : ℕ} → r ≡ End entry next → t ≡ taken file old new source target m t r
-  unfolding taken
-  takes-end e = rw e refl
+  pub gathers-end : {entry : Entry} {next : ℕ} → r ≡ End entry next → t ≡ scratchWith file old new source target m t r
+  unfolding scratchWith
+  gathers-end e = rw e refl
 
-  pub takes-fault : {fault : Fault} → r ≡ Faulty fault → t ≡ taken file old new source target m t r
-  unfolding taken
-  takes-fault e = rw e refl
+  pub gathers-fault : {fault : Fault} → r ≡ Faulty fault → t ≡ scratchWith file old new source target m t r
+  unfolding scratchWith
+  gathers-fault e = rw e refl
 
 -- a fixup record may be taken: it lies in the file, and its fields in the code
-pub takes-sound : (file : List ℕ) (size : ℕ) (r : Record) → Sound file size r → {fixup : Fixup} {from n : ℕ} → r ≡ Fixups fixup from n
+pub gathers-sound : (file : List ℕ) (size : ℕ) (r : Record) → Sound file size r → {fixup : Fixup} {from n : ℕ} → r ≡ Fixups fixup from n
     → (from + n ≤ length file) × Each (Inside size) (fieldsOf fixup (part file from n))
-takes-sound file size r h e = rw e at h
+gathers-sound file size r h e = rw e at h
 
 -- the items and the code that are then lent
-pub takes-lent : (file : List ℕ) (target : Cursor) (t : List ℕ) (fixup : Fixup) (from k : ℕ) → length file ≤ 65536
+pub gathers-lent : (file : List ℕ) (target : Cursor) (t : List ℕ) (fixup : Fixup) (from k : ℕ) → length file ≤ 65536
     → target .place + target .size ≤ length t
     → (from + k ≤ length file) × Each (Inside (target .size)) (fieldsOf fixup (part file from k))
     → (length (midOf from (from + k - from) file) ≤ 65536)
     × Each (Inside (length (midOf (target .place) (target .place + target .size - target .place) t)))
     (fieldsOf fixup (midOf from (from + k - from) file))
-takes-lent file target t fixup from k l j h =
+gathers-lent file target t fixup from k l j h =
     let items = lent-is from k file in
     let code = lent-is (target .place) (target .size) t in
     let n : length (midOf (target .place) (target .place + target .size - target .place) t) ≡ target .size =
@@ -226,42 +226,42 @@ takes-lent file target t fixup from k l j h =
 -- the walk began at an offset with the scratch t₀, and stands at two cursors with t
 pub record Gathering (file : List ℕ) (old new : Bases) (first : ℕ) (m t₀ : List ℕ) (source target : Cursor) (t : List ℕ) : Type 0 where
   pub progress : Progress
-  pub at-old : Came file old first source progress
-  pub at-new : Came file new first target progress
+  pub at-old : Tracks file old first source progress
+  pub at-new : Tracks file new first target progress
   pub gathered : t ≡ transfer old new (progress .pieces) m t₀
 
 module _ {file : List ℕ} {old new : Bases} {first : ℕ} {m t₀ : List ℕ} where
   -- before the first record nothing is gathered
   pub gathering-first : first ≤ length file → Gathering file old new first m t₀ (firstCursor first) (firstCursor first) t₀
   unfolding transfer
-  gathering-first l = record { progress = begun first; at-old = came-first l; at-new = came-first l; gathered = refl }
+  gathering-first l = record { progress = begun first; at-old = tracks-first l; at-new = tracks-first l; gathered = refl }
 
   module _ {source target : Cursor} {t : List ℕ} (x : Gathering file old new first m t₀ source target t)
       {qs : List Piece} {start start′ : Start} (yes-old : recordsOf file old first .answer ≡ accepted qs start)
       (yes-new : recordsOf file new first .answer ≡ accepted qs start′) {found : Record} (is : found ≡ read file (source .at) (source .last)) where
     -- the record that the program reads is the definition's, at both pairs of bases
     pub found-is : recordAt file (x .progress) ≡ found
-    found-is = came-found (x .at-old) is
+    found-is = tracks-found (x .at-old) is
 
     -- at the end record all pieces are gathered
     pub gathering-end : {entry : Entry} {next : ℕ} → found ≡ End entry next → t ≡ transfer old new qs m t₀
-    gathering-end e = x .gathered ∙ ap (λ (ps : List Piece). transfer old new ps m t₀) (came-to-end (x .at-old) yes-old found-is e)
+    gathering-end e = x .gathered ∙ ap (λ (ps : List Piece). transfer old new ps m t₀) (tracks-to-end (x .at-old) yes-old found-is e)
 
     -- every other record leads on
     pub gathering-onward : OneOf (0 ∷ 1 ∷ 3 ∷ []) (tagOf the-type found) → Onward found
-    gathering-onward h = came-onward (x .at-old) yes-old found-is h
+    gathering-onward h = tracks-onward (x .at-old) yes-old found-is h
 
     module _ (o : Onward found) where
       -- the walks at both pairs of bases come to their cursors behind it
-      pub next-old : Came file old first (advanced old source found) (stepped file (x .progress) found)
-      next-old = came-on (x .at-old) found-is o (came-passes (x .at-old) yes-old)
+      pub next-old : Tracks file old first (advanced old source found) (stepped file (x .progress) found)
+      next-old = tracks-on (x .at-old) found-is o (tracks-passes (x .at-old) yes-old)
 
-      pub next-new : Came file new first (advanced new target found) (stepped file (x .progress) found)
-      next-new = came-on (x .at-new) found-is o (came-passes (x .at-new) yes-new)
+      pub next-new : Tracks file new first (advanced new target found) (stepped file (x .progress) found)
+      next-new = tracks-on (x .at-new) found-is o (tracks-passes (x .at-new) yes-new)
 
       -- and the scratch holds what the record brings
       pub gathering-on : {t′ : List ℕ} → length m ≡ 65536 → length t ≡ 65536
-          → t′ ≡ taken file old new (advanced old source found) (advanced new target found) m t found
+          → t′ ≡ scratchWith file old new (advanced old source found) (advanced new target found) m t found
           → Gathering file old new first m t₀ (advanced old source found) (advanced new target found) t′
       gathering-on lm lt e =
           record {
@@ -270,7 +270,7 @@ module _ {file : List ℕ} {old new : Bases} {first : ℕ} {m t₀ : List ℕ} w
             at-new = next-new;
             gathered =
                 e
-                ∙ taken-on file old new m t₀ t source target (x .progress) found lm lt (x .at-old .stands .inside) (x .at-new .stands .inside)
+                ∙ gathered-on file old new m t₀ t source target (x .progress) found lm lt (x .at-old .stands .inside) (x .at-new .stands .inside)
                 (ap (λ (k : Cursor). k .place) (x .at-new .here))
                 (ap (λ (k : Cursor). k .size) (x .at-new .here)) found-is o (x .gathered);
           }
@@ -279,7 +279,7 @@ module _ {file : List ℕ} {old new : Bases} {first : ℕ} {m t₀ : List ℕ} w
       pub gathering-sound : Sound file (advanced new target found .size) found
       gathering-sound =
           sound file new target (x .progress) found (x .at-new .stands .inside) (ap (λ (k : Cursor). k .size) (x .at-new .here)) found-is
-          (came-passes (x .at-new) yes-new)
+          (tracks-passes (x .at-new) yes-new)
 
       -- the last code has one size at both cursors
       pub gathering-sizes : advanced old source found .size ≡ advanced new target found .size

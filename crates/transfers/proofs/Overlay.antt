@@ -7,11 +7,11 @@ use native.Mathlib.Decide.{decLt}
 use native.Mathlib.Omega.{arith}
 use lib.ListN.{length, getD, set, List·getD-eq-default}
 use lib.Seq.{ext-getD, getD-set-same, getD-set-other}
-use Rattle.acx.proofs.Handlers.{fits-memory}
+use Rattle.acx.proofs.WellPlaced.{fits-memory}
 use Rattle.pieces.proofs.Loads.{Fits}
 use Rattle.pieces.proofs.Marks.{marks-outside, marks-some}
 use Rattle.pieces.specs.Places.{Placed}
-use Rattle.acx.specs.Demand2.{Handler}
+use Rattle.acx.specs.Demand2.{WellPlaced}
 use Rattle.pieces.specs.Pieces.{Piece, size, placeOf, events}
 use Rattle.pieces.specs.declared.Bases.{Bases}
 use Rattle.acx.specs.Call.{load, mapAfter as loadedMap}
@@ -21,7 +21,7 @@ use Rattle.events.proofs.Lists.{each-zip3}
 use Rattle.events.specs.Events.{Event, marks, blank}
 use Rattle.events.specs.Lists.{Each}
 use Rattle.words.proofs.Runs.{within?, part-agree-at}
-use Rattle.moves.proofs.Rulings.{handler-at, events-at, allows-is, both}
+use Rattle.moves.proofs.Rulings.{well-placed-at, events-at, allows-is, both}
 use Rattle.moves.proofs.Transfers.{length-transfer, transfer-outside, transfer-parts}
 use Rattle.moves.specs.Call.{rulingOf, Allows, piecesOf, mapBy}
 use Rattle.moves.specs.Demand3.{AcceptedAt}
@@ -101,10 +101,10 @@ module _ (file : List ℕ) (form : ℕ) (ps : List Piece) (old new : Bases) (at-
     (at-new : AcceptedAt file form ps new) (m s m′ : List ℕ) (n : length m ≡ 65536) (l : length s ≡ 65536)
     (o : Overlaid (marks (events new ps) blank) (transfer old new ps m s) m m′) where
   abbrev fits-old : Each (Fits old (length m)) ps
-  fits-old = fits-memory old (length m) ps n (handler-at file form ps old at-old .fits)
+  fits-old = fits-memory old (length m) ps n (well-placed-at file form ps old at-old .fits)
 
-  abbrev there : Handler file new ps
-  there = handler-at file form ps new at-new
+  abbrev there : WellPlaced file new ps
+  there = well-placed-at file form ps new at-new
 
   -- at a piece's place
   inside : (x : ℕ) → Each (λ p. Placed new x p → getD m′ x 0 ≡ getD (transfer old new ps m m) x 0) ps

@@ -17,12 +17,12 @@ use Rattle.acx.specs.declared.Cursor.{Cursor}
 use Rattle.moves.specs.Move.{shift}
 
 -- the scratch t after a record, where the last code record is at one cursor in memory m and at the other in t
-unfoldable pub taken : List ℕ → Bases → Bases → Cursor → Cursor → List ℕ → List ℕ → Record → List ℕ
-taken file old new source target m t (Code kind address from n) = put t (target .place) (part m (source .place) (source .size))
-taken file old new source target m t (Fixups fixup from n) =
+unfoldable pub scratchWith : List ℕ → Bases → Bases → Cursor → Cursor → List ℕ → List ℕ → Record → List ℕ
+scratchWith file old new source target m t (Code kind address from n) = put t (target .place) (part m (source .place) (source .size))
+scratchWith file old new source target m t (Fixups fixup from n) =
     put t (target .place) (edited (shift old new) (fieldsOf fixup (part file from n)) (part t (target .place) (target .size)))
-taken file old new source target m t (End entry next) = t
-taken file old new source target m t (Faulty fault) = t
+scratchWith file old new source target m t (End entry next) = t
+scratchWith file old new source target m t (Faulty fault) = t
 
 -- a fixup record lies in its file, and its fields in so many code bytes
 abbrev pub Sound : List ℕ → ℕ → Record → Type 0

@@ -18,7 +18,7 @@ ghost use Rattle.pieces.specs.Places.{Inside};
 ghost use Rattle.acx.specs.Call.{load as loadOf};
 ghost use Rattle.moves.specs.Move.{shift, transfer, moved};
 ghost use Rattle.moves.specs.Call.{rulingOf, Allows, piecesOf, mapBy};
-ghost use Rattle.transfers.specs.Scratch.{taken, Sound, Overlaid};
+ghost use Rattle.transfers.specs.Scratch.{scratchWith, Sound, Overlaid};
 
 // Carries the handler's bytes by way of the scratch, over the map of a load at the new bases.
 pub fn carry(
@@ -69,12 +69,12 @@ fn gather(form: u32, file: &[u8], old: Bases, new: Bases, memory: &[u8], scratch
         }
         source = acx::advance(old, source, found);
         target = acx::advance(new, target, found);
-        take(file, found, old, new, source, target, memory, scratch);
+        gather_record(file, found, old, new, source, target, memory, scratch);
     }
 }
 
 // Takes to the scratch what a record brings: its code from memory, or a change of the fields that it lists.
-fn take(
+fn gather_record(
     file: &[u8],
     found: Record,
     old: Bases,
@@ -85,7 +85,7 @@ fn take(
     scratch: &mut [u8],
 )
     requires { ⌜ Sound (now file) (target .size) found × (source .place + source .size ≤ length (now memory)) × (target .place + target .size ≤ length (now scratch)) × (source .size ≡ target .size) × (length (now file) ≤ 65536) ⌝ }
-    ensures { λ _. ⌜ now (scratch .exit) ≡ taken (now (file .entry)) old new source target (now (memory .entry)) (now (scratch .entry)) found ⌝ }
+    ensures { λ _. ⌜ now (scratch .exit) ≡ scratchWith (now (file .entry)) old new source target (now (memory .entry)) (now (scratch .entry)) found ⌝ }
 {
     let begin = target.place;
     let end = begin + target.size;

@@ -12,7 +12,7 @@ use Rattle.answer.specs.declared.Fault.{Fault}
 use Rattle.answer.specs.declared.Fault.the-variants.{CutShort}
 use Rattle.events.proofs.Checks.{failed-passed}
 use Rattle.events.proofs.Events.{adjusted-append, reached-none, reached-more}
-use Rattle.events.proofs.Walks.{came-none, came-on, came-end}
+use Rattle.events.proofs.Walks.{walk-begins, walk-goes-on, walk-ends}
 use Rattle.events.specs.Events.{Event, marks, adjustedIn, Ran, Reached, Did}
 use Rattle.events.specs.Walk.{Turn, ends, leads, after, bytesLeft}
 use Rattle.events.specs.declared.Check.{Check}
@@ -67,7 +67,7 @@ item-fits file table at from item is counter next e = lies-as file table at from
 -- the body began at an offset with memory m₀ and the map p₀, and stands at the cursor c with m and p
 pub record Going (file : List ℕ) (table : List Slot) (amount first : ℕ) (write : Bool) (m₀ p₀ : List ℕ) (c : Cursor) (m p : List ℕ) : Type 0 where
   pub events : List Event
-  pub came : body file table amount first p₀ ≡ after events (items file table amount (stateOf c) (marks events p₀))
+  pub so-far : body file table amount first p₀ ≡ after events (items file table amount (stateOf c) (marks events p₀))
   pub reached : Reached events write m₀ p₀ m p
   pub counted : c .adjusted ≡ adjustedIn events
   pub behind : first + c .adjusted ≤ c .at
@@ -80,7 +80,7 @@ module _ {file : List ℕ} {table : List Slot} {amount first : ℕ} {write : Boo
   going-first l =
       record {
         events = [];
-        came = came-none (turn file table amount) (λ z. broken CutShort) (λ s. bytesLeft file (s .at)) (turn-falls file table amount) _ p₀;
+        so-far = walk-begins (turn file table amount) (λ z. broken CutShort) (λ s. bytesLeft file (s .at)) (turn-falls file table amount) _ p₀;
         reached = reached-none write m₀ p₀;
         counted = refl;
         behind = omega arith;
@@ -105,8 +105,8 @@ module _ {file : List ℕ} {table : List Slot} {amount first : ℕ} {write : Boo
       ended-is : (a : Stop) → judge r item ≡ ends a → body file table amount first p₀ ≡ record { answer = a; events = x .events ++ here .events }
       unfolding here items
       ended-is a e =
-          came-end (turn file table amount) (λ z. broken CutShort) (λ s. bytesLeft file (s .at)) (turn-falls file table amount) _ (x .events) (stateOf c) p₀
-          (x .came)
+          walk-ends (turn file table amount) (λ z. broken CutShort) (λ s. bytesLeft file (s .at)) (turn-falls file table amount) _ (x .events) (stateOf c) p₀
+          (x .so-far)
           a (ap (λ (o : Ran (Turn BodyState Stop)). o .answer) here-is ∙ e)
 
       -- an item that failed ends the body with its fault
@@ -158,9 +158,9 @@ module _ {file : List ℕ} {table : List Slot} {amount first : ℕ} {write : Boo
           let k = advanced-counts c item in
           record {
             events = x .events ++ here .events;
-            came = came-on (turn file table amount) (λ z. broken CutShort) (λ s. bytesLeft file (s .at)) (turn-falls file table amount) _ (x .events)
+            so-far = walk-goes-on (turn file table amount) (λ z. broken CutShort) (λ s. bytesLeft file (s .at)) (turn-falls file table amount) _ (x .events)
                 (stateOf c) p₀
-                (x .came) z (here-leads e o);
+                (x .so-far) z (here-leads e o);
             reached = now;
             counted = k ∙ sym n;
             behind = omega (arith, k, n, t .2, x .behind, adjusted-append (x .events) (here .events), x .counted);

@@ -3,7 +3,7 @@
 use mathlib.Core.Path.{_∙_}
 use borrow.Author.Needs.{needs}
 use Rattle.events.specs.Events.{blank}
-use Rattle.edges.proofs.Telling.{told-acx}
+use Rattle.edges.proofs.Numbers.{numbers-acx}
 use Rattle.edges.proofs.load_acx.Statement.{statement}
 use Rattle.edges.proofs.load_acx.Tie as tie
 
@@ -21,7 +21,7 @@ print-outcome-requires c κs = search needs
 
 returns : tie.Need-returns
 unfolding blank
-returns c = c .print-outcome .ensures ∙ told-acx _ _ (c .before .before .before .load .ensures)
+returns c = c .print-outcome .ensures ∙ numbers-acx _ _ (c .before .before .before .load .ensures)
 
 pub load-acx-spec : {M : Type 1} → statement M
 load-acx-spec =

@@ -3,7 +3,7 @@
 use mathlib.Core.Path.{_∙_}
 use borrow.Author.Needs.{needs}
 use Rattle.events.specs.Events.{blank}
-use Rattle.edges.proofs.Telling.{told-sdx}
+use Rattle.edges.proofs.Numbers.{numbers-sdx}
 use Rattle.edges.proofs.load_sdx.Statement.{statement}
 use Rattle.edges.proofs.load_sdx.Tie as tie
 
@@ -33,7 +33,7 @@ print-outcome-requires c κs = search needs
 
 returns : tie.Need-returns
 unfolding blank
-returns c = c .print-outcome .ensures ∙ told-sdx _ _ _ (c .before .before .before .before .before .load .ensures)
+returns c = c .print-outcome .ensures ∙ numbers-sdx _ _ _ (c .before .before .before .before .before .load .ensures)
 
 pub load-sdx-spec : {M : Type 1} → statement M
 load-sdx-spec =

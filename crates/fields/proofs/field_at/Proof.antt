@@ -8,7 +8,7 @@ use lib.ListN.{length}
 use Rattle.fields.proofs.Listing.{item-some, single-listed, pair-listed}
 use Rattle.fields.proofs.field_at.Statement.{statement}
 use Rattle.fields.proofs.field_at.Tie as tie
-use Rattle.fields.specs.declared.Fixup.the-variants.{Low, Page, Word}
+use Rattle.fields.specs.declared.Fixup.the-variants.{LowByte, ZeroPageByte, Word}
 
 shared-slice-read-wide : tie.Need-shared-slice-read-wide
 shared-slice-read-wide c =
@@ -56,13 +56,13 @@ returns-2 : tie.Need-returns-2
 returns-2 c =
     let w = c .before .before in
     let s = w .before .before .before in
-    (single-listed _ Low _ (s .args .at) _ (c .enum-told2 .given .1) refl (s .pre) (w .wide .ensures .0), w .wide .ensures .1, omega arith)
+    (single-listed _ LowByte _ (s .args .at) _ (c .enum-told2 .given .1) refl (s .pre) (w .wide .ensures .0), w .wide .ensures .1, omega arith)
 
 returns-3 : tie.Need-returns-3
 returns-3 c =
     let w = c .before .before in
     let s = w .before .before .before in
-    (single-listed _ Page _ (s .args .at) _ (c .enum-told3 .given .1) refl (s .pre) (w .wide .ensures .0), w .wide .ensures .1, omega arith)
+    (single-listed _ ZeroPageByte _ (s .args .at) _ (c .enum-told3 .given .1) refl (s .pre) (w .wide .ensures .0), w .wide .ensures .1, omega arith)
 
 returns-4 : tie.Need-returns-4
 returns-4 c =

@@ -4,8 +4,8 @@ use mathlib.Core.Path.{refl, sym}
 use native.Mathlib.Omega.{arith}
 use borrow.Author.Needs.{needs}
 use lib.Seq.{length-take-le}
-use Rattle.passes.specs.Rooms.{rooms}
-use Rattle.passes.specs.Walk.{given}
+use Rattle.passes.specs.Buffers.{buffers}
+use Rattle.passes.specs.Walk.{inputs}
 use Rattle.pairs.proofs.Pairs.{known-front, loads-accepted, loads-refused}
 use Rattle.pairs.proofs.load_words.Statement.{statement}
 use Rattle.pairs.proofs.load_words.Tie as tie
@@ -46,8 +46,8 @@ returns c =
     let s = l .before .before .before .before .before .before .before .before .before .before .before .before .before .before .before .before in
     let a = s .args in
     let k = l .before .before .before .before .before .before .before .decode-words in
-    loads-refused (a .file .now) (given (a .known-names .now) (a .known-addresses .now) (a .low) (a .high))
-    (rooms (a .memory .now) (a .map .now) (a .new-names .now) (a .new-addresses .now)) _ _ _ _ (s .pre .0) (s .pre .2)
+    loads-refused (a .file .now) (inputs (a .known-names .now) (a .known-addresses .now) (a .low) (a .high))
+    (buffers (a .memory .now) (a .map .now) (a .new-names .now) (a .new-addresses .now)) _ _ _ _ (s .pre .0) (s .pre .2)
     (known-front (a .known-addresses .now) (k .last .0) _ (k .ensures) (omega (arith, s .pre .1))) (l .load .ensures)
     _ _ _ (c .before .outcome .given .1) refl
 
@@ -78,8 +78,8 @@ returns-2 c =
     let s = l .before .before .before .before .before .before .before .before .before .before .before .before .before .before .before .before in
     let a = s .args in
     let k = l .before .before .before .before .before .before .before .decode-words in
-    loads-accepted (a .file .now) (given (a .known-names .now) (a .known-addresses .now) (a .low) (a .high))
-    (rooms (a .memory .now) (a .map .now) (a .new-names .now) (a .new-addresses .now)) _ _ _ _ (s .pre .0) (s .pre .2)
+    loads-accepted (a .file .now) (inputs (a .known-names .now) (a .known-addresses .now) (a .low) (a .high))
+    (buffers (a .memory .now) (a .map .now) (a .new-names .now) (a .new-addresses .now)) _ _ _ _ (s .pre .0) (s .pre .2)
     (known-front (a .known-addresses .now) (k .last .0) _ (k .ensures) (omega (arith, s .pre .1))) (l .load .ensures)
     _ _ _ _ _ (c .before .before .before .before .before .enum-told .given .1) (c .before .before .encode-words .ensures)
 

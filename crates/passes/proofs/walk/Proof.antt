@@ -1,4 +1,4 @@
--- `passes::walk` meets its contract: the definition's walk has come to the cursor, with the memory, the map and the rooms of what it did (`Going`).
+-- `passes::walk` meets its contract: the definition's walk has come to the cursor, with the memory, the map and the buffers of what it did (`Going`).
 -- Assumes nothing.
 use mathlib.Core.Path.{_≡_, refl, sym, _∙_}
 use Prim.Native.Nat.{_+_, _-_, _≤_}
@@ -6,8 +6,8 @@ use native.Mathlib.Omega.{arith}
 use borrow.Author.Needs.{needs}
 use lib.ListN.{length}
 use Rattle.passes.proofs.Going.{Going, going-first, going-done, found-fits, name-fits, room-fits, going-stops, going-falls, going-counts, going-on}
-use Rattle.passes.specs.Walk.{given}
-use Rattle.passes.specs.Rooms.{rooms}
+use Rattle.passes.specs.Walk.{inputs}
+use Rattle.passes.specs.Buffers.{buffers}
 use Rattle.passes.proofs.walk.Statement.{statement}
 use Rattle.passes.proofs.walk.Tie as tie
 
@@ -15,8 +15,8 @@ abbrev Inv-loop : tie.InvT-loop
 Inv-loop file low high lent-names lent-addresses write memory₀ map₀ new-names₀ new-addresses₀ cursor₀ bytes₀ fields₀
     memory map new-names new-addresses cursor bytes fields =
     (length memory ≡ 65536) × (length map ≡ 65536) × (length new-names ≡ 256) × (length new-addresses ≡ 32)
-    × Going file (given lent-names lent-addresses low high) write (rooms memory₀ map₀ new-names₀ new-addresses₀) cursor bytes fields
-    (rooms memory map new-names new-addresses)
+    × Going file (inputs lent-names lent-addresses low high) write (buffers memory₀ map₀ new-names₀ new-addresses₀) cursor bytes fields
+    (buffers memory map new-names new-addresses)
 
 abbrev μ-loop : tie.MeasureT-loop
 μ-loop file low high lent-names lent-addresses write memory₀ map₀ new-names₀ new-addresses₀ cursor₀ bytes₀ fields₀
@@ -143,8 +143,8 @@ returns-2 c =
 enum-known-ended-2 : tie.Need-enum-known-ended-2 Inv-loop μ-loop
 enum-known-ended-2 c = search needs
 
-note-requires : tie.Need-note-requires Inv-loop μ-loop
-note-requires c κs =
+store-name-requires : tie.Need-store-name-requires Inv-loop μ-loop
+store-name-requires c κs =
     let r = c .before .before .before .before .before .before .before .before .before .before .before .before .before .before in
     let l = stood r .loop .inv in
     (name-fits (l .4) (r .read .ensures .0), l .2, l .3)
@@ -194,11 +194,11 @@ loop-again c =
     let l = stood r .loop .inv in (
       d .carry-out .kept .1 .1 .1 .1 .1 .1 .0 ∙ l .0,
       d .carry-out .kept .1 .1 .1 .1 .1 .1 .1 .0 ∙ l .1,
-      k .note .kept .1 .1 .1 .0 ∙ l .2,
-      k .note .kept .1 .1 .1 .1 .0 ∙ l .3,
+      k .store-name .kept .1 .1 .1 .0 ∙ l .2,
+      k .store-name .kept .1 .1 .1 .1 .0 ∙ l .3,
       rw (c .advance .ensures, c .before .placed-by .ensures)
           (going-on (l .4) (r .read .ensures .0) (r .before .before .before .if1 .left) (d .carry-out .ensures) _ _ (n .ended2 .given .1) _ _
-          (k .note .ensures)),
+          (k .store-name .ensures)),
     )
 
 pub walk-spec : {M : Type 1} → statement M
@@ -231,7 +231,7 @@ walk-spec =
     same-length-8
     returns-2
     enum-known-ended-2
-    note-requires
+    store-name-requires
     placed-by-requires
     add-bytes
     add-fields

@@ -7,8 +7,8 @@ use native.Mathlib.Omega.{arith}
 use borrow.Author.Needs.{needs}
 use borrow.Author.Tests.{not-true, not-false}
 use Rattle.events.proofs.Events.{cleared}
-use Rattle.passes.specs.Rooms.{rooms}
-use Rattle.passes.specs.Walk.{given}
+use Rattle.passes.specs.Buffers.{buffers}
+use Rattle.passes.specs.Walk.{inputs}
 use Rattle.events.specs.declared.Check.the-variants.{Passed}
 use Rattle.sdx.proofs.Calling.{admit-settings, admitted, range-bounds, loaded-wrong, loaded-sized, loaded-at-once, right-sizes}
 use Rattle.sdx.specs.Call.{sized, admitting}
@@ -66,8 +66,8 @@ returns-2 c =
     let e = d .before .before .before .before .before in
     let s = e .before .before .before .before .before .before .before .before .before .before .before .before .before in
     let a = s .args in
-    let g = given (a .known-names .now) (a .known-addresses .now) (a .low) (a .high) in
-    let b = rooms (a .memory .now) (a .map .now) (a .new-names .now) (a .new-addresses .now) in
+    let g = inputs (a .known-names .now) (a .known-addresses .now) (a .low) (a .high) in
+    let b = buffers (a .memory .now) (a .map .now) (a .new-names .now) (a .new-addresses .now) in
     let right : sized g b ≡ true = sym (e .before .is-sized .ensures) ∙ not-false _ (e .if1 .left) in
     loaded-at-once _ _ right (sym (admit-settings _ _ _ _ _) ∙ sym (d .admit .ensures) ∙ c .before .before .fault .given .1) (c .refused2 .ensures)
     (cleared _ _ (right-sizes g b right .map) (d .before .before .before .fill .ensures))
@@ -79,7 +79,7 @@ cast-load-blocks : tie.Need-cast-load-blocks
 cast-load-blocks c =
     let d = c .before .before in
     let a = d .before .before .before .before .before .before .before .before .before .before .before .before .before .before .before .before .before .before .args in
-    let g = given (a .known-names .now) (a .known-addresses .now) (a .low) (a .high) in
+    let g = inputs (a .known-names .now) (a .known-addresses .now) (a .low) (a .high) in
     let passed : admitting (a .file .now) g ≡ Passed = sym (admit-settings _ _ _ _ _) ∙ sym (d .admit .ensures) ∙ c .enum-told .given .1 in
     let h = range-bounds g (admitted _ g passed .settings) in
     omega (arith, h .0, h .1)
@@ -88,7 +88,7 @@ cast-load-blocks-2 : tie.Need-cast-load-blocks-2
 cast-load-blocks-2 c =
     let d = c .before .before in
     let a = d .before .before .before .before .before .before .before .before .before .before .before .before .before .before .before .before .before .before .args in
-    let g = given (a .known-names .now) (a .known-addresses .now) (a .low) (a .high) in
+    let g = inputs (a .known-names .now) (a .known-addresses .now) (a .low) (a .high) in
     let passed : admitting (a .file .now) g ≡ Passed = sym (admit-settings _ _ _ _ _) ∙ sym (d .admit .ensures) ∙ c .enum-told .given .1 in
     let h = range-bounds g (admitted _ g passed .settings) in
     omega (arith, h .1)
@@ -99,8 +99,8 @@ load-blocks-requires c κs =
     let e = d .before .before .before .before .before in
     let s = e .before .before .before .before .before .before .before .before .before .before .before .before .before in
     let a = s .args in
-    let g = given (a .known-names .now) (a .known-addresses .now) (a .low) (a .high) in
-    let b = rooms (a .memory .now) (a .map .now) (a .new-names .now) (a .new-addresses .now) in
+    let g = inputs (a .known-names .now) (a .known-addresses .now) (a .low) (a .high) in
+    let b = buffers (a .memory .now) (a .map .now) (a .new-names .now) (a .new-addresses .now) in
     let right : sized g b ≡ true = sym (e .before .is-sized .ensures) ∙ not-false _ (e .if1 .left) in
     let passed : admitting (a .file .now) g ≡ Passed = sym (admit-settings _ _ _ _ _) ∙ sym (d .admit .ensures) ∙ c .before .before .before .before .enum-told .given .1 in
     let l = right-sizes g b right in

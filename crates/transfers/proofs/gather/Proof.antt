@@ -6,7 +6,7 @@ use Prim.Native.Nat.{_-_}
 use native.Mathlib.Omega.{arith}
 use borrow.Author.Needs.{needs}
 use lib.ListN.{length}
-use Rattle.acx.proofs.Cursors.{came-inside, came-counts, came-further, came-ends-by}
+use Rattle.acx.proofs.Cursors.{tracks-inside, tracks-counts, tracks-further, tracks-ends-by}
 use Rattle.acx.specs.Walk.{openingSize}
 use Rattle.transfers.proofs.Gathering.{Walkable, walkable, Gathering, gathering-first, gathering-end, gathering-onward, gathering-on, gathering-sound, gathering-sizes, found-is, next-old, next-new}
 use Rattle.transfers.proofs.gather.Statement.{statement}
@@ -55,23 +55,23 @@ returns c =
 advance-requires : tie.Need-advance-requires Inv-loop μ-loop
 advance-requires c κs =
     let l = c .before .before .loop .inv in
-    let k = came-counts (l .2 .at-old) in (
+    let k = tracks-counts (l .2 .at-old) in (
       omega (arith, k .0, k .1, l .1 .fits),
       omega (arith, k .0, k .1, l .1 .fits),
-      came-ends-by (l .2 .at-old) (found-is (l .2) (l .1 .yes-old) (l .1 .yes-new) (c .before .read .ensures)) 65536 (l .1 .fits),
+      tracks-ends-by (l .2 .at-old) (found-is (l .2) (l .1 .yes-old) (l .1 .yes-new) (c .before .read .ensures)) 65536 (l .1 .fits),
     )
 
 advance-requires-2 : tie.Need-advance-requires-2 Inv-loop μ-loop
 advance-requires-2 c κs =
     let l = c .before .before .before .loop .inv in
-    let k = came-counts (l .2 .at-new) in (
+    let k = tracks-counts (l .2 .at-new) in (
       omega (arith, k .0, k .1, l .1 .fits),
       omega (arith, k .0, k .1, l .1 .fits),
-      came-ends-by (l .2 .at-new) (found-is (l .2) (l .1 .yes-old) (l .1 .yes-new) (c .before .before .read .ensures)) 65536 (l .1 .fits),
+      tracks-ends-by (l .2 .at-new) (found-is (l .2) (l .1 .yes-old) (l .1 .yes-new) (c .before .before .read .ensures)) 65536 (l .1 .fits),
     )
 
-take-requires : tie.Need-take-requires Inv-loop μ-loop
-take-requires c κs =
+gather-record-requires : tie.Need-gather-record-requires Inv-loop μ-loop
+gather-record-requires c κs =
     let l = c .before .before .before .before .before .loop .inv in
     let s = c .before .before .before .before .before .before .before .before .before .before .before .before .before in
     let x = l .2 in
@@ -81,8 +81,8 @@ take-requires c κs =
     let on = gathering-onward x u v r (c .before .before .before .match .keys2) in
     rw (c .before .before .advance .ensures, c .before .advance2 .ensures) (
       gathering-sound x u v r on,
-      omega (arith, came-inside (next-old x u v r on), s .pre .1),
-      omega (arith, came-inside (next-new x u v r on), l .0),
+      omega (arith, tracks-inside (next-old x u v r on), s .pre .1),
+      omega (arith, tracks-inside (next-new x u v r on), l .0),
       gathering-sizes x u v r on,
       l .1 .fits,
     )
@@ -95,8 +95,8 @@ loop-less c =
     let v = l .1 .yes-new in
     let r = c .before .before .before .before .before .before .before .read .ensures in
     let on = gathering-onward x u v r (c .before .before .before .before .before .before .match .keys2) in
-    let f = came-further (x .at-old) (found-is x u v r) on in
-    let i = came-counts (next-old x u v r on) .0 in
+    let f = tracks-further (x .at-old) (found-is x u v r) on in
+    let i = tracks-counts (next-old x u v r on) .0 in
     rw (c .before .before .before .before .before .advance .ensures) (omega (arith, f, i))
 
 loop-again : tie.Need-loop-again Inv-loop μ-loop
@@ -109,8 +109,8 @@ loop-again c =
     let on = gathering-onward x u v r (c .before .before .before .before .before .before .match .keys2) in
     let s = c .before .before .before .before .before .before .before .before .before .before .before .before .before .before .before .before in
     let t = rw (c .before .before .before .before .before .advance .ensures, c .before .before .before .before .advance2 .ensures) at
-    (c .before .before .take .ensures) in (
-      c .before .before .take .kept .1 .1 .1 .1 .1 .1 .1 .0 ∙ l .0,
+    (c .before .before .gather-record .ensures) in (
+      c .before .before .gather-record .kept .1 .1 .1 .1 .1 .1 .1 .0 ∙ l .0,
       l .1,
       rw (c .before .before .before .before .before .advance .ensures, c .before .before .before .before .advance2 .ensures)
           (gathering-on x u v r on (s .pre .1) (l .0) t),
@@ -133,6 +133,6 @@ gather-spec =
     returns
     advance-requires
     advance-requires-2
-    take-requires
+    gather-record-requires
     loop-less
     loop-again)

@@ -1,0 +1,72 @@
+#include "buffers.h"
+
+#include <string.h>
+
+#include "errors.h"
+#include "files.h"
+
+/* Reads an image, which must have the length of memory exactly. */
+static bool read_image(const char *path, uint8_t *memory, uint8_t *spare)
+{
+    size_t length = 0;
+
+    if (!read_file(path, spare, TKW_MEMORY_LENGTH + 1, &length))
+        return false;
+    if (length > TKW_MEMORY_LENGTH)
+        return complain(path, "is no image: it has more than %d bytes", TKW_MEMORY_LENGTH);
+    if (length < TKW_MEMORY_LENGTH)
+        return complain(path, "is no image: it has %zu bytes and should have %d", length, TKW_MEMORY_LENGTH);
+    memcpy(memory, spare, TKW_MEMORY_LENGTH);
+    return true;
+}
+
+bool fill_buffers(const struct options *options, struct buffers *buffers)
+{
+    /* The image goes through the room of the file, which has the one byte more that shows an image too long. */
+    if (options->memory != NULL && !read_image(options->memory, buffers->memory, buffers->file))
+        return false;
+    if (options->names != NULL && !read_names(options->names, &buffers->known))
+        return false;
+    return read_file(options->file, buffers->file, sizeof buffers->file, &buffers->file_length);
+}
+
+static void call_sdx(const struct options *options, struct buffers *buffers)
+{
+    tkw_sdx_load(buffers->file, buffers->file_length, options->low, options->high,
+                 buffers->known.names, buffers->known.count * TKW_NAME_LENGTH, buffers->known.addresses, buffers->known.count * 2,
+                 buffers->memory, sizeof buffers->memory, buffers->map, sizeof buffers->map,
+                 buffers->new_names, sizeof buffers->new_names, buffers->new_addresses, sizeof buffers->new_addresses,
+                 buffers->answer, sizeof buffers->answer);
+}
+
+static void call_acx(const struct options *options, struct buffers *buffers)
+{
+    tkw_acx_load(options->form, buffers->file, buffers->file_length, options->main_base, options->zero_base,
+                 buffers->memory, sizeof buffers->memory, buffers->map, sizeof buffers->map,
+                 buffers->answer, sizeof buffers->answer);
+}
+
+static void call_move(const struct options *options, struct buffers *buffers)
+{
+    tkw_acx_move(options->form, buffers->file, buffers->file_length, options->from_main, options->from_zero,
+                 options->to_main, options->to_zero,
+                 buffers->memory, sizeof buffers->memory, buffers->map, sizeof buffers->map,
+                 buffers->scratch, sizeof buffers->scratch, buffers->answer, sizeof buffers->answer);
+}
+
+struct answer call_loader(const struct options *options, struct buffers *buffers)
+{
+    /* The number that a call returns is also the first of its answer. */
+    switch (options->command) {
+    case COMMAND_SDX:
+        call_sdx(options, buffers);
+        break;
+    case COMMAND_ACX:
+        call_acx(options, buffers);
+        break;
+    case COMMAND_MOVE:
+        call_move(options, buffers);
+        break;
+    }
+    return read_answer(buffers->answer);
+}

@@ -1,0 +1,33 @@
+/* The buffers that a call is lent, and the call. */
+#ifndef BUFFERS_H
+#define BUFFERS_H
+
+#include <stdbool.h>
+#include <stddef.h>
+#include <stdint.h>
+
+#include "answer.h"
+#include "names.h"
+#include "options.h"
+#include "tekoweapa.h"
+
+/* Every buffer is a member of its own, so no two overlap: the promises of the loaders rest on that. */
+struct buffers {
+    size_t file_length;
+    uint8_t file[TKW_FILE_MOST + 1]; /* one more than a load takes, so that the loader sees that a file is too long */
+    struct names known;
+    uint8_t memory[TKW_MEMORY_LENGTH];
+    uint8_t map[TKW_MEMORY_LENGTH];
+    uint8_t scratch[TKW_MEMORY_LENGTH];
+    uint8_t new_names[TKW_NEW_NAMES_LENGTH];
+    uint8_t new_addresses[TKW_NEW_ADDRESSES_LENGTH];
+    uint8_t answer[TKW_ANSWER_LENGTH];
+};
+
+/* Reads the files that the options name into buffers of zeros. False after a complaint. */
+bool fill_buffers(const struct options *options, struct buffers *buffers);
+
+/* Makes the call that the options ask for. */
+struct answer call_loader(const struct options *options, struct buffers *buffers);
+
+#endif

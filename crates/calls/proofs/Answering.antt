@@ -1,0 +1,93 @@
+-- A call with an answer to write does what the loader or the mover does, and tells it; one without does nothing, and is refused with 1.
+-- Assumes nothing.
+use mathlib.Core.Bool.{true, false, _&&_}
+use mathlib.Core.List.{List}
+use mathlib.Core.Path.{_≡_, refl}
+use Prim.Native.Nat.{ℕ}
+use native.Mathlib.Omega.{arith}
+use borrow.Author.Tests.{eq-eqb, ne-eqb}
+use lib.Dec.{eqb}
+use lib.ListN.{length}
+use Rattle.acx.specs.Call.{sized, call as acxCall, Loaded}
+use Rattle.answer.proofs.Checks.{and-false}
+use Rattle.answer.specs.Checks.{need, pick}
+use Rattle.answer.specs.Report.{numberOf, numberReturned, answerBytes}
+use Rattle.answer.specs.declared.Fault.the-variants.{WrongBuffer}
+use Rattle.answer.specs.declared.Outcome.{Outcome}
+use Rattle.answer.specs.declared.Outcome.the-variants.{Refused}
+use Rattle.moves.specs.Call.{callOf, sized as moveSized, ruling, outcomeOf, memoryAfter, mapAfter, scratchAfter, Moved}
+use Rattle.pairs.proofs.Pairs.{loads-wrong}
+use Rattle.pairs.specs.Pairs.{Loads}
+use Rattle.passes.specs.Buffers.{Buffers}
+use Rattle.passes.specs.Walk.{Inputs}
+use Rattle.pieces.specs.declared.Bases.{Bases}
+use Rattle.calls.specs.Answer.{answerSized, Answered}
+use Rattle.calls.specs.Acx.{Called as AcxCalled}
+use Rattle.calls.specs.Move.{Called as MoveCalled}
+use Rattle.calls.specs.Sdx.{Called as SdxCalled}
+
+-- ---- the answer
+
+-- an answer of 36 bytes holds the nine numbers, and the first of them is returned
+pub answers : (o : Outcome) (a : List ℕ) (r : ℕ) (a′ : List ℕ) → length a ≡ 36 → r ≡ numberReturned o → a′ ≡ answerBytes o → Answered o a r a′
+unfolding pick
+answers o a r a′ h er ea = record { returned = er; answer = rw (eq-eqb _ _ h) ea }
+
+unanswered : (a : List ℕ) (r : ℕ) → (length a ≡ 36 → ⊥) → r ≡ numberOf WrongBuffer → Answered (Refused WrongBuffer 0 0) a r a
+unfolding pick
+unanswered a r h er = record { returned = er; answer = rw (ne-eqb _ _ h) refl }
+
+-- ---- the ACX loader
+
+module _ {form : ℕ} {b : Bases} {file m p a : List ℕ} {r : ℕ} where
+  -- an answer of another length: 1, and nothing is done
+  pub acx-unanswered : (length a ≡ 36 → ⊥) → r ≡ numberOf WrongBuffer → AcxCalled form b file m p a r m p a
+  unfolding acxCall need pick
+  acx-unanswered h e =
+      record {
+        outcome = Refused WrongBuffer 0 0;
+        loaded = rw (ne-eqb _ _ h)
+            (record { outcome = refl; memory = refl; map = refl; placed-fits = omega arith; adjusted-fits = omega arith });
+        answered = unanswered a r h e;
+      }
+
+  -- else what the loader did is told
+  pub acx-answered : {o : Outcome} {m′ p′ a′ : List ℕ} → length a ≡ 36 → Loaded form b file (sized m p) m p o m′ p′ → Answered o a r a′
+      → AcxCalled form b file m p a r m′ p′ a′
+  acx-answered {o} h d t = record { outcome = o; loaded = rw (eq-eqb _ _ h) d; answered = t }
+
+-- ---- the mover
+
+module _ {file : List ℕ} {form : ℕ} {old new : Bases} {m p s a : List ℕ} {r : ℕ} where
+  pub move-unanswered : (length a ≡ 36 → ⊥) → r ≡ numberOf WrongBuffer → MoveCalled file (callOf form old new p s (answerSized a)) m a r m p s a
+  unfolding ruling outcomeOf memoryAfter mapAfter scratchAfter need pick
+  move-unanswered h e =
+      let z : moveSized (callOf form old new p s (answerSized a)) m ≡ false =
+      and-false (eqb (length m) 65536 && eqb (length p) 65536 && eqb (length s) 65536) (answerSized a) (ne-eqb _ _ h) in
+      record {
+        outcome = Refused WrongBuffer 0 0;
+        moved = record {
+          outcome = rw z refl;
+          memory = rw z refl;
+          map = rw z refl;
+          scratch = rw z refl;
+          placed-fits = omega arith;
+          adjusted-fits = omega arith;
+        };
+        answered = unanswered a r h e;
+      }
+
+  pub move-answered : {o : Outcome} {m′ p′ s′ a′ : List ℕ} → length a ≡ 36 → Moved file (callOf form old new p s true) m o m′ p′ s′ → Answered o a r a′
+      → MoveCalled file (callOf form old new p s (answerSized a)) m a r m′ p′ s′ a′
+  move-answered {o} h d t = record { outcome = o; moved = rw (eq-eqb _ _ h) d; answered = t }
+
+-- ---- the SDX loader
+
+module _ {file : List ℕ} {g : Inputs} {b : Buffers} {a : List ℕ} {r : ℕ} where
+  pub sdx-unanswered : (length a ≡ 36 → ⊥) → r ≡ numberOf WrongBuffer → SdxCalled file g b a r b a
+  sdx-unanswered h e =
+      record { outcome = Refused WrongBuffer 0 0; loads = loads-wrong refl _ (rw (ne-eqb _ _ h) refl); answered = unanswered a r h e }
+
+  pub sdx-answered : {o : Outcome} {b′ : Buffers} {a′ : List ℕ} → length a ≡ 36 → Loads file g true b o b′ → Answered o a r a′
+      → SdxCalled file g b a r b′ a′
+  sdx-answered {o} h d t = record { outcome = o; loads = rw (eq-eqb _ _ h) d; answered = t }

@@ -1,0 +1,3 @@
+-- What the contracts of `effects` cite.
+pub mod Effects
+pub mod Parts
