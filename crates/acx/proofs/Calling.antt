@@ -31,6 +31,7 @@ use Rattle.pieces.specs.declared.Bases.{Bases}
 use Rattle.acx.specs.declared.Form.{Form}
 use Rattle.acx.specs.declared.Form.the-variants.{Device}
 
+-- every form but 0 is the device form
 pub form-device : (n : ℕ) → (n ≡ 0 → ⊥) → Device ≡ formOf n
 form-device zero h = absurd (h refl)
 form-device (suc n) h = refl
@@ -38,6 +39,7 @@ form-device (suc n) h = refl
 -- ---- the opening and the records
 
 module _ (form : Form) (file : List ℕ) (b : Bases) (write : Bool) (m : List ℕ) (c : Check) (o : c ≡ opening form file) where
+  -- a wrong opening is the refusal
   pub file-refused : (fault : Fault) (r : Outcome) (p′ : List ℕ) → c ≡ Failed fault → r ≡ Refused fault 0 0 → p′ ≡ blank
       → Did Outcome (reported (judged form file b)) write m blank r m p′
   unfolding judged
@@ -45,6 +47,7 @@ module _ (form : Form) (file : List ℕ) (b : Bases) (write : Bool) (m : List �
       let f : opening form file ≡ Failed fault = sym o ∙ e in
       rw (f, er, ep) (did-none _ write m blank)
 
+  -- behind a right one the records decide
   pub file-walked : (n : ℕ) (r : Outcome) (m′ p′ : List ℕ) → c ≡ Passed → n ≡ openingSize form
       → Did Outcome (reported (recordsOf file b n)) write m blank r m′ p′
       → Did Outcome (reported (judged form file b)) write m blank r m′ p′
@@ -63,17 +66,20 @@ range-bounds form b e =
     (leb-true _ _ (y .1), leb-true _ _ (x .1))
 
 module _ (form : ℕ) (b : Bases) (file : List ℕ) (write : Bool) (m : List ℕ) where
+  -- settings out of range are the refusal
   pub call-range : (r : Outcome) (p : List ℕ) → inRange form b ≡ false → r ≡ Refused SettingOutOfRange 0 0 → p ≡ blank
       → Did Outcome (reported (load form b file)) write m blank r m p
   unfolding load need
   call-range r p h er ep = rw (h, er, ep) (did-none _ write m blank)
 
   module _ (ranged : inRange form b ≡ true) where
+    -- then a file that is too long is
     pub call-long : (r : Outcome) (p : List ℕ) → 65536 < length file → r ≡ Refused FileTooLong 0 0 → p ≡ blank
         → Did Outcome (reported (load form b file)) write m blank r m p
     unfolding load need
     call-long r p h er ep = rw (ranged, lt-leb _ _ h, er, ep) (did-none _ write m blank)
 
+    -- and then the file decides
     pub call-walked : (f : Form) (r : Outcome) (m′ p′ : List ℕ) → length file ≤ 65536 → f ≡ formOf form
         → Did Outcome (reported (judged f file b)) write m blank r m′ p′ → Did Outcome (reported (load form b file)) write m blank r m′ p′
     unfolding load need
@@ -85,6 +91,7 @@ pub record Follows (form : ℕ) (b : Bases) (file : List ℕ) : Type 0 where
   pub fits : length file ≤ 65536
   pub by-rules : load form b file ≡ judged (formOf form) file b
 
+-- an accepted load follows so
 pub load-follows : (form : ℕ) (b : Bases) (file : List ℕ) (ps : List Piece) (start : Start) → load form b file .answer ≡ accepted ps start → Follows form b file
 unfolding load need
 load-follows form b file ps start e = by (inRange form b) (leb (length file) 65536) refl refl e
@@ -123,6 +130,7 @@ unfolding need
 few-need n true fault o h = h
 few-need n false fault o h = record { placed = omega arith; adjusted = omega arith }
 
+-- of a load
 pub load-few : (form : ℕ) (b : Bases) (file : List ℕ) → Few (length file) (load form b file)
 unfolding load
 load-few form b file =
@@ -173,7 +181,7 @@ module _ {form : ℕ} {b : Bases} {file m p : List ℕ} where
       (c .outcome, c .memory, c .map)
 
   module _ {r : Outcome} {m₁ p₁ : List ℕ} (d : Did Outcome (reported (load form b file)) false m blank r m₁ p₁) where
-    -- (memory was not written while the file was checked)
+    -- what was refused when it was checked is the refusal (memory was not written then)
     pub loaded-refused : {fault : Fault} {at side : ℕ} {p′ : List ℕ} → r ≡ Refused fault at side → p′ ≡ blank
         → Loaded form b file true m p (Refused fault at side) m₁ p′
     loaded-refused e ep =
@@ -182,6 +190,7 @@ module _ {form : ℕ} {b : Bases} {file m p : List ℕ} where
         carried (sym e ∙ d .answer) (d .reached .memory ∙ sym (refused-memory (o .answer) (o .events) m k))
         (ep ∙ sym (refused-map (o .answer) (o .events) k))
 
+    -- what was accepted is walked again, and written
     pub loaded-accepted : {start : Start} {i j k l : ℕ} {r₂ : Outcome} {m₂ p₂ : List ℕ} → r ≡ Accepted start i j k l
         → Did Outcome (reported (load form b file)) true m₁ blank r₂ m₂ p₂
         → Loaded form b file true m p r₂ m₂ p₂
@@ -206,6 +215,7 @@ module _ {form : ℕ} {b : Bases} {file m p : List ℕ} where
         adjusted-fits = rw e (omega arith);
       }
 
+  -- so do a memory and a map of another length, and what has the right lengths is a load
   pub loaded-memory : {r : Outcome} → (length m ≡ 65536 → ⊥) → r ≡ Refused WrongBuffer 0 0 → Loaded form b file (sized m p) m p r m p
   loaded-memory h e = loaded-wrong (rw (ne-eqb _ _ h) refl) e
 

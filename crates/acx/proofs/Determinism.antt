@@ -46,6 +46,7 @@ module _ (form : ℕ) (b : Bases) (file m p : List ℕ) (r : Outcome) (m′ p′
         other = λ n. l .2 ∙ refused-map (o .answer) (o .events) k;
       }
 
+-- every refused call
 pub call-refused : RefusedClaim
 call-refused form b file right m p r m′ p′ d fault at side e = by right refl
   where
@@ -75,6 +76,7 @@ placed-parts form b file m m′ em n ps start e =
     ∙ play-laid b ps m fits (h .inside) in
     rw is (laid-parts b ps m fits (h .apart))
 
+-- every two calls
 pub same-program : SameClaim
 same-program form b file x m p r m′ p′ y n q t n′ q′ d e f g =
     let k = loaded-right e d in

@@ -40,6 +40,7 @@ pub record Going (file : List ℕ) (b : Bases) (first : ℕ) (write : Bool) (m�
   pub reached : Reached (events b (progress .pieces)) write m₀ blank m p
 
 module _ {file : List ℕ} {b : Bases} {first : ℕ} {write : Bool} {m₀ : List ℕ} where
+  -- before the first record
   pub going-first : {p : List ℕ} → p ≡ blank → first ≤ length file → Going file b first write m₀ (firstCursor first) m₀ p
   unfolding events
   going-first e l = record { progress = begun first; came = tracks-first l; reached = rw e (reached-none write m₀ blank) }
@@ -113,6 +114,7 @@ module _ {file : List ℕ} {b : Bases} {first : ℕ} {write : Bool} {m₀ : List
             reached = rw (events-after file b here there found found-is o ok) now;
           }
 
+      -- with its cursor further on, in a record that lies in the file
       pub going-further : Onward found → c .at + 2 ≤ advanced b c found .at
       going-further o = tracks-further (x .came) found-is o
 

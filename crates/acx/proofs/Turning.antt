@@ -31,6 +31,7 @@ use Rattle.pieces.specs.declared.Bases.{Bases}
 
 -- ---- verdicts told apart
 
+-- a refusal is no acceptance
 pub refused-accepted : {fault : Fault} {at : ℕ} {ps : List Piece} {start : Start} → refused fault at ≡ accepted ps start → ⊥
 refused-accepted e = let n : _≡_ {A = ℕ} 0 1 = cc in omega arith
 

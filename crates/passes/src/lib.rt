@@ -94,17 +94,8 @@ pub fn walk(
         let size = names::NAME * named;
         let found = blocks::read(file, high, lent_names, &new_names[0..size], cursor);
         let own = &new_addresses[0..named];
-        let ended = effects::carry_out(
-            file,
-            found,
-            cursor,
-            lent_addresses,
-            own,
-            write,
-            memory,
-            map,
-        );
-        match ended {
+        let end = effects::carry_out(file, found, cursor, lent_addresses, own, write, memory, map);
+        match end {
             Ended::Broken(fault) => return WalkEnd::Stopped(fault, cursor.at),
             Ended::Done { next, adjusted } => {
                 effects::store_name(file, found, named, new_names, new_addresses);

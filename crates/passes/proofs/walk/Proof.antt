@@ -26,7 +26,7 @@ abbrev μ-loop : tie.MeasureT-loop
 -- ---- places that several needs go back to
 
 -- behind a block that was counted: where it was known to be done, and where it was read
-abbrev was-done : tie.After-placed-by Inv-loop μ-loop → tie.After-ended2 Inv-loop μ-loop
+abbrev was-done : tie.After-placed-by Inv-loop μ-loop → tie.After-end2 Inv-loop μ-loop
 was-done c = c .before .before .before .before .before .before .before .before .before
 
 abbrev was-read : tie.After-placed-by Inv-loop μ-loop → tie.After-read Inv-loop μ-loop
@@ -108,8 +108,8 @@ carry-out-requires c κs =
     let l = stood r .loop .inv in
     (l .4 .lent .short, r .read .ensures .1, found-fits (l .4) (r .read .ensures .0), l .0, l .1)
 
-enum-known-ended : tie.Need-enum-known-ended Inv-loop μ-loop
-enum-known-ended c = search needs
+enum-known-end : tie.Need-enum-known-end Inv-loop μ-loop
+enum-known-end c = search needs
 
 same-length-5 : tie.Need-same-length-5 Inv-loop μ-loop
 same-length-5 c =
@@ -138,10 +138,10 @@ returns-2 c =
     let d = c .before .before .before .before .before .before .before in
     let r = d .before .before .before .before .before in
     going-stops (stood r .loop .inv .4) (r .read .ensures .0) (r .before .before .before .if1 .left) (d .carry-out .ensures) _
-    (c .before .ended .given .1)
+    (c .before .end .given .1)
 
-enum-known-ended-2 : tie.Need-enum-known-ended-2 Inv-loop μ-loop
-enum-known-ended-2 c = search needs
+enum-known-end-2 : tie.Need-enum-known-end-2 Inv-loop μ-loop
+enum-known-end-2 c = search needs
 
 store-name-requires : tie.Need-store-name-requires Inv-loop μ-loop
 store-name-requires c κs =
@@ -154,12 +154,12 @@ placed-by-requires c κs = search needs
 
 -- both counts with the block's own stay within the file
 sums : (c : tie.After-placed-by Inv-loop μ-loop)
-    → (stood (was-read c) .loop .bytes + c .placed-by .result ≤ 65536) × (stood (was-read c) .loop .fields + was-done c .ended2 .given .0 .1 .0 ≤ 65536)
+    → (stood (was-read c) .loop .bytes + c .placed-by .result ≤ 65536) × (stood (was-read c) .loop .fields + was-done c .end2 .given .0 .1 .0 ≤ 65536)
 sums c =
     let r = was-read c in
     let x = stood r .loop .inv .4 in
     let d = was-done c .before .before .before .before .before .before .carry-out .ensures in
-    let k = going-counts x (r .read .ensures .0) (r .before .before .before .if1 .left) d _ _ (was-done c .ended2 .given .1) in
+    let k = going-counts x (r .read .ensures .0) (r .before .before .before .if1 .left) d _ _ (was-done c .end2 .given .1) in
     (omega (arith, k .0, x .lent .short, c .placed-by .ensures), omega (arith, k .1, x .lent .short))
 
 add-bytes : tie.Need-add-bytes Inv-loop μ-loop
@@ -183,7 +183,7 @@ loop-less c =
     let r = d .before .before .before .before .before in
     rw (c .advance .ensures)
     (going-falls (stood r .loop .inv .4) (r .read .ensures .0) (r .before .before .before .if1 .left) (d .carry-out .ensures) _ _
-    (n .ended2 .given .1))
+    (n .end2 .given .1))
 
 loop-again : tie.Need-loop-again Inv-loop μ-loop
 loop-again c =
@@ -197,7 +197,7 @@ loop-again c =
       k .store-name .kept .1 .1 .1 .0 ∙ l .2,
       k .store-name .kept .1 .1 .1 .1 .0 ∙ l .3,
       rw (c .advance .ensures, c .before .placed-by .ensures)
-          (going-on (l .4) (r .read .ensures .0) (r .before .before .before .if1 .left) (d .carry-out .ensures) _ _ (n .ended2 .given .1) _ _
+          (going-on (l .4) (r .read .ensures .0) (r .before .before .before .if1 .left) (d .carry-out .ensures) _ _ (n .end2 .given .1) _ _
           (k .store-name .ensures)),
     )
 
@@ -224,13 +224,13 @@ walk-spec =
     part-own-start
     part-own-end
     carry-out-requires
-    enum-known-ended
+    enum-known-end
     same-length-5
     same-length-6
     same-length-7
     same-length-8
     returns-2
-    enum-known-ended-2
+    enum-known-end-2
     store-name-requires
     placed-by-requires
     add-bytes
