@@ -1,4 +1,4 @@
--- A refused call changes no memory, and two benches hold the same program: specs/Determinism.antt, of every call that keeps the contract.
+-- A refused call changes no memory, and two machines hold the same program: specs/Determinism.antt, of every call that keeps the contract.
 -- Assumes nothing.
 use mathlib.Core.Bool.{Bool, true, false}
 use mathlib.Core.List.{List}
@@ -54,7 +54,7 @@ call-refused form b file right m p r m′ p′ d fault at side e = by right refl
     by true h = refused-right form b file m p r m′ p′ fault at side e (subst (λ (t : Bool). Loaded form b file t m p r m′ p′) h d)
     by false h = refused-wrong form b file m p r m′ p′ fault at side e (subst (λ (t : Bool). Loaded form b file t m p r m′ p′) h d)
 
--- ---- two benches
+-- ---- two machines
 
 -- what an accepted file leaves at the places of its pieces hangs on no memory
 placed-parts : (form : ℕ) (b : Bases) (file m m′ : List ℕ) → m′ ≡ memoryAfter (load form b file .answer) (load form b file .events) m

@@ -45,7 +45,7 @@ in-need : (check : Bool) (fault : Fault) (b : Block) → InMemory b → InMemory
 in-need check fault b h = on-need Faulty InMemory (λ f. in-memory (Faulty f) (omega arith)) check fault b (λ e. h)
 
 -- no other block is plain
-pub room-in-memory : (file : List ℕ) (high : ℕ) (c : Cursor) (number : ℕ) (reserves : Bool) → InMemory (readRoom file high c number reserves)
+room-in-memory : (file : List ℕ) (high : ℕ) (c : Cursor) (number : ℕ) (reserves : Bool) → InMemory (readRoom file high c number reserves)
 unfolding readRoom
 room-in-memory file high c number reserves = in-need _ _ _ (in-need _ _ _ (in-need _ _ _ (in-memory _ (omega arith))))
 

@@ -27,7 +27,7 @@ unfolding marks
 marks-append [] fs p = refl
 marks-append (e ∷ es) fs p = marks-append es fs (markOne e p)
 
-pub play-if-append : (write : Bool) (es fs : List Event) (m : List ℕ) → playIf write (es ++ fs) m ≡ playIf write fs (playIf write es m)
+play-if-append : (write : Bool) (es fs : List Event) (m : List ℕ) → playIf write (es ++ fs) m ≡ playIf write fs (playIf write es m)
 play-if-append true es fs m = play-append es fs m
 play-if-append false es fs m = refl
 

@@ -43,7 +43,7 @@ module _ (file : List ℕ) (form : ℕ) (ps : List Piece) (b : Bases) (h : Accep
   verdict = ap (λ (o : Ran Verdict). o .answer) (sym (follows .by-rules)) ∙ h .1
 
   -- both bases are addresses
-  pub in-range : (b .main ≤ 65535) × (b .zero ≤ 65535)
+  in-range : (b .main ≤ 65535) × (b .zero ≤ 65535)
   in-range =
       let k = range-bounds form b (follows .range) in
       (k .0, omega (arith, k .1))

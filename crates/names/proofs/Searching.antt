@@ -31,7 +31,7 @@ same-is (x ∷ xs) (y ∷ ys) e = by (eqb x y) refl (λ f. same-is xs ys f) e
     by false h rest f = absurd (false≢true f)
 
 -- a run compares as the same as itself
-pub same-refl : (xs : List ℕ) → same xs xs ≡ true
+same-refl : (xs : List ℕ) → same xs xs ≡ true
 unfolding same
 same-refl [] = refl
 same-refl (x ∷ xs) = rw (eq-eqb x x refl) (same-refl xs)
@@ -104,14 +104,14 @@ unfolding newest
 newest-none names name e j h = none-of (length names / 8) names name e j (counted (length names) j h)
 
 -- a hit is a whole name of the list
-pub found-inside : (names name : List ℕ) (i : ℕ) → newest names name ≡ At i → 8 * i + 8 ≤ length names
+found-inside : (names name : List ℕ) (i : ℕ) → newest names name ≡ At i → 8 * i + 8 ≤ length names
 unfolding newest
 found-inside names name i e = whole (length names) i (newest-of (length names / 8) names name i e .below)
 
 -- ---- two lists
 
 -- a new one is this file's newest
-pub own-found : (own lent name : List ℕ) (i : ℕ) → lookUp own lent name ≡ Own i → newest own name ≡ At i
+own-found : (own lent name : List ℕ) (i : ℕ) → lookUp own lent name ≡ Own i → newest own name ≡ At i
 unfolding lookUp
 own-found own lent name i e = by (newest own name) (newest lent name) e
   where
@@ -121,7 +121,7 @@ own-found own lent name i e = by (newest own name) (newest lent name) e
     by Nowhere Nowhere h = cc
 
 -- a lent one is the newest that was lent, and the file has none
-pub lent-found : (own lent name : List ℕ) (i : ℕ) → lookUp own lent name ≡ Lent i → (newest own name ≡ Nowhere) × (newest lent name ≡ At i)
+lent-found : (own lent name : List ℕ) (i : ℕ) → lookUp own lent name ≡ Lent i → (newest own name ≡ Nowhere) × (newest lent name ≡ At i)
 unfolding lookUp
 lent-found own lent name i e = by (newest own name) (newest lent name) e
   where

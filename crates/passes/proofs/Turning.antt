@@ -77,7 +77,7 @@ module _ (file : List ℕ) (g : Inputs) (y : Progress) (map : List ℕ) where
           (sym (ap (λ (r : Ran (Turn Progress Verdict)). r .answer) (turn-block more)) ∙ e)
 
   -- a turn finishes a file at its end alone, and does nothing there
-  pub turn-finished : (z : Progress) → turn file g y map .answer ≡ ends (finished z) → (y ≡ z) × (turn file g y map .events ≡ [])
+  turn-finished : (z : Progress) → turn file g y map .answer ≡ ends (finished z) → (y ≡ z) × (turn file g y map .events ≡ [])
   turn-finished z e = by (eqb (y .cursor .at) (length file)) refl
     where
       stops : (es : List Event) (s : Stop) → judge file y (blockAt file g y) es s ≡ ends (finished z) → ⊥

@@ -31,7 +31,7 @@ added-fits b f v = on-lt (width f) (amountOf b f) v
 
 module _ (b : Bases) where
   -- the adjustments of code that was put down are those of the code
-  pub play-adjustments : (fs : List Field) (a : ℕ) (bs m : List ℕ) → Each (Inside (length bs)) fs → a + length bs ≤ length m
+  play-adjustments : (fs : List Field) (a : ℕ) (bs m : List ℕ) → Each (Inside (length bs)) fs → a + length bs ≤ length m
       → play (adjustments b a fs) (put m a bs) ≡ put m a (edited (added b) fs bs)
   unfolding play adjustments edited
   play-adjustments [] a bs m i l = refl
@@ -104,7 +104,7 @@ laid b ps m = lay (loaded b) b ps m
 
 module _ (b : Bases) where
   -- a piece as it is loaded has its length
-  pub length-loaded : (p : Piece) → length (loaded b p) ≡ size p
+  length-loaded : (p : Piece) → length (loaded b p) ≡ size p
   length-loaded p = length-edited (added b) (p .fields) (p .code)
 
   -- memory stays as long as it was

@@ -26,7 +26,7 @@ use Rattle.pieces.specs.declared.Bases.{Bases}
 
 module _ (l : List ℕ) (a n v : ℕ) where
   -- what holds of the mark and held before holds after
-  pub fill-keeps : (P : ℕ → Type 0) (x : ℕ) → a + n ≤ length l → P v → P (getD l x 0) → P (getD (put l a (replicate n v)) x 0)
+  fill-keeps : (P : ℕ → Type 0) (x : ℕ) → a + n ≤ length l → P v → P (getD l x 0) → P (getD (put l a (replicate n v)) x 0)
   fill-keeps P x h p q = by (within? a n x)
     where
       by : Dec (Within a n x) → P (getD (put l a (replicate n v)) x 0)
@@ -41,19 +41,19 @@ shaded [] bs = bs
 shaded (f ∷ fs) bs = shaded fs (put bs (f .index) (replicate (width f) 3))
 
 -- it is as long as it was
-pub length-shaded : (fs : List Field) (bs : List ℕ) → length (shaded fs bs) ≡ length bs
+length-shaded : (fs : List Field) (bs : List ℕ) → length (shaded fs bs) ≡ length bs
 unfolding shaded
 length-shaded [] bs = refl
 length-shaded (f ∷ fs) bs = length-shaded fs _ ∙ length-put bs (f .index) (replicate (width f) 3)
 
 -- a byte in no field keeps its mark
-pub shaded-plain : (fs : List Field) (bs : List ℕ) (j : ℕ) → Each (λ f. ¬ In j f) fs → getD (shaded fs bs) j 0 ≡ getD bs j 0
+shaded-plain : (fs : List Field) (bs : List ℕ) (j : ℕ) → Each (λ f. ¬ In j f) fs → getD (shaded fs bs) j 0 ≡ getD bs j 0
 unfolding shaded
 shaded-plain [] bs j h = refl
 shaded-plain (f ∷ fs) bs j h = shaded-plain fs _ j (h .1) ∙ fill-outside bs (f .index) (width f) 3 j (h .0)
 
 -- what holds of 3 and of a mark before holds of the mark after
-pub shaded-keeps : (P : ℕ → Type 0) (fs : List Field) (bs : List ℕ) (j : ℕ) → Each (Inside (length bs)) fs → P 3 → P (getD bs j 0)
+shaded-keeps : (P : ℕ → Type 0) (fs : List Field) (bs : List ℕ) (j : ℕ) → Each (Inside (length bs)) fs → P 3 → P (getD bs j 0)
     → P (getD (shaded fs bs) j 0)
 unfolding shaded
 shaded-keeps P [] bs j i p q = q
@@ -62,7 +62,7 @@ shaded-keeps P (f ∷ fs) bs j i p q =
     shaded-keeps P fs _ j (rw e (i .1)) p (fill-keeps bs (f .index) (width f) 3 P j (i .0) p q)
 
 -- a byte in a field is marked 3
-pub shaded-fields : (fs : List Field) (bs : List ℕ) → Each (Inside (length bs)) fs → Each (λ f. (j : ℕ) → In j f → getD (shaded fs bs) j 0 ≡ 3) fs
+shaded-fields : (fs : List Field) (bs : List ℕ) → Each (Inside (length bs)) fs → Each (λ f. (j : ℕ) → In j f → getD (shaded fs bs) j 0 ≡ 3) fs
 unfolding shaded
 shaded-fields [] bs i = tt
 shaded-fields (f ∷ fs) bs i =
@@ -76,7 +76,7 @@ abbrev pub shade : Piece → List ℕ
 shade p = shaded (p .fields) (replicate (size p) 1)
 
 -- they are as many as its bytes
-pub length-shade : (p : Piece) → length (shade p) ≡ size p
+length-shade : (p : Piece) → length (shade p) ≡ size p
 length-shade p = length-shaded (p .fields) (replicate (size p) 1) ∙ length-run (size p) 1
 
 -- ---- the map of pieces
@@ -94,7 +94,7 @@ module _ (b : Bases) where
       ∙ marks-adjustments fs a (put bs (f .index) ts) m (rw e (i .1))
 
   -- the events leave the marks of each piece at its place
-  pub marks-laid : (ps : List Piece) (m : List ℕ) → Each (λ p. Each (Inside (size p)) (p .fields)) ps → marks (events b ps) m ≡ lay shade b ps m
+  marks-laid : (ps : List Piece) (m : List ℕ) → Each (λ p. Each (Inside (size p)) (p .fields)) ps → marks (events b ps) m ≡ lay shade b ps m
   unfolding events marks lay
   marks-laid [] m i = refl
   marks-laid (p ∷ ps) m i =
@@ -158,7 +158,7 @@ module _ (b : Bases) where
 -- ---- what the checks say
 
 -- every address of a part that is all zero holds 0
-pub clear-at : (l : List ℕ) (a n x : ℕ) → allZero (part l a n) ≡ true → Within a n x → getD l x 0 ≡ 0
+clear-at : (l : List ℕ) (a n x : ℕ) → allZero (part l a n) ≡ true → Within a n x → getD l x 0 ≡ 0
 clear-at l a n x e w =
     let y : a + (x - a) ≡ x = omega arith in
     ap (λ (k : ℕ). getD l k 0) (sym y) ∙ sym (part-at l a n (x - a) (omega arith)) ∙ zero-at (part l a n) e (x - a)

@@ -87,7 +87,7 @@ unfolding call load judged admitting need
 asked-judged file g x b a = rw (a .lengths, a .buffers, a .settings, le-leb _ _ (a .fits)) refl
 
 -- the lengths are right, memory's among them, and so are the settings
-pub asked-sized : {file : List ℕ} {g : Inputs} {x : Bool} {b : Buffers} → Asked file g x b → x && sized g b ≡ true
+asked-sized : {file : List ℕ} {g : Inputs} {x : Bool} {b : Buffers} → Asked file g x b → x && sized g b ≡ true
 asked-sized a = rw (a .lengths, a .buffers) refl
 
 pub asked-memory : (file : List ℕ) (g : Inputs) (x : Bool) (b : Buffers) → Asked file g x b → length (b .memory) ≡ 65536

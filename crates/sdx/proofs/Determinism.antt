@@ -1,4 +1,4 @@
--- A refused call changes no memory, and two benches hold the same program: specs/Determinism.antt, of every call that keeps the contract.
+-- A refused call changes no memory, and two machines hold the same program: specs/Determinism.antt, of every call that keeps the contract.
 -- Assumes nothing.
 use mathlib.Core.Bool.{Bool, true, false, _&&_, false≢true}
 use mathlib.Core.List.{List, _∷_, _++_}
@@ -84,7 +84,7 @@ call-refused file g right b b′ r d fault offset side e =
       other = map-late file g right b b′ r d fault offset side e right refl;
     }
 
--- ---- two benches
+-- ---- two machines
 
 -- with the right buffers a call is a load
 call-load : (file : List ℕ) (g : Inputs) (right : Bool) → right ≡ true → call file g right ≡ load file g

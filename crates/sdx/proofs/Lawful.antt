@@ -92,7 +92,7 @@ write-none (reserve a n) m x h = refl
 write-none (adjust width a amount) m x h = change-outside width (on width amount) m a x h
 
 -- nor does it change where none of the events writes it
-pub play-unwritten : (es : List Event) (m : List ℕ) (x : ℕ) → Each (λ e. ¬ Writes x e) es → getD (play es m) x 0 ≡ getD m x 0
+play-unwritten : (es : List Event) (m : List ℕ) (x : ℕ) → Each (λ e. ¬ Writes x e) es → getD (play es m) x 0 ≡ getD m x 0
 unfolding play
 play-unwritten [] m x h = refl
 play-unwritten (e ∷ es) m x h = play-unwritten es (playOne e m) x (h .1) ∙ write-none e m x (h .0)
@@ -118,7 +118,7 @@ write-unplaced (adjust width a amount) p x h w n t = by (decLe x a)
     by (no s) = let e : x ≡ a + 1 = omega (arith, h .0, t) in n (ap (λ (y : ℕ). getD p y 0) e ∙ h .3)
 
 -- a field lies in bytes that were placed: where the map has no 1 and no event places a byte, none writes it
-pub unplaced-unwritten : (es : List Event) (p : List ℕ) (x : ℕ) → length p ≡ 65536 → Lawful p es → (getD p x 0 ≡ 1 → ⊥)
+unplaced-unwritten : (es : List Event) (p : List ℕ) (x : ℕ) → length p ≡ 65536 → Lawful p es → (getD p x 0 ≡ 1 → ⊥)
     → Each (λ e. ¬ Places x e) es → Each (λ e. ¬ Writes x e) es
 unplaced-unwritten [] p x l h n w = tt
 unplaced-unwritten (e ∷ es) p x l h n w = (
@@ -190,7 +190,7 @@ marked [] p x l h f = since-before f tt
 marked (e ∷ es) p x l h f = marked-on e es p x l (h .0) (marked es (markOne e p) x (length-markOne e p ∙ l) (h .1) f)
 
 -- a byte marked 1 after lawful events from a clear map was put by a block, and not written since
-pub marked-put : (es : List Event) (x : ℕ) → Lawful blank es → getD (marks es blank) x 0 ≡ 1 → (byte : ℕ) × Put es x byte
+marked-put : (es : List Event) (x : ℕ) → Lawful blank es → getD (marks es blank) x 0 ≡ 1 → (byte : ℕ) × Put es x byte
 marked-put es x h f = by (marked es blank x length-blank h f)
   where
     by : Marked blank es x → (byte : ℕ) × Put es x byte
