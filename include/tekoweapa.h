@@ -3,12 +3,12 @@
  * Every function takes whatever comes and ends with a number: 0 for an acceptance, else the first fault (enum tkw_number). A buffer is a
  * pointer and its length in bytes. A length may be wrong, and the call is then refused with 1, but the pointer must be good for that many
  * bytes; an empty buffer may be NULL. No alignment is asked for. No two buffers of one call may overlap: nothing checks that, and every
- * promise rests on it. Nothing is kept between calls, and what map, scratch and the rooms for new names held before decides nothing.
+ * promise rests on it. Nothing is kept between calls, and what map, scratch and the new-name buffers held before decides nothing.
  *
  * What a call leaves:
- *   accepted     memory, map and the rooms for new names as the file says, every other byte of memory as before; the scratch all zero
+ *   accepted     memory, map and the new-name buffers as the file says, every other byte of memory as before; the scratch all zero
  *   refused, 1   every buffer but the answer as before
- *   refused, 2+  memory and the rooms for new names as before; map and scratch all zero
+ *   refused, 2+  memory and the new-name buffers as before; map and scratch all zero
  * The answer is written each time, unless its own length is wrong: then it too is as before.
  *
  * The code behind these functions is proved to keep these promises, and says them in full: crates/calls.
@@ -92,8 +92,8 @@ enum { TKW_DEFAULT_LOW = 7936, TKW_DEFAULT_HIGH = 39936, TKW_DEFAULT_MAIN_BASE =
 
 /* Loads an SDX file. Relocatable blocks go to low and upwards, up to high (low <= high <= 65535). The known names are known_names_length / 8
  * names of eight bytes, with as many addresses beside them, two bytes each, low byte first (an odd length is 1). The file's own names come
- * before the known ones, and of equal names the newest holds. New names and their addresses stand in their rooms in file order, and the rest
- * of the rooms is zero. */
+ * before the known ones, and of equal names the newest holds. New names and their addresses stand in their buffers in file order, and the rest
+ * of the buffers is zero. */
 uint32_t tkw_sdx_load(const uint8_t *file, size_t file_length, uint32_t low, uint32_t high,
                       const uint8_t *known_names, size_t known_names_length,
                       const uint8_t *known_addresses, size_t known_addresses_length,
@@ -103,11 +103,11 @@ uint32_t tkw_sdx_load(const uint8_t *file, size_t file_length, uint32_t low, uin
 
 /* The same with the default low and high. */
 uint32_t tkw_sdx_load_default(const uint8_t *file, size_t file_length,
-                            const uint8_t *known_names, size_t known_names_length,
-                            const uint8_t *known_addresses, size_t known_addresses_length,
-                            uint8_t *memory, size_t memory_length, uint8_t *map, size_t map_length,
-                            uint8_t *new_names, size_t new_names_length, uint8_t *new_addresses, size_t new_addresses_length,
-                            uint8_t *answer, size_t answer_length);
+                              const uint8_t *known_names, size_t known_names_length,
+                              const uint8_t *known_addresses, size_t known_addresses_length,
+                              uint8_t *memory, size_t memory_length, uint8_t *map, size_t map_length,
+                              uint8_t *new_names, size_t new_names_length, uint8_t *new_addresses, size_t new_addresses_length,
+                              uint8_t *answer, size_t answer_length);
 
 /* Loads an ACX file in disk form (0) or device form (1) at a main base of 0 to 65535 and a zero-page base of 0 to 255. */
 uint32_t tkw_acx_load(uint32_t form, const uint8_t *file, size_t file_length, uint32_t main_base, uint32_t zero_base,
@@ -116,8 +116,8 @@ uint32_t tkw_acx_load(uint32_t form, const uint8_t *file, size_t file_length, ui
 
 /* The same at the default bases. */
 uint32_t tkw_acx_load_default(uint32_t form, const uint8_t *file, size_t file_length,
-                            uint8_t *memory, size_t memory_length, uint8_t *map, size_t map_length,
-                            uint8_t *answer, size_t answer_length);
+                              uint8_t *memory, size_t memory_length, uint8_t *map, size_t map_length,
+                              uint8_t *answer, size_t answer_length);
 
 /* Moves an ACX handler that lives in memory at the old bases to the new ones: its bytes as they are now, its address fields adjusted from
  * their current contents. Refused as a load at the old bases would be (side 0), then as one at the new (side 1). Answer and map are those of a

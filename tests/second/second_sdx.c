@@ -383,11 +383,11 @@ uint32_t second_sdx_load(const uint8_t *file, size_t file_length, uint32_t low, 
 
 /* "Short calls of the two loaders, with form and buffers still given, take low 7,936, high 39,936" */
 uint32_t second_sdx_load_default(const uint8_t *file, size_t file_length,
-                               const uint8_t *known_names, size_t known_names_length,
-                               const uint8_t *known_addresses, size_t known_addresses_length,
-                               uint8_t *memory, size_t memory_length, uint8_t *map, size_t map_length,
-                               uint8_t *new_names, size_t new_names_length, uint8_t *new_addresses, size_t new_addresses_length,
-                               uint8_t *answer, size_t answer_length)
+                                 const uint8_t *known_names, size_t known_names_length,
+                                 const uint8_t *known_addresses, size_t known_addresses_length,
+                                 uint8_t *memory, size_t memory_length, uint8_t *map, size_t map_length,
+                                 uint8_t *new_names, size_t new_names_length, uint8_t *new_addresses, size_t new_addresses_length,
+                                 uint8_t *answer, size_t answer_length)
 {
     return second_sdx_load(file, file_length, 7936, 39936, known_names, known_names_length, known_addresses, known_addresses_length,
                            memory, memory_length, map, map_length, new_names, new_names_length, new_addresses, new_addresses_length,

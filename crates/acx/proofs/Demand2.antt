@@ -33,7 +33,7 @@ use Rattle.acx.specs.Walk.{Verdict, accepted, refused, atOnce, judged, r
 use Rattle.pieces.specs.declared.Bases.{Bases}
 use Rattle.acx.specs.declared.Form.{Form}
 
--- the pieces of an accepted file make a handler
+-- the pieces of an accepted file are well placed
 pub well-placed-of : (form : Form) (file : List ℕ) (b : Bases) (ps : List Piece) (start : Start) → judged form file b .answer ≡ accepted ps start
     → WellPlaced file b ps
 well-placed-of form file b ps start e = placed-well file b form ps start e .held .0
@@ -53,7 +53,7 @@ adjusted-total b (p ∷ ps) =
     adjusted-append (events b ps) (place (placeOf b p) (p .code) ∷ adjustments b (placeOf b p) (p .fields))
     ∙ omega (arith, adjusted-total b ps, adjusted-adjustments b (placeOf b p) (p .fields))
 
--- what the events of a handler make of memory and map
+-- what the events of well-placed pieces make of memory and map
 loads : (file : List ℕ) (b : Bases) (ps : List Piece) (at : ℕ) (m : List ℕ) → WellPlaced file b ps → at ≤ length file
     → Stands b (record { at = at; pieces = ps })
     → length m ≡ 65536 → Demand2 file b ps m (play (events b ps) m) (marks (events b ps) blank) (placedIn (events b ps)) (adjustedIn (events b ps))

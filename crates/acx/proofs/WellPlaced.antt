@@ -1,4 +1,4 @@
--- The pieces of a file so far make a handler: every record that passes keeps it so.
+-- The pieces of a file so far are well placed: every record that passes keeps it so.
 -- Assumes nothing.
 use mathlib.Core.List.{List, [], _∷_}
 use mathlib.Core.Path.{_≡_, sym, ap}
@@ -88,7 +88,7 @@ module _ (file : List ℕ) (b : Bases) where
   well-placed-on s (End entry next) h e o c = absurd o
   well-placed-on s (Faulty fault) h e o c = absurd o
 
-  -- an accepted file: its pieces make a handler, what was placed and adjusted is in its bytes, and its events are those of the pieces
+  -- an accepted file: its pieces are well placed, what was placed and adjusted is in its bytes, and its events are those of the pieces
   pub placed-well : (form : Form) (ps : List Piece) (start : Start) → judged form file b .answer ≡ accepted ps start
       → EndedAt (λ s. WellPlaced file b (s .pieces) × Stands b s) file b ps (judged form file b .events)
   placed-well form ps start e =

@@ -1,5 +1,5 @@
 -- A file, record by record: "Then records to the end record".
--- The records are a walk by turns (`events`, specs/Walk.antt), one record to a turn.
+-- The records are a walk by turns (`events`, specs/Walk.antt), one record to a turn; `from-turn` (proofs/Walks.antt there) is the equation to read.
 -- Assumes nothing.
 use mathlib.Core.List.{List, [], _∷_, _++_}
 use Prim.Native.Nat.{ℕ, _+_}
@@ -65,7 +65,7 @@ lastSize (p ∷ ps) = size p
 abbrev pub recordAt : List ℕ → Progress → Record
 recordAt file s = read file (s .at) (lastOf (s .pieces))
 
--- what it comes to at the bases, over the map so far
+-- what it comes to at the bases, over a map
 unfoldable pub checked : List ℕ → Bases → Progress → List ℕ → Ran Check
 checked file b s map = applied file b (lastPlace b (s .pieces)) (lastSize (s .pieces)) (recordAt file s) map
 
@@ -82,7 +82,7 @@ stepped file s (Fixups fixup from n) = record { at = from + n; pieces = withFiel
 stepped file s (End entry next) = s
 stepped file s (Faulty fault) = s
 
--- where a record leads: on, to the end of the file, or there at its fault
+-- where a record leads: on to the next; or the walk ends, accepted at the end record, refused at a fault
 abbrev pub judge : List ℕ → Bases → Progress → Check → Record → Turn Progress Verdict
 judge file b s (Failed fault) r = ends (refused fault (s .at))
 judge file b s Passed (Code kind address from n) = leads (stepped file s (Code kind address from n))
@@ -97,7 +97,7 @@ turn file b s map =
 
 -- ---- the walk
 
--- the records from some progress on
+-- the records from some progress on, over a map
 unfoldable pub recordsFrom : List ℕ → Bases → Progress → List ℕ → Ran Verdict
 recordsFrom file b s map = from (turn file b) (λ z. refused CutShort (z .at)) (λ z. bytesLeft file (z .at)) s map
 

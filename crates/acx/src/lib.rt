@@ -108,7 +108,7 @@ pub fn opening_size(form: Form) -> usize
 }
 
 // The cursor of a walk that begins at `at`.
-pub fn begin(at: usize) -> Cursor
+pub fn first_cursor(at: usize) -> Cursor
     ensures { λ r. ⌜ r ≡ firstCursor at ⌝ }
 {
     Cursor {
@@ -245,7 +245,7 @@ fn walk(
     requires { ⌜ (length (now file) ≤ 65536) × (at ≤ length (now file)) × (length (now memory) ≡ 65536) × (length (now map) ≡ 65536) × (now map ≡ blank) ⌝ }
     ensures { λ r. ⌜ Did Outcome (reported (recordsOf (now (file .entry)) bases at)) write (now (memory .entry)) blank r (now (memory .exit)) (now (map .exit)) ⌝ }
 {
-    let mut cursor = begin(at);
+    let mut cursor = first_cursor(at);
     loop {
         let last = cursor.last;
         let found = records::read(file, cursor.at, last);

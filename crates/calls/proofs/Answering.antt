@@ -1,4 +1,4 @@
--- A call with an answer to write does what the loader or the mover does, and tells it; one without does nothing, and is refused with 1.
+-- A call with an answer to write does what the loader or the mover does, and writes the answer; one without does nothing, and is refused with 1.
 -- Assumes nothing.
 use mathlib.Core.Bool.{true, false, _&&_}
 use mathlib.Core.List.{List}
@@ -51,7 +51,7 @@ module _ {form : ℕ} {b : Bases} {file m p a : List ℕ} {r : ℕ} where
         answered = unanswered a r h e;
       }
 
-  -- else what the loader did is told
+  -- else what the loader did is answered
   pub acx-answered : {o : Outcome} {m′ p′ a′ : List ℕ} → length a ≡ 36 → Loaded form b file (sized m p) m p o m′ p′ → Answered o a r a′
       → AcxCalled form b file m p a r m′ p′ a′
   acx-answered {o} h d t = record { outcome = o; loaded = rw (eq-eqb _ _ h) d; answered = t }

@@ -14,7 +14,7 @@ use Rattle.answer.specs.declared.Outcome.{Outcome}
 abbrev pub answerSized : List ℕ → Bool
 answerSized answer = eqb (length answer) answerLength
 
--- How a call answers with its outcome: it found the answer a, and returns r and leaves a′.
+-- What a call returns and writes as its answer: it had this outcome and found the answer a, and returns r and leaves a′.
 pub record Answered (outcome : Outcome) (a : List ℕ) (r : ℕ) (a′ : List ℕ) : Type 0 where
   -- "the number is also returned"
   pub returned : r ≡ numberReturned outcome

@@ -20,7 +20,7 @@ use Rattle.updates.specs.Bodies.{Stop, broken, done, counted}
 use Rattle.words.proofs.Runs.{length-part}
 use Rattle.updates.specs.declared.Ended.the-variants.{Broken, Done}
 use Rattle.effects.proofs.NewNames.{behind}
-use Rattle.effects.specs.Effects.{placedBy, carried, advanced, firstCursor}
+use Rattle.effects.specs.Effects.{placedBy, applied, advanced, firstCursor}
 
 -- a block that is carried out ends further on, in the file, and as many bytes further on at least as it places and as it adjusts
 pub record Ends (len at next : ℕ) (es : List Event) : Type 0 where
@@ -29,37 +29,37 @@ pub record Ends (len at next : ℕ) (es : List Event) : Type 0 where
   pub behind : at + placedIn es + adjustedIn es ≤ next
 
 -- it does so whatever its kind
-pub carried-ends : (file lent own : List ℕ) (c : Cursor) (b : Block) (map : List ℕ) (n k : ℕ) → Fits (length file) c n k b → (next : ℕ)
-    → carried file lent own c b map .answer ≡ done next → Ends (length file) (c .at) next (carried file lent own c b map .events)
+pub applied-ends : (file lent own : List ℕ) (c : Cursor) (b : Block) (map : List ℕ) (n k : ℕ) → Fits (length file) c n k b → (next : ℕ)
+    → applied file lent own c b map .answer ≡ done next → Ends (length file) (c .at) next (applied file lent own c b map .events)
 unfolding placedIn adjustedIn
-carried-ends file lent own c (Plain address from size) map n k f next e =
+applied-ends file lent own c (Plain address from size) map n k f next e =
     let l = f .lies in
     let t : from + size ≡ next = done-same e in
     let s = length-part file from size (l .1) in
     record { further = omega (arith, l .0); inside = omega (arith, l .1); behind = omega (arith, l .0) }
-carried-ends file lent own c (Relocatable true number offset from size) map n k f next e =
+applied-ends file lent own c (Relocatable true number offset from size) map n k f next e =
     let l = f .lies in
     let t : from ≡ next = done-same e in
     record { further = omega (arith, l .0); inside = omega (arith, l .1); behind = omega (arith, l .0) }
-carried-ends file lent own c (Relocatable false number offset from size) map n k f next e =
+applied-ends file lent own c (Relocatable false number offset from size) map n k f next e =
     let l = f .lies in
     let t : from + size ≡ next = done-same e in
     let s = length-part file from size (l .1) in
     record { further = omega (arith, l .0); inside = omega (arith, l .1); behind = omega (arith, l .0) }
-carried-ends file lent own c (Update source from) map n k f next e =
+applied-ends file lent own c (Update source from) map n k f next e =
     let l = f .lies in
     let amount = amountOf (c .table) lent own source in
     let b = body-bounds file (c .table) amount from map (l .1) next e in
     let p = body-places-none file (c .table) amount from map in
     record { further = omega (arith, b .0, l .0); inside = b .1; behind = omega (arith, b .2, p, l .0) }
-carried-ends file lent own c (NewName from address) map n k f next e =
+applied-ends file lent own c (NewName from address) map n k f next e =
     let l = f .lies in
     let t : from + 8 ≡ next = done-same e in
     record { further = omega (arith, l .0); inside = omega (arith, l .1); behind = omega (arith, l .0) }
-carried-ends file lent own c (Faulty fault) map n k f next e = absurd (broken-done e)
+applied-ends file lent own c (Faulty fault) map n k f next e = absurd (broken-done e)
 
 -- and there the cursor stands
-pub advanced-at : (file lent own : List ℕ) (c : Cursor) (b : Block) (map : List ℕ) (next : ℕ) → carried file lent own c b map .answer ≡ done next
+pub advanced-at : (file lent own : List ℕ) (c : Cursor) (b : Block) (map : List ℕ) (next : ℕ) → applied file lent own c b map .answer ≡ done next
     → advanced c b next .at ≡ next
 advanced-at file lent own c (Plain address from size) map next e = refl
 advanced-at file lent own c (Relocatable reserves number offset from size) map next e = refl
@@ -84,7 +84,7 @@ behind-on len c d es fs x h =
 
 -- what a block carried out places is what its kind says
 pub placed-by : (file lent own : List ℕ) (c : Cursor) (b : Block) (map : List ℕ) (n k : ℕ) → Fits (length file) c n k b → (next : ℕ)
-    → carried file lent own c b map .answer ≡ done next → placedIn (carried file lent own c b map .events) ≡ placedBy b
+    → applied file lent own c b map .answer ≡ done next → placedIn (applied file lent own c b map .events) ≡ placedBy b
 unfolding placedIn
 placed-by file lent own c (Plain address from size) map n k f next e = let l = length-part file from size (f .lies .1) in omega (arith, l)
 placed-by file lent own c (Relocatable true number offset from size) map n k f next e = refl

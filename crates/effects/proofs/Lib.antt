@@ -1,4 +1,4 @@
 -- Laws about the definitions of specs/.
-pub mod Carrying
+pub mod Applying
 pub mod Ending
 pub mod NewNames

@@ -8,7 +8,7 @@ use Rattle.blocks.specs.Blocks.{dataSize, amountOf}
 use Rattle.blocks.specs.declared.Block.{Block}
 use Rattle.blocks.specs.declared.Block.the-variants.{Plain, Relocatable, Update, NewName, Faulty}
 use Rattle.blocks.specs.declared.Cursor.{Cursor}
-use Rattle.events.specs.Events.{place, reserve, Ran}
+use Rattle.events.specs.Events.{Event, place, reserve, Ran}
 use Rattle.items.specs.Items.{emptySlot}
 use Rattle.names.specs.Names.{nameSize}
 use Rattle.updates.specs.Bodies.{Stop, broken, done, body}
@@ -24,12 +24,18 @@ placingRelocatable true file low from size = record { answer = done from; events
 placingRelocatable false file low from size = placing file low from size
 
 -- what a block does, with the lent addresses and those of the file's own names, over the map as the blocks before it left it; and where it ends
-abbrev pub carried : List ℕ → List ℕ → List ℕ → Cursor → Block → List ℕ → Ran Stop
-carried file lent own c (Plain address from size) map = placing file address from size
-carried file lent own c (Relocatable reserves number offset from size) map = placingRelocatable reserves file (c .low) from size
-carried file lent own c (Update source from) map = body file (c .table) (amountOf (c .table) lent own source) from map
-carried file lent own c (NewName from address) map = record { answer = done (from + nameSize); events = [] }
-carried file lent own c (Faulty fault) map = record { answer = broken fault; events = [] }
+abbrev pub applied : List ℕ → List ℕ → List ℕ → Cursor → Block → List ℕ → Ran Stop
+applied file lent own c (Plain address from size) map = placing file address from size
+applied file lent own c (Relocatable reserves number offset from size) map = placingRelocatable reserves file (c .low) from size
+applied file lent own c (Update source from) map = body file (c .table) (amountOf (c .table) lent own source) from map
+applied file lent own c (NewName from address) map = record { answer = done (from + nameSize); events = [] }
+applied file lent own c (Faulty fault) map = record { answer = broken fault; events = [] }
+
+-- what a block did: where it begins, what it says (a body with what its words grow by: a block, a lent name, a name of the file), its events
+pub record Effect : Type 0 where
+  pub at : ℕ
+  pub block : Block
+  pub events : List Event
 
 -- the cursor before the first block
 abbrev pub firstCursor : ℕ → Cursor

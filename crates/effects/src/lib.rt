@@ -1,4 +1,4 @@
-// One block of an SDX file carried out: data placed, room reserved, words adjusted, a new name noted; and the cursor after it.
+// One block of an SDX file carried out: data placed, room reserved, words adjusted, a new name stored; and the cursor after it.
 use blocks::Block;
 use blocks::Cursor;
 use items::Slot;
@@ -10,11 +10,11 @@ ghost use Rattle.blocks.specs.Blocks.{dataSize};
 ghost use Rattle.blocks.specs.Bounds.{InMemory, Fits};
 ghost use Rattle.events.specs.Events.{Did};
 ghost use Rattle.updates.specs.Bodies.{ended};
-ghost use Rattle.effects.specs.Effects.{placing, placingRelocatable, carried, firstCursor, movedOn, withBlock, advanced, placedBy};
+ghost use Rattle.effects.specs.Effects.{placing, placingRelocatable, applied, firstCursor, movedOn, withBlock, advanced, placedBy};
 ghost use Rattle.effects.specs.Parts.{NameFits, RoomFits, NameStored};
 
 // The cursor before the first block.
-pub fn first(low: u16) -> Cursor
+pub fn first_cursor(low: u16) -> Cursor
     ensures { λ r. ⌜ r ≡ firstCursor low ⌝ }
 {
     let empty = Slot {
@@ -32,8 +32,8 @@ pub fn first(low: u16) -> Cursor
     }
 }
 
-// Carries out a block, in the map and, where `write` is true, in memory.
-pub fn carry_out(
+// Applies a block: carries it out in the map and, where `write` is true, in memory.
+pub fn apply(
     file: &[u8],
     found: Block,
     cursor: Cursor,
@@ -44,7 +44,7 @@ pub fn carry_out(
     map: &mut [u8],
 ) -> Ended
     requires { ⌜ (length (now file) ≤ 65536) × InMemory found × Fits (length (now file)) cursor (length (now lent)) (length (now own)) found × (length (now memory) ≡ 65536) × (length (now map) ≡ 65536) ⌝ }
-    ensures { λ r. ⌜ Did Ended (ended (carried (now (file .entry)) (now (lent .entry)) (now (own .entry)) cursor found (now (map .entry)))) write (now (memory .entry)) (now (map .entry)) r (now (memory .exit)) (now (map .exit)) ⌝ }
+    ensures { λ r. ⌜ Did Ended (ended (applied (now (file .entry)) (now (lent .entry)) (now (own .entry)) cursor found (now (map .entry)))) write (now (memory .entry)) (now (map .entry)) r (now (memory .exit)) (now (map .exit)) ⌝ }
 {
     match found {
         Block::Plain {
@@ -72,7 +72,7 @@ pub fn carry_out(
     }
 }
 
-// Notes the name that a block brings, behind those before it.
+// Stores the name that a block brings, behind those before it.
 pub fn store_name(
     file: &[u8],
     found: Block,

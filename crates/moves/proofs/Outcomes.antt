@@ -21,7 +21,7 @@ use Rattle.pieces.specs.Pieces.{Piece}
 use Rattle.pieces.specs.declared.Bases.{Bases}
 use Rattle.words.specs.Runs.{Bytes}
 use Rattle.moves.proofs.Demand3.{demand3}
-use Rattle.moves.proofs.Rulings.{allows-is, accepted-allows, ruling-allows, memory-moved, report-told}
+use Rattle.moves.proofs.Rulings.{allows-is, accepted-allows, ruling-allows, memory-moved, report-is}
 use Rattle.moves.proofs.Transfers.{stays}
 use Rattle.moves.specs.Call.{Call, piecesOf, Ruling, allows, refuses, sides, beforehand, rulingOf, sized, ruling, outcomeBy, memoryBy, mapBy, outcomeOf, memoryAfter, mapAfter, scratchAfter, Moved}
 use Rattle.moves.specs.Demand3.{afterCalls, reached, ifAllowed, last, Linked, Chained, Report, Memory, Demand3}
@@ -49,7 +49,7 @@ call-accepted file c m r m′ p′ s′ w b y start placed adjusted names low e 
     let is = allows-is (ruling file c m) (accepted-allows (load (c .form) (c .new) file) (ruling file c m) (sym (w .outcome) ∙ e)) in
     let x = ruling-allows file c m ps is in
     let d = only file c m b y ps is in
-    let told-here = report-told file c m ps x in
+    let report-here = report-is file c m ps x in
     record {
       pieces = ps;
       at-old = x .old;
@@ -60,8 +60,8 @@ call-accepted file c m r m′ p′ s′ w b y start placed adjusted names low e 
           ∙ stays file (c .form) ps (c .old) (c .new) (x .old) (x .new) m (y .0) a h;
       as-load = λ k q t k′ q′ f.
           let g = loaded-right refl f in (
-            w .outcome ∙ ap (λ (z : Report). z .outcome) told-here ∙ sym (g .0),
-            w .map ∙ ap (λ (z : Report). z .map) told-here ∙ sym (g .2),
+            w .outcome ∙ ap (λ (z : Report). z .outcome) report-here ∙ sym (g .0),
+            w .map ∙ ap (λ (z : Report). z .map) report-here ∙ sym (g .2),
           );
       scratch = w .scratch ∙ ap (λ (t : Bool). pick t blank (c .scratch)) (x .buffers);
     }
@@ -118,7 +118,7 @@ module _ (file : List ℕ) (c : Call) (m : List ℕ) (r : Outcome) (m′ p′ s�
         let ef : fault ≡ f = ap faultIn is in
         let ea : offset ≡ a = ap offsetIn is in
         let en : side ≡ n = ap sideIn is in
-        let told : refused f a ≡ refused fault offset = sym (ap (λ (k : Fault). refused k offset) ef ∙ ap (refused f) ea) in
+        let reported : refused f a ≡ refused fault offset = sym (ap (λ (k : Fault). refused k offset) ef ∙ ap (refused f) ea) in
         record {
           memory = w .memory ∙ ap (λ (v : Ruling). memoryBy (c .old) (c .new) v m) er;
           wrong-buffer = λ k. absurd (late (sym ef ∙ k));
@@ -126,8 +126,8 @@ module _ (file : List ℕ) (c : Call) (m : List ℕ) (r : Outcome) (m′ p′ s�
             w .map ∙ ap (λ (t : Bool). pick t (mapBy o (ruling file c m)) (c .map)) h ∙ ap (mapBy o) er,
             w .scratch ∙ ap (λ (t : Bool). pick t blank (c .scratch)) h,
           );
-          at-old = λ k s. old (sym en ∙ s) ∙ told;
-          at-new = λ s. new (sym en ∙ s) ∙ told;
+          at-old = λ k s. old (sym en ∙ s) ∙ reported;
+          at-new = λ s. new (sym en ∙ s) ∙ reported;
           either = omega (arith, en, le);
         }
 

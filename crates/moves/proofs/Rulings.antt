@@ -169,8 +169,8 @@ one-allowed file form ps a z m n h k c o =
 -- ---- what it leaves and reports
 
 -- what a load at the bases reports
-abbrev pub told : List ℕ → ℕ → Bases → Report
-told file form b = record { outcome = reported (load form b file) .answer; map = loadedMap (load form b file .answer) (load form b file .events) }
+abbrev pub reportAt : List ℕ → ℕ → Bases → Report
+reportAt file form b = record { outcome = reported (load form b file) .answer; map = loadedMap (load form b file .answer) (load form b file .events) }
 
 module _ (file : List ℕ) (c : Call) (m : List ℕ) (ps : List Piece) (x : Allowed file c m ps) where
   -- the pieces moved
@@ -179,6 +179,6 @@ module _ (file : List ℕ) (c : Call) (m : List ℕ) (ps : List Piece) (x : Allo
   memory-moved = ap (λ (r : Ruling). memoryBy (c .old) (c .new) r m) (allows-ruling file c m ps x)
 
   -- the report of a load at the new bases
-  pub report-told : report file c m ≡ told file (c .form) (c .new)
+  pub report-is : report file c m ≡ reportAt file (c .form) (c .new)
   unfolding outcomeOf mapAfter pick
-  report-told = rw (allows-ruling file c m ps x, x .buffers) refl
+  report-is = rw (allows-ruling file c m ps x, x .buffers) refl

@@ -1,5 +1,5 @@
--- An SDX load whose address lists are byte pairs (document 01, "What the bench lends", "C calls"): here the addresses of what is given, and of the
--- buffers, are bytes.
+-- An SDX load whose address lists are byte pairs (document 01, "What the bench lends", "C calls"): here the address lists among
+-- the inputs and the buffers are bytes.
 -- Assumes nothing.
 use mathlib.Core.Bool.{Bool, _&&_}
 use mathlib.Core.List.{List}
@@ -22,7 +22,7 @@ paired bytes = eqb (length bytes % 2) 0
 abbrev pub addressesIn : List ℕ → List ℕ
 addressesIn bytes = decoded 2 (length bytes / 2) bytes
 
--- what is given, with the known addresses as words
+-- the inputs, with the known addresses as words
 abbrev pub asWords : Inputs → Inputs
 asWords g = inputs (g .names) (addressesIn (g .addresses)) (g .low) (g .high)
 
@@ -38,7 +38,7 @@ inWords b = withAddresses b (addressesIn (b .addresses))
 abbrev pub bothPaired : Inputs → Buffers → Bool
 bothPaired g b = paired (g .addresses) && paired (b .addresses)
 
--- the room for new addresses after a load that left these words: pairs on an acceptance, and "as they were" on a refusal
+-- the buffer for new addresses after a load that left these words: pairs on an acceptance, and "as they were" on a refusal
 abbrev pub pairsAfter : Outcome → List ℕ → List ℕ → List ℕ
 pairsAfter (Accepted start placed adjusted named low) new bytes = encoded 2 new
 pairsAfter (Refused fault offset side) new bytes = bytes

@@ -1,4 +1,4 @@
--- The end of a load, over plain values: the rest of the buffers cleared, the start, and the walk that only checks.
+-- The end of a load, over plain values: the rest of the new-name buffers cleared, the start, and the walk that only checks.
 -- Assumes nothing.
 use mathlib.Core.Bool.{Bool, true, false}
 use mathlib.Core.List.{List, [], _++_, append-nil}

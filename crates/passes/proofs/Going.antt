@@ -1,4 +1,4 @@
--- The loop of a walk: the definition's walk has come to the cursor, with the memory, the map and the buffers of what it did so far.
+-- The loop of a walk: the definition's walk has come to the cursor, with the buffers as what it did so far left them.
 -- Assumes nothing.
 use mathlib.Core.Bool.{Bool}
 use mathlib.Core.List.{List, [], _∷_, _++_, append-nil}
@@ -22,14 +22,14 @@ use Rattle.updates.specs.declared.Ended.{Ended}
 use Rattle.updates.specs.declared.Ended.the-variants.{Broken, Done}
 use Rattle.words.proofs.Runs.{front-holds}
 use Rattle.words.specs.Runs.{put}
-use Rattle.effects.proofs.Ending.{Ends, carried-ends, advanced-at, Behind, behind-first, behind-on, placed-by, stop-broken, stop-done}
+use Rattle.effects.proofs.Ending.{Ends, applied-ends, advanced-at, Behind, behind-first, behind-on, placed-by, stop-broken, stop-done}
 use Rattle.effects.proofs.NewNames.{front-is, behind, Counted, counted-first, counted-on, Tabled, tabled-first, tabled-on}
-use Rattle.effects.specs.Effects.{placedBy, carried, advanced, nameIn, addressIn, firstCursor}
+use Rattle.effects.specs.Effects.{Effect, placedBy, applied, advanced, nameIn, addressIn, firstCursor}
 use Rattle.effects.specs.Parts.{NameFits, RoomFits, NameStored}
 use Rattle.passes.proofs.Turning.{turn-end, turn-block, block-fits, turn-falls}
 use Rattle.passes.specs.Parts.{totals, Bounded, Walked}
 use Rattle.passes.specs.Buffers.{Buffers, buffers}
-use Rattle.passes.specs.Walk.{stepped, Inputs, Effect, Progress, Verdict, finished, refused, judge, blockAt, carriedAt, turn, blocksFrom, begun, blocksOf}
+use Rattle.passes.specs.Walk.{stepped, Inputs, Progress, Verdict, finished, refused, judge, blockAt, appliedAt, turn, blocksFrom, begun, blocksOf}
 use Rattle.passes.specs.declared.Totals.{Totals}
 use Rattle.passes.specs.declared.WalkEnd.{WalkEnd}
 use Rattle.passes.specs.declared.WalkEnd.the-variants.{Stopped, Finished}
@@ -190,20 +190,20 @@ module _ {file : List ℕ} {g : Inputs} {write : Bool} {b : Buffers} where
 
       -- and so is what it does
       module _ (more : c .at ≡ length file → ⊥) {r : Ended} {m p : List ℕ}
-          (carried-out : Did Ended (ended (carried file (g .addresses) (midOf 0 (c .named - 0) (b′ .addresses)) c found (b′ .map))) write
+          (did : Did Ended (ended (applied file (g .addresses) (midOf 0 (c .named - 0) (b′ .addresses)) c found (b′ .map))) write
           (b′ .memory) (b′ .map) r m p) where
         abbrev o : Ran Stop
-        o = carriedAt file g here (marks (x .events) blank)
+        o = appliedAt file g here (marks (x .events) blank)
 
-        carried-is : carried file (g .addresses) (midOf 0 (c .named - 0) (b′ .addresses)) c found (b′ .map) ≡ o
-        unfolding carriedAt
-        carried-is =
-            ap (λ (l : List ℕ). carried file (g .addresses) l c found (b′ .map)) own-addresses
-            ∙ ap (λ (q : Block). carried file (g .addresses) (x .addresses) c q (b′ .map)) found-is
-            ∙ ap (λ (q : List ℕ). carried file (g .addresses) (x .addresses) c (blockAt file g here) q) (x .reached .map)
+        applied-is : applied file (g .addresses) (midOf 0 (c .named - 0) (b′ .addresses)) c found (b′ .map) ≡ o
+        unfolding appliedAt
+        applied-is =
+            ap (λ (l : List ℕ). applied file (g .addresses) l c found (b′ .map)) own-addresses
+            ∙ ap (λ (q : Block). applied file (g .addresses) (x .addresses) c q (b′ .map)) found-is
+            ∙ ap (λ (q : List ℕ). applied file (g .addresses) (x .addresses) c (blockAt file g here) q) (x .reached .map)
 
         did-is : Did Ended (ended o) write (b′ .memory) (b′ .map) r m p
-        did-is = subst (λ (q : Ran Stop). Did Ended (ended q) write (b′ .memory) (b′ .map) r m p) carried-is carried-out
+        did-is = subst (λ (q : Ran Stop). Did Ended (ended q) write (b′ .memory) (b′ .map) r m p) applied-is did
 
         abbrev turned : Ran (Turn Progress Verdict)
         turned = record { answer = judge file here (blockAt file g here) (o .events) (o .answer); events = o .events }
@@ -244,8 +244,8 @@ module _ {file : List ℕ} {g : Inputs} {write : Bool} {b : Buffers} where
           stopped = stop-done (o .answer) (o .events) next adjusts (sym (did-is .answer) ∙ e)
 
           ends-there : Ends (length file) (c .at) next (o .events)
-          unfolding carriedAt
-          ends-there = carried-ends file (g .addresses) (x .addresses) c (blockAt file g here) _ _ _ (block-fits file g (x .lent .top) here) next (stopped .0)
+          unfolding appliedAt
+          ends-there = applied-ends file (g .addresses) (x .addresses) c (blockAt file g here) _ _ _ (block-fits file g (x .lent .top) here) next (stopped .0)
 
           so-far-then : blocksOf file g
               ≡ after (x .events ++ o .events) (blocksFrom file g then (marks (x .events ++ o .events) blank))
@@ -261,11 +261,11 @@ module _ {file : List ℕ} {g : Inputs} {write : Bool} {b : Buffers} where
               (ap (λ (q : Ran (Turn Progress Verdict)). q .events) t)
 
           at-then : advanced c (blockAt file g here) next .at ≡ next
-          unfolding carriedAt
+          unfolding appliedAt
           at-then = advanced-at file (g .addresses) (x .addresses) c (blockAt file g here) (marks (x .events) blank) next (stopped .0)
 
           placed-then : placedIn (o .events) ≡ placedBy (blockAt file g here)
-          unfolding carriedAt
+          unfolding appliedAt
           placed-then = placed-by file (g .addresses) (x .addresses) c (blockAt file g here) _ _ _ (block-fits file g (x .lent .top) here) next (stopped .0)
 
           -- with fewer bytes left

@@ -17,9 +17,9 @@ use Rattle.events.proofs.Walks.{ends-leads, leads-same, ends-same, walk-keeps}
 use Rattle.events.specs.Events.{Event, marks, blank, Ran}
 use Rattle.events.specs.Walk.{Turn, ends, leads, bytesLeft}
 use Rattle.updates.specs.Bodies.{Stop, broken, done}
-use Rattle.effects.proofs.Ending.{Ends, carried-ends, advanced-at}
+use Rattle.effects.proofs.Ending.{Ends, applied-ends, advanced-at}
 use Rattle.passes.specs.Parts.{progressOf}
-use Rattle.passes.specs.Walk.{Inputs, Progress, Verdict, finished, refused, judge, blockAt, carriedAt, turn, blocksFrom, begun, blocksOf, stepped}
+use Rattle.passes.specs.Walk.{Inputs, Progress, Verdict, finished, refused, judge, blockAt, appliedAt, turn, blocksFrom, begun, blocksOf, stepped}
 
 -- a refusal is no end of a file
 pub refused-finished : {fault : Fault} {y z : Progress} → refused fault y ≡ finished z → ⊥
@@ -31,9 +31,9 @@ refused-finished e = let n : _≡_ {A = ℕ} 0 1 = cc in omega arith
 pub record Led (file : List ℕ) (g : Inputs) (y z : Progress) (map : List ℕ) : Type 0 where
   pub next : ℕ
   pub more : y .cursor .at ≡ length file → ⊥
-  pub done-at : carriedAt file g y map .answer ≡ done next
-  pub leads-to : stepped file y (blockAt file g y) (carriedAt file g y map .events) next ≡ z
-  pub events : turn file g y map .events ≡ carriedAt file g y map .events
+  pub done-at : appliedAt file g y map .answer ≡ done next
+  pub leads-to : stepped file y (blockAt file g y) (appliedAt file g y map .events) next ≡ z
+  pub events : turn file g y map .events ≡ appliedAt file g y map .events
 
 module _ (file : List ℕ) (g : Inputs) (y : Progress) (map : List ℕ) where
   -- at the file's end a turn finishes the walk and does nothing
@@ -45,8 +45,8 @@ module _ (file : List ℕ) (g : Inputs) (y : Progress) (map : List ℕ) where
   pub turn-block : (y .cursor .at ≡ length file → ⊥)
       → turn file g y map
       ≡ record {
-        answer = judge file y (blockAt file g y) (carriedAt file g y map .events) (carriedAt file g y map .answer);
-        events = carriedAt file g y map .events;
+        answer = judge file y (blockAt file g y) (appliedAt file g y map .events) (appliedAt file g y map .answer);
+        events = appliedAt file g y map .events;
       }
   unfolding turn pick
   turn-block h = rw (ne-eqb _ _ h) refl
@@ -55,8 +55,8 @@ module _ (file : List ℕ) (g : Inputs) (y : Progress) (map : List ℕ) where
   pub turn-led : (z : Progress) → turn file g y map .answer ≡ leads z → Led file g y z map
   turn-led z e = by (eqb (y .cursor .at) (length file)) refl
     where
-      stops : (s : Stop) → carriedAt file g y map .answer ≡ s → (y .cursor .at ≡ length file → ⊥)
-          → judge file y (blockAt file g y) (carriedAt file g y map .events) s ≡ leads z
+      stops : (s : Stop) → appliedAt file g y map .answer ≡ s → (y .cursor .at ≡ length file → ⊥)
+          → judge file y (blockAt file g y) (appliedAt file g y map .events) s ≡ leads z
           → Led file g y z map
       stops (broken fault) o h f = absurd (ends-leads f)
       stops (done next) o h f =
@@ -73,7 +73,7 @@ module _ (file : List ℕ) (g : Inputs) (y : Progress) (map : List ℕ) where
           absurd (ends-leads (sym (ap (λ (r : Ran (Turn Progress Verdict)). r .answer) (turn-end (eqb-true _ _ h))) ∙ e))
       by false h =
           let more = eqb-false _ _ h in
-          stops (carriedAt file g y map .answer) refl more
+          stops (appliedAt file g y map .answer) refl more
           (sym (ap (λ (r : Ran (Turn Progress Verdict)). r .answer) (turn-block more)) ∙ e)
 
   -- a turn finishes a file at its end alone, and does nothing there
@@ -92,7 +92,7 @@ module _ (file : List ℕ) (g : Inputs) (y : Progress) (map : List ℕ) where
           )
       by false h =
           absurd
-          (stops _ (carriedAt file g y map .answer)
+          (stops _ (appliedAt file g y map .answer)
           (sym (ap (λ (r : Ran (Turn Progress Verdict)). r .answer) (turn-block (eqb-false _ _ h))) ∙ e))
 
 -- where blocks lie and end, with high below 65,536
@@ -104,10 +104,10 @@ module _ (file : List ℕ) (g : Inputs) (top : g .high ≤ 65535) where
   -- a turn that leads on ends further on, by as many bytes at least as it places and as it adjusts
   pub led-ends : (y z : Progress) (map : List ℕ) → turn file g y map .answer ≡ leads z
       → Ends (length file) (y .cursor .at) (z .cursor .at) (turn file g y map .events)
-  unfolding carriedAt
+  unfolding appliedAt
   led-ends y z map e =
       let l = turn-led file g y map z e in
-      let f = carried-ends file (g .addresses) (y .addresses) (y .cursor) (blockAt file g y) map _ _ (block-fits y) (l .next) (l .done-at) in
+      let f = applied-ends file (g .addresses) (y .addresses) (y .cursor) (blockAt file g y) map _ _ (block-fits y) (l .next) (l .done-at) in
       let a = ap (λ (p : Progress). p .cursor .at) (sym (l .leads-to))
       ∙ advanced-at file (g .addresses) (y .addresses) (y .cursor) (blockAt file g y) map (l .next) (l .done-at) in
       rw (a, l .events) f

@@ -22,12 +22,12 @@ abbrev pub buffers : List ℕ → List ℕ → List ℕ → List ℕ → Buffers
 buffers memory map names addresses = record { memory = memory; map = map; names = names; addresses = addresses }
 
 -- "room for new names, 256 bytes"
-abbrev pub namesRoom : ℕ
-namesRoom = 256
+abbrev pub newNamesLength : ℕ
+newNamesLength = 256
 
 -- "beside 32 addresses of 16 bits"
-abbrev pub addressesRoom : ℕ
-addressesRoom = mostNames
+abbrev pub newAddressesLength : ℕ
+newAddressesLength = mostNames
 
 -- "The unfilled rest of any room lent for output is zero after an acceptance"
 abbrev pub filledUp : ℕ → List ℕ → List ℕ

@@ -13,7 +13,7 @@ use Rattle.events.specs.Events.{Event, blank, placedIn, adjustedIn, Ran, Did}
 use Rattle.events.specs.Sizes.{fileLimit}
 use Rattle.names.specs.Names.{nameSize}
 use Rattle.words.specs.Runs.{part, put}
-use Rattle.passes.specs.Buffers.{Buffers, startIn, filledUp, namesRoom, addressesRoom}
+use Rattle.passes.specs.Buffers.{Buffers, startIn, filledUp, newNamesLength, newAddressesLength}
 use Rattle.passes.specs.Walk.{Progress, Verdict, finished, refused}
 use Rattle.passes.specs.declared.Totals.{Totals}
 use Rattle.passes.specs.declared.WalkEnd.{WalkEnd}
@@ -42,7 +42,7 @@ pub record Bounded (r : WalkEnd) : Type 0 where
   pub offset : (fault : Fault) (at : ℕ) → r ≡ Stopped fault at → at ≤ fileLimit
   pub counts : (t : Totals) → r ≡ Finished t → (t .named ≤ mostNames) × (t .placed ≤ fileLimit) × (t .adjusted ≤ fileLimit)
 
--- What a walk does: it found the buffers b, and answers r and leaves b′, as o says. The new names so far stand at the front of their buffers.
+-- What a walk does: it found the buffers b, and answers r and leaves b′, as o says. The new names so far stand at the front of the new-name buffers.
 pub record Walked (o : Ran Verdict) (write : Bool) (b : Buffers) (r : WalkEnd) (b′ : Buffers) : Type 0 where
   pub did : Did WalkEnd (walkEndOf o) write (b .memory) (b .map) r (b′ .memory) (b′ .map)
   pub names : b′ .names ≡ put (b .names) 0 (progressOf (o .answer) .names)
@@ -58,8 +58,8 @@ pub record Checked (o : Ran Verdict) (m : List ℕ) (r : WalkEnd) (m′ p′ : L
   pub map : p′ ≡ blank
   pub bounded : Bounded r
 
--- An acceptance: the start, the numbers of the walk, and buffers whose rest is zero.
+-- An acceptance: the start, the numbers of the walk, and new-name buffers whose rest is zero.
 pub record Reported (t : Totals) (b : Buffers) (r : Outcome) (ns′ ads′ : List ℕ) : Type 0 where
   pub outcome : r ≡ Accepted (startIn (b .map) (b .memory)) (t .placed) (t .adjusted) (t .named) (t .low)
-  pub names : ns′ ≡ filledUp namesRoom (part (b .names) 0 (nameSize * t .named))
-  pub addresses : ads′ ≡ filledUp addressesRoom (part (b .addresses) 0 (t .named))
+  pub names : ns′ ≡ filledUp newNamesLength (part (b .names) 0 (nameSize * t .named))
+  pub addresses : ads′ ≡ filledUp newAddressesLength (part (b .addresses) 0 (t .named))

@@ -10,7 +10,7 @@ use Rattle.answer.specs.declared.Fault.the-variants.{CutShort}
 use Rattle.blocks.specs.Blocks.{read}
 use Rattle.blocks.specs.declared.Block.{Block}
 use Rattle.blocks.specs.declared.Cursor.{Cursor}
-use Rattle.effects.specs.Effects.{carried, firstCursor, advanced, nameIn, addressIn}
+use Rattle.effects.specs.Effects.{Effect, applied, firstCursor, advanced, nameIn, addressIn}
 use Rattle.events.specs.Events.{Event, blank, Ran}
 use Rattle.events.specs.Walk.{Turn, ends, leads, from, bytesLeft}
 use Rattle.updates.specs.Bodies.{Stop, broken, done}
@@ -25,12 +25,6 @@ pub record Inputs : Type 0 where
 -- these four
 abbrev pub inputs : List ℕ → List ℕ → ℕ → ℕ → Inputs
 inputs names addresses low high = record { names = names; addresses = addresses; low = low; high = high }
-
--- what a block did: where it begins, what it says (a body with what its words grow by: a block, a lent name, a name of the file), its events
-pub record Effect : Type 0 where
-  pub at : ℕ
-  pub block : Block
-  pub events : List Event
 
 -- how far a load has come: the cursor; "New names and addresses stand in file order"; what the blocks did, the latest first
 pub record Progress : Type 0 where
@@ -64,8 +58,8 @@ abbrev pub blockAt : List ℕ → Inputs → Progress → Block
 blockAt file g z = read file (g .high) (g .names) (z .names) (z .cursor)
 
 -- and what it comes to
-unfoldable pub carriedAt : List ℕ → Inputs → Progress → List ℕ → Ran Stop
-carriedAt file g z map = carried file (g .addresses) (z .addresses) (z .cursor) (blockAt file g z) map
+unfoldable pub appliedAt : List ℕ → Inputs → Progress → List ℕ → Ran Stop
+appliedAt file g z map = applied file (g .addresses) (z .addresses) (z .cursor) (blockAt file g z) map
 
 -- one turn: the file's end, or the next block
 unfoldable pub turn : List ℕ → Inputs → Progress → List ℕ → Ran (Turn Progress Verdict)
@@ -73,8 +67,8 @@ turn file g z map =
     pick (eqb (z .cursor .at) (length file))
     (record { answer = ends (finished z); events = [] })
     (record {
-      answer = judge file z (blockAt file g z) (carriedAt file g z map .events) (carriedAt file g z map .answer);
-      events = carriedAt file g z map .events;
+      answer = judge file z (blockAt file g z) (appliedAt file g z map .events) (appliedAt file g z map .answer);
+      events = appliedAt file g z map .events;
     })
 
 -- the blocks from some progress on

@@ -1,5 +1,5 @@
-// A pass over all blocks of an SDX file. The first only checks; it marks the map as it goes, and has buffers of its own for new names. The second
-// also writes memory and the lent buffers. So a refusal has touched none of them.
+// A pass over all blocks of an SDX file. The first only checks: it marks the map as it goes, and has buffers of its own for new names. The second
+// also writes memory and the new-name buffers that are lent. So a refusal has touched neither.
 use answer::Fault;
 use answer::Outcome;
 use answer::Start;
@@ -66,7 +66,7 @@ pub fn check(
     walked
 }
 
-// Goes through all blocks of a file, over a clear map. `write` decides whether memory is written too; new names go to the lent buffers, behind
+// Goes through all blocks of a file, over a clear map. `write` decides whether memory is written too; new names go to the buffers lent for them, behind
 // those before them.
 pub fn walk(
     file: &[u8],
@@ -83,7 +83,7 @@ pub fn walk(
     requires { ⌜ (length (now file) ≤ 65536) × (length (now «lent_names») ≡ 8 * length (now «lent_addresses»)) × (length (now memory) ≡ 65536) × (length (now map) ≡ 65536) × (length (now «new_names») ≡ 256) × (length (now «new_addresses») ≡ 32) × (now map ≡ blank) ⌝ }
     ensures { λ r. ⌜ Walked (blocksOf (now (file .entry)) (inputs (now («lent_names» .entry)) (now («lent_addresses» .entry)) low high)) write (buffers (now (memory .entry)) (now (map .entry)) (now («new_names» .entry)) (now («new_addresses» .entry))) r (buffers (now (memory .exit)) (now (map .exit)) (now («new_names» .exit)) (now («new_addresses» .exit))) ⌝ }
 {
-    let mut cursor = effects::first(low);
+    let mut cursor = effects::first_cursor(low);
     let mut bytes = 0;
     let mut fields = 0;
     loop {
@@ -94,7 +94,7 @@ pub fn walk(
         let size = names::NAME * named;
         let found = blocks::read(file, high, lent_names, &new_names[0..size], cursor);
         let own = &new_addresses[0..named];
-        let end = effects::carry_out(file, found, cursor, lent_addresses, own, write, memory, map);
+        let end = effects::apply(file, found, cursor, lent_addresses, own, write, memory, map);
         match end {
             Ended::Broken(fault) => return WalkEnd::Stopped(fault, cursor.at),
             Ended::Done { next, adjusted } => {

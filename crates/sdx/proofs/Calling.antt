@@ -137,7 +137,7 @@ module _ {o : Ran Verdict} {m p ns ads m₁ p₁ : List ℕ} {r₁ : WalkEnd} (f
   carried-accepted : {t : Totals} {m₂ p₂ ns₂ ads₂ ns₃ ads₃ : List ℕ} {r₂ : WalkEnd} {r : Outcome} → r₁ ≡ Finished t → length ns ≡ 256
       → length ads ≡ 32 → Walked o true (buffers m₁ p₁ ns ads) r₂ (buffers m₂ p₂ ns₂ ads₂) → Reported t (buffers m₂ p₂ ns₂ ads₂) r ns₃ ads₃
       → Carried o (buffers m p ns ads) r (buffers m₂ p₂ ns₃ ads₃)
-  carried-accepted {t} {m₂} {p₂} {ns₂} {ads₂} {ns₃} {ads₃} {r₂} {r} e room spots second told = by (o .answer) refl
+  carried-accepted {t} {m₂} {p₂} {ns₂} {ads₂} {ns₃} {ads₃} {r₂} {r} e room spots second answered = by (o .answer) refl
     where
       by : (v : Verdict) → o .answer ≡ v → Carried o (buffers m p ns ads) r (buffers m₂ p₂ ns₃ ads₃)
       by (refused k z) f = absurd (stopped-finished (sym (ap (λ (v : Verdict). walkEnd v (o .events)) f) ∙ sym (first .answer) ∙ e))
@@ -158,14 +158,14 @@ module _ {o : Ran Verdict} {m p ns ads m₁ p₁ : List ℕ} {r₁ : WalkEnd} (f
           (omega (arith, spots, few)) in
           record {
             outcome = rw f
-                (told .outcome
+                (answered .outcome
                 ∙ accepted-same (ap (λ (q : List ℕ). startIn q m₂) map ∙ ap (λ (l : List ℕ). startIn (marks (o .events) blank) l) memory)
                 (ap (λ (q : WalkEnd). totalsIn q .placed) w) (ap (λ (q : WalkEnd). totalsIn q .adjusted) w) n
                 (ap (λ (q : WalkEnd). totalsIn q .low) w));
             memory = rw f memory;
             map = rw f map;
-            names = rw f (told .names ∙ ap (λ (l : List ℕ). filledUp 256 l) names);
-            addresses = rw f (told .addresses ∙ ap (λ (l : List ℕ). filledUp 32 l) addresses);
+            names = rw f (answered .names ∙ ap (λ (l : List ℕ). filledUp 256 l) names);
+            addresses = rw f (answered .addresses ∙ ap (λ (l : List ℕ). filledUp 32 l) addresses);
           }
 
 -- what every turn keeps holds of every file that is accepted
@@ -289,7 +289,7 @@ module _ (file : List ℕ) (g : Inputs) where
         → {t : Totals} {m₂ p₂ ns₂ ads₂ ns₃ ads₃ : List ℕ} {r₂ : WalkEnd} {r : Outcome} → r₁ ≡ Finished t → length ns ≡ 256 → length ads ≡ 32
         → Walked (blocksOf file g) true (buffers m₁ p₁ ns ads) r₂ (buffers m₂ p₂ ns₂ ads₂) → Reported t (buffers m₂ p₂ ns₂ ads₂) r ns₃ ads₃
         → Loaded file g true (buffers m p ns ads) r (buffers m₂ p₂ ns₃ ads₃)
-    blocks-accepted first e room spots second told = loaded-right _ _ _ (rw load-blocks (carried-accepted first e room spots second told))
+    blocks-accepted first e room spots second answered = loaded-right _ _ _ (rw load-blocks (carried-accepted first e room spots second answered))
 
 -- all that is lent has its length
 pub record Sizes (g : Inputs) (b : Buffers) : Type 0 where

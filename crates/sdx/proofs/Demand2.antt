@@ -23,7 +23,7 @@ use Rattle.events.specs.declared.Check.{Check}
 use Rattle.events.specs.declared.Check.the-variants.{Passed, Failed}
 use Rattle.words.specs.Runs.{Bytes}
 use Rattle.passes.proofs.Turning.{refused-finished}
-use Rattle.passes.specs.Buffers.{namesRoom, addressesRoom, startIn, filledUp, Buffers}
+use Rattle.passes.specs.Buffers.{newNamesLength, newAddressesLength, startIn, filledUp, Buffers}
 use Rattle.passes.specs.Walk.{Inputs, Progress, Verdict, finished, refused, blocksOf}
 use Rattle.sdx.proofs.Calling.{admitted, range-bounds, right-sizes}
 use Rattle.sdx.proofs.Keeping.{Keeps, judged-keeps, judged-trace}
@@ -101,8 +101,8 @@ pub record Left (file : List ℕ) (g : Inputs) (z : Progress) (b : Buffers) (r :
   pub outcome : r ≡ report (b .memory) (finished z) (judged file g .events)
   pub memory : b′ .memory ≡ play (judged file g .events) (b .memory)
   pub map : b′ .map ≡ marks (judged file g .events) blank
-  pub names : b′ .names ≡ filledUp namesRoom (z .names)
-  pub addresses : b′ .addresses ≡ filledUp addressesRoom (z .addresses)
+  pub names : b′ .names ≡ filledUp newNamesLength (z .names)
+  pub addresses : b′ .addresses ≡ filledUp newAddressesLength (z .addresses)
 
 -- such a call leaves what its events make
 pub call-leaves : (file : List ℕ) (g : Inputs) (x : Bool) (b b′ : Buffers) (r : Outcome) → Loaded file g (x && sized g b) b r b′ → Asked file g x b → (z : Progress)

@@ -8,7 +8,7 @@ use Rattle.blocks.specs.Blocks.{readPlain, readRoom, readRelocatable, readUpdat
 use Rattle.blocks.specs.declared.Block.{Block}
 use Rattle.blocks.specs.declared.Block.the-variants.{Plain, Relocatable, Update, NewName, Faulty}
 use Rattle.blocks.specs.declared.Cursor.{Cursor}
-use Rattle.effects.specs.Effects.{carried}
+use Rattle.effects.specs.Effects.{applied}
 use Rattle.events.proofs.Faults.{wrongCheck, wrongRan, wrongTurn, late-ran, late-answer, late-runs}
 use Rattle.events.specs.Events.{Event, Ran}
 use Rattle.events.specs.declared.Check.{Check}
@@ -21,8 +21,8 @@ use Rattle.items.specs.declared.Item.the-variants.{Faulty as FaultyItem, End, M
 use Rattle.items.specs.declared.Slot.{Slot}
 use Rattle.names.specs.declared.Definition.{Definition}
 use Rattle.names.specs.declared.Definition.the-variants.{Missing, Own, Lent}
-use Rattle.passes.specs.Walk.{Inputs, Progress, Verdict, finished, refused, judge as judge-block, blockAt, carriedAt, turn as turn-block, blocksFrom, blocksOf}
-use Rattle.updates.specs.Bodies.{adjusting, applied, BodyState, Stop, broken, done, judge, turn, items, body}
+use Rattle.passes.specs.Walk.{Inputs, Progress, Verdict, finished, refused, judge as judge-block, blockAt, appliedAt, turn as turn-block, blocksFrom, blocksOf}
+use Rattle.updates.specs.Bodies.{adjusting, applied as appliedItem, BodyState, Stop, broken, done, judge, turn, items, body}
 use Rattle.sdx.specs.Call.{opening, opened, admitting, load, report}
 
 -- ---- whether an answer is a refusal with 1
@@ -57,12 +57,12 @@ item-late file table at Unset = search late-runs depth 10
 item-late file table at (Set counter) = search late-runs depth 10
 
 -- carried out
-applied-late : (amount : ℕ) (item : Item) (map : List ℕ) → Late wrongItem item → Late (wrongRan wrongCheck) (applied amount item map)
+applied-item-late : (amount : ℕ) (item : Item) (map : List ℕ) → Late wrongItem item → Late (wrongRan wrongCheck) (appliedItem amount item map)
 unfolding adjusting
-applied-late amount (FaultyItem fault) map h = search late-runs
-applied-late amount (End next) map h = search late-runs
-applied-late amount (Move counter next) map h = search late-runs
-applied-late amount (Adjust counter next) map h = search late-runs
+applied-item-late amount (FaultyItem fault) map h = search late-runs
+applied-item-late amount (End next) map h = search late-runs
+applied-item-late amount (Move counter next) map h = search late-runs
+applied-item-late amount (Adjust counter next) map h = search late-runs
 
 -- and where it leads
 judge-late : (c : Check) (item : Item) → Late wrongCheck c → Late wrongItem item → Late (wrongTurn wrongStop) (judge c item)
@@ -78,7 +78,7 @@ turn-late : (file : List ℕ) (table : List Slot) (amount : ℕ) (s : BodyState)
 unfolding turn
 turn-late file table amount s map =
     let item = item-late file table (s .at) (s .counter) in
-    late-ran _ _ _ (judge-late _ _ (late-answer _ _ (applied-late amount _ map item)) item)
+    late-ran _ _ _ (judge-late _ _ (late-answer _ _ (applied-item-late amount _ map item)) item)
 
 body-late : (file : List ℕ) (table : List Slot) (amount at : ℕ) (map : List ℕ) → Late (wrongRan wrongStop) (body file table amount at map)
 unfolding items
@@ -98,18 +98,18 @@ unfolding read readPlain readNames readNewName readAddress readUpdate readReloca
 block-late file high lent own c = search (late-runs, definition-late) depth 14
 
 -- and carried out
-carried-late : (file lent own : List ℕ) (c : Cursor) (b : Block) (map : List ℕ) → Late wrongBlock b
-    → Late (wrongRan wrongStop) (carried file lent own c b map)
-carried-late file lent own c (Plain address from size) map h = search late-runs
-carried-late file lent own c (Relocatable true number offset from size) map h = search late-runs
-carried-late file lent own c (Relocatable false number offset from size) map h = search late-runs
-carried-late file lent own c (Update source from) map h = body-late file (c .table) _ from map
-carried-late file lent own c (NewName from address) map h = search late-runs
-carried-late file lent own c (Faulty fault) map h = search late-runs
+applied-late : (file lent own : List ℕ) (c : Cursor) (b : Block) (map : List ℕ) → Late wrongBlock b
+    → Late (wrongRan wrongStop) (applied file lent own c b map)
+applied-late file lent own c (Plain address from size) map h = search late-runs
+applied-late file lent own c (Relocatable true number offset from size) map h = search late-runs
+applied-late file lent own c (Relocatable false number offset from size) map h = search late-runs
+applied-late file lent own c (Update source from) map h = body-late file (c .table) _ from map
+applied-late file lent own c (NewName from address) map h = search late-runs
+applied-late file lent own c (Faulty fault) map h = search late-runs
 
-carried-at-late : (file : List ℕ) (g : Inputs) (z : Progress) (map : List ℕ) → Late (wrongRan wrongStop) (carriedAt file g z map)
-unfolding carriedAt
-carried-at-late file g z map = carried-late file _ _ (z .cursor) _ map (block-late file (g .high) (g .names) (z .names) (z .cursor))
+applied-at-late : (file : List ℕ) (g : Inputs) (z : Progress) (map : List ℕ) → Late (wrongRan wrongStop) (appliedAt file g z map)
+unfolding appliedAt
+applied-at-late file g z map = applied-late file _ _ (z .cursor) _ map (block-late file (g .high) (g .names) (z .names) (z .cursor))
 
 -- ---- a load
 
@@ -122,7 +122,7 @@ judge-block-late file z b es (done next) h = search late-runs
 -- so every turn of a file, and all its blocks
 turn-block-late : (file : List ℕ) (g : Inputs) (z : Progress) (map : List ℕ) → Late (wrongRan (wrongTurn wrongVerdict)) (turn-block file g z map)
 unfolding turn-block
-turn-block-late file g z map = search (late-runs, judge-block-late file z (blockAt file g z), carried-at-late)
+turn-block-late file g z map = search (late-runs, judge-block-late file z (blockAt file g z), applied-at-late)
 
 blocks-late : (file : List ℕ) (g : Inputs) → Late (wrongRan wrongVerdict) (blocksOf file g)
 unfolding blocksFrom

@@ -15,9 +15,9 @@ use Rattle.blocks.specs.declared.Block.the-variants.{Plain, Relocatable, Update
 use Rattle.blocks.specs.declared.Cursor.{Cursor}
 use Rattle.blocks.specs.declared.Source.{Source}
 use Rattle.blocks.specs.declared.Source.the-variants.{Number, LentName, OwnName}
-use Rattle.effects.proofs.Ending.{carried-ends, advanced-at, Behind, behind-first, behind-on}
+use Rattle.effects.proofs.Ending.{applied-ends, advanced-at, Behind, behind-first, behind-on}
 use Rattle.effects.proofs.NewNames.{Counted, counted-first, counted-on, Tabled, tabled-first, tabled-on}
-use Rattle.effects.specs.Effects.{carried, advanced, nameIn, addressIn}
+use Rattle.effects.specs.Effects.{Effect, applied, advanced, nameIn, addressIn}
 use Rattle.events.proofs.Events.{length-marks, length-blank}
 use Rattle.events.proofs.Lists.{each-map}
 use Rattle.events.specs.Events.{Event, place, reserve, marks, blank, Ran}
@@ -26,7 +26,7 @@ use Rattle.events.specs.Walk.{leads}
 use Rattle.items.specs.Items.{emptySlot, slotAt}
 use Rattle.items.specs.declared.Slot.{Slot}
 use Rattle.passes.proofs.Turning.{turn-led, block-fits}
-use Rattle.passes.specs.Walk.{stepped, Inputs, Effect, Progress, finished, blockAt, carriedAt, turn, begun}
+use Rattle.passes.specs.Walk.{stepped, Inputs, Progress, finished, blockAt, appliedAt, turn, begun}
 use Rattle.updates.proofs.Bounds.{body-each}
 use Rattle.updates.proofs.Turning.{Adjusts, broken-done}
 use Rattle.updates.specs.Bodies.{Stop, done}
@@ -141,7 +141,7 @@ module _ (file : List ℕ) (g : Inputs) (y : Progress) (lent : ℕ) (tabled : Ta
     (counted : Counted (y .cursor) (y .names) (y .addresses)) where
   -- what it did
   abbrev did : Block → List ℕ → Ran Stop
-  did b map = carried file (g .addresses) (y .addresses) (y .cursor) b map
+  did b map = applied file (g .addresses) (y .addresses) (y .cursor) b map
 
   module _ (map : List ℕ) (next : ℕ) where
     -- the progress after it
@@ -182,17 +182,17 @@ module _ (file : List ℕ) (g : Inputs) (y : Progress) (lent : ℕ) (tabled : Ta
     stepped-rule (Faulty fault) f p e = absurd (broken-done e)
 
 -- the events of a block are lawful
-carried-lawful : (file lent own : List ℕ) (c : Cursor) (b : Block) (map : List ℕ) (n k : ℕ) → length map ≡ 65536
+applied-lawful : (file lent own : List ℕ) (c : Cursor) (b : Block) (map : List ℕ) (n k : ℕ) → length map ≡ 65536
     → Fits (length file) c n k b
     → Granted c b
-    → Lawful map (carried file lent own c b map .events)
-carried-lawful file lent own c (Plain address from size) map n k l f p = (omega (arith, length-part file from size (f .lies .1), p .passes), tt)
-carried-lawful file lent own c (Relocatable true number offset from size) map n k l f p = (omega (arith, f .lies .2), tt)
-carried-lawful file lent own c (Relocatable false number offset from size) map n k l f p =
+    → Lawful map (applied file lent own c b map .events)
+applied-lawful file lent own c (Plain address from size) map n k l f p = (omega (arith, length-part file from size (f .lies .1), p .passes), tt)
+applied-lawful file lent own c (Relocatable true number offset from size) map n k l f p = (omega (arith, f .lies .2), tt)
+applied-lawful file lent own c (Relocatable false number offset from size) map n k l f p =
     (omega (arith, length-part file from size (f .lies .1), f .lies .2), tt)
-carried-lawful file lent own c (Update source from) map n k l f p = body-lawful file (c .table) (amountOf (c .table) lent own source) from map l
-carried-lawful file lent own c (NewName from address) map n k l f p = tt
-carried-lawful file lent own c (Faulty fault) map n k l f p = tt
+applied-lawful file lent own c (Update source from) map n k l f p = body-lawful file (c .table) (amountOf (c .table) lent own source) from map l
+applied-lawful file lent own c (NewName from address) map n k l f p = tt
+applied-lawful file lent own c (Faulty fault) map n k l f p = tt
 
 -- ---- what every block keeps
 
@@ -239,20 +239,20 @@ keeps-first file g =
 stepped-keeps : (file : List ℕ) (g : Inputs) (y : Progress) (b : Block) (es : List Event) (next : ℕ)
     → Fits (length file) (y .cursor) (length (g .names) / 8) (length (y .names) / 8) b
     → Granted (y .cursor) b
-    → carried file (g .addresses) (y .addresses) (y .cursor) b (marks es blank) .answer ≡ done next
+    → applied file (g .addresses) (y .addresses) (y .cursor) b (marks es blank) .answer ≡ done next
     → Keeps file g y es
-    → Keeps file g (stepped file y b (carried file (g .addresses) (y .addresses) (y .cursor) b (marks es blank) .events) next)
-    (es ++ carried file (g .addresses) (y .addresses) (y .cursor) b (marks es blank) .events)
+    → Keeps file g (stepped file y b (applied file (g .addresses) (y .addresses) (y .cursor) b (marks es blank) .events) next)
+    (es ++ applied file (g .addresses) (y .addresses) (y .cursor) b (marks es blank) .events)
 unfolding eventsOf namesOf addressesOf
 stepped-keeps file g y b es next f p e h =
     let map = marks es blank in
     let n : length map ≡ 65536 = length-marks es blank ∙ length-blank in
-    let fs = carried file (g .addresses) (y .addresses) (y .cursor) b map .events in
+    let fs = applied file (g .addresses) (y .addresses) (y .cursor) b map .events in
     let z = stepped file y b fs next in
-    let x = carried-ends file (g .addresses) (y .addresses) (y .cursor) b map _ _ f next e in
+    let x = applied-ends file (g .addresses) (y .addresses) (y .cursor) b map _ _ f next e in
     let at = advanced-at file (g .addresses) (y .addresses) (y .cursor) b map next e in
     record {
-      lawful = lawful-append blank es fs (h .lawful) (carried-lawful file (g .addresses) (y .addresses) (y .cursor) b map _ _ n f p);
+      lawful = lawful-append blank es fs (h .lawful) (applied-lawful file (g .addresses) (y .addresses) (y .cursor) b map _ _ n f p);
       effects = ap (λ (gs : List Event). gs ++ fs) (h .effects);
       ruled = (
         record {
@@ -274,7 +274,7 @@ module _ (file : List ℕ) (g : Inputs) (top : g .high ≤ 65535) (bytes : Bytes
   -- every turn that leads on keeps it
   keeps-on : (y z : Progress) (es : List Event) → Keeps file g y es → turn file g y (marks es blank) .answer ≡ leads z
       → Keeps file g z (es ++ turn file g y (marks es blank) .events)
-  unfolding carriedAt
+  unfolding appliedAt
   keeps-on y z es h e =
       let l = turn-led file g y (marks es blank) z e in
       let p = read-granted file (g .high) (g .names) (y .names) (y .cursor) bytes in
@@ -289,7 +289,7 @@ module _ (file : List ℕ) (g : Inputs) (top : g .high ≤ 65535) (bytes : Bytes
       → Trace file g z (es ++ turn file g y (marks es blank) .events)
   trace-on y z es h e =
       let l = turn-led file g y (marks es blank) z e in
-      rw (l .events) (after-block h (record { end = l .next; carried-out = l .done-at; leads-to = sym (l .leads-to) }))
+      rw (l .events) (after-block h (record { end = l .next; ends-done = l .done-at; leads-to = sym (l .leads-to) }))
 
   pub judged-trace : (z : Progress) → judged file g .answer ≡ finished z → Trace file g z (judged file g .events)
   judged-trace = judged-holds file g top (Trace file g) at-start trace-on

@@ -30,7 +30,7 @@ use Rattle.names.specs.Names.{lookUp}
 use Rattle.names.specs.declared.Definition.{Definition}
 use Rattle.names.specs.declared.Definition.the-variants.{Missing, Own, Lent}
 use Rattle.updates.proofs.Turning.{turn-falls}
-use Rattle.updates.specs.Bodies.{isLoaded, wordLoaded, adjusting, applied, BodyState, broken, turn, items, begun, body}
+use Rattle.updates.specs.Bodies.{isLoaded, wordLoaded, adjusting, applied as appliedItem, BodyState, broken, turn, items, begun, body}
 use Rattle.words.proofs.Changes.{value-lt}
 use Rattle.words.proofs.Runs.{length-part, part-at, contains-not}
 use Rattle.words.specs.Numbers.{value}
@@ -148,18 +148,18 @@ adjusting-lawful amount a map l h =
     (λ j. let w = word-placed map a (omega arith) i (not-true _ j) in ((refl, omega arith, w .0, w .1), tt)))
 
 -- an item, and a turn
-applied-lawful : (len at amount : ℕ) (item : Item) (map : List ℕ) → length map ≡ 65536 → Where len at item
-    → Lawful map (applied amount item map .events)
-applied-lawful len at amount (FaultyItem fault) map l w = tt
-applied-lawful len at amount (End next) map l w = tt
-applied-lawful len at amount (Move counter next) map l w = tt
-applied-lawful len at amount (Adjust counter next) map l w = adjusting-lawful amount counter map l (w .2)
+applied-item-lawful : (len at amount : ℕ) (item : Item) (map : List ℕ) → length map ≡ 65536 → Where len at item
+    → Lawful map (appliedItem amount item map .events)
+applied-item-lawful len at amount (FaultyItem fault) map l w = tt
+applied-item-lawful len at amount (End next) map l w = tt
+applied-item-lawful len at amount (Move counter next) map l w = tt
+applied-item-lawful len at amount (Adjust counter next) map l w = adjusting-lawful amount counter map l (w .2)
 
 turn-lawful : (file : List ℕ) (table : List Slot) (amount : ℕ) (s : BodyState) (map : List ℕ) → length map ≡ 65536
     → Lawful map (turn file table amount s map .events)
 unfolding turn
 turn-lawful file table amount s map l =
-    applied-lawful (length file) (s .at) amount (read-item file table (s .at) (s .counter)) map l (lies-as file table (s .at) (s .counter) _ refl)
+    applied-item-lawful (length file) (s .at) amount (read-item file table (s .at) (s .counter)) map l (lies-as file table (s .at) (s .counter) _ refl)
 
 -- the events of a body are lawful, however it ends
 pub body-lawful : (file : List ℕ) (table : List Slot) (amount at : ℕ) (map : List ℕ) → length map ≡ 65536

@@ -18,7 +18,7 @@ use Rattle.events.specs.Sizes.{memorySize, fileLimit}
 use Rattle.events.specs.declared.Check.{Check}
 use Rattle.events.specs.declared.Check.the-variants.{Passed, Failed}
 use Rattle.names.specs.Names.{nameSize}
-use Rattle.passes.specs.Buffers.{Buffers, namesRoom, addressesRoom, filledUp, startIn}
+use Rattle.passes.specs.Buffers.{Buffers, newNamesLength, newAddressesLength, filledUp, startIn}
 use Rattle.passes.specs.Walk.{Inputs, Verdict, finished, refused, begun, blocksOf}
 use Rattle.words.specs.Numbers.{value}
 
@@ -39,7 +39,7 @@ abbrev pub sized : Inputs → Buffers → Bool
 sized g b =
     eqb (length (b .memory)) memorySize
     && (eqb (length (b .map)) memorySize
-    && (eqb (length (b .names)) namesRoom && (eqb (length (b .addresses)) addressesRoom && listed g)))
+    && (eqb (length (b .names)) newNamesLength && (eqb (length (b .addresses)) newAddressesLength && listed g)))
 
 -- a refusal before the first block: "0 for 1 to 4 and a cut opening"
 abbrev pub atOnce : Inputs → Fault → Ran Verdict
@@ -92,12 +92,12 @@ mapAfter (refused fault z) es = blank
 
 -- the new names after a load: "Every other refusal leaves .. new-name buffers .. as they were"
 abbrev pub namesAfter : Verdict → List ℕ → List ℕ
-namesAfter (finished z) names = filledUp namesRoom (z .names)
+namesAfter (finished z) names = filledUp newNamesLength (z .names)
 namesAfter (refused fault z) names = names
 
 -- and their addresses
 abbrev pub addressesAfter : Verdict → List ℕ → List ℕ
-addressesAfter (finished z) addresses = filledUp addressesRoom (z .addresses)
+addressesAfter (finished z) addresses = filledUp newAddressesLength (z .addresses)
 addressesAfter (refused fault z) addresses = addresses
 
 -- What a call promises: it found the buffers b, of the right lengths or not, and answers r and leaves b′.

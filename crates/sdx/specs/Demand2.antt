@@ -12,13 +12,13 @@ use Rattle.answer.specs.declared.Start.{Start}
 use Rattle.blocks.specs.Blocks.{amountOf}
 use Rattle.blocks.specs.declared.Block.{Block}
 use Rattle.blocks.specs.declared.Block.the-variants.{Plain, Relocatable, Update, NewName, Faulty}
-use Rattle.effects.specs.Effects.{nameIn, addressIn}
+use Rattle.effects.specs.Effects.{Effect, nameIn, addressIn}
 use Rattle.events.specs.Events.{Event, place, reserve, adjust, marks, blank, placedMark, reservedMark, adjustedMark, placedIn, adjustedIn}
 use Rattle.events.specs.Lists.{Each}
 use Rattle.events.specs.Sizes.{fileLimit}
 use Rattle.items.specs.Items.{slotAt}
-use Rattle.passes.specs.Buffers.{Buffers, namesRoom, addressesRoom, filledUp, startIn}
-use Rattle.passes.specs.Walk.{Inputs, Effect, Progress, finished, stepped, blockAt, carriedAt, begun}
+use Rattle.passes.specs.Buffers.{Buffers, newNamesLength, newAddressesLength, filledUp, startIn}
+use Rattle.passes.specs.Walk.{Inputs, Progress, finished, stepped, blockAt, appliedAt, begun}
 use Rattle.updates.specs.Bodies.{done}
 use Rattle.words.specs.Numbers.{value, digits, on}
 use Rattle.words.specs.Runs.{Bytes, Within, part}
@@ -101,16 +101,16 @@ ByRule file g z (Faulty fault) es = ⊥
 -- The block at which a load stands at y, by the events es, is carried out over the map as these left it, and leads on to z.
 pub record NextBlock (file : List ℕ) (g : Inputs) (y : Progress) (es : List Event) (z : Progress) : Type 0 where
   pub end : ℕ
-  pub carried-out : carriedAt file g y (marks es blank) .answer ≡ done end
-  pub leads-to : z ≡ stepped file y (blockAt file g y) (carriedAt file g y (marks es blank) .events) end
+  pub ends-done : appliedAt file g y (marks es blank) .answer ≡ done end
+  pub leads-to : z ≡ stepped file y (blockAt file g y) (appliedAt file g y (marks es blank) .events) end
 
 -- How a load came to z, by the events es: from the first block on, each read where the one before it ended, with the table and the names as those
--- before it left them. So each effect of z is the block that stands at its offset, and its events are all that this block does: of a body, one for
+-- before it left them. So each effect of z is that of the block at its offset, and its events are all that this block does: of a body, one for
 -- each word that it lists.
 pub data Trace (file : List ℕ) (g : Inputs) : Progress → List Event → Type 0 where
   at-start : Trace file g (begun g) []
   after-block : {y z : Progress} {es : List Event} → Trace file g y es → NextBlock file g y es z
-      → Trace file g z (es ++ carriedAt file g y (marks es blank) .events)
+      → Trace file g z (es ++ appliedAt file g y (marks es blank) .events)
 
 -- what all blocks did, in file order (the latest effect stands first)
 unfoldable pub eventsOf : List Effect → List Event
@@ -170,8 +170,8 @@ pub record AcceptedCall (file : List ℕ) (g : Inputs) (others : Bool) (b b′ :
   -- "the start (present or not, address)": by the map and the memory that were left
   pub start-is : start ≡ startIn (b′ .map) (b′ .memory)
   -- "and for SDX the number of new names and low afterwards"; "The unfilled rest of any room lent for output is zero"
-  pub new-names : b′ .names ≡ filledUp namesRoom (end .names)
-  pub new-addresses : b′ .addresses ≡ filledUp addressesRoom (end .addresses)
+  pub new-names : b′ .names ≡ filledUp newNamesLength (end .names)
+  pub new-addresses : b′ .addresses ≡ filledUp newAddressesLength (end .addresses)
   pub named-count : named ≡ length (end .addresses)
   pub low-after : low ≡ end .cursor .low
 
@@ -188,7 +188,7 @@ pub record Exactly (file : List ℕ) (g : Inputs) (others : Bool) (b : Buffers) 
       ≡ Accepted (startIn (b′ .map) (b′ .memory)) (placedIn (judged file g .events)) (adjustedIn (judged file g .events)) (length (z .addresses))
       (z .cursor .low)
 
--- The claim: of every file, whatever is given and lent, and of every call that keeps the loader's contract.
+-- The claim: of every file, whatever the inputs and the buffers, and of every call that keeps the loader's contract.
 abbrev pub Claim : Type 0
 Claim =
     (file : List ℕ) → Bytes file → (g : Inputs) (others : Bool) (b b′ : Buffers) (r : Outcome) → Loaded file g (others && sized g b) b r b′

@@ -28,7 +28,7 @@ pub record RefusedCall (fault : Fault) (b b′ : Buffers) : Type 0 where
   -- "Every other refusal leaves .. the map all zero"
   pub other : ¬ (fault ≡ WrongBuffer) → b′ .map ≡ blank
 
--- The claim: of every file, whatever is given and lent, and of every call that keeps the loader's contract.
+-- The claim: of every file, whatever the inputs and the buffers, and of every call that keeps the loader's contract.
 abbrev pub RefusedClaim : Type 0
 RefusedClaim =
     (file : List ℕ) (g : Inputs) (right : Bool) (b b′ : Buffers) (r : Outcome) → Loaded file g right b r b′ → (fault : Fault) (offset side : ℕ)
@@ -46,7 +46,7 @@ pub record SameProgram (file : List ℕ) (g : Inputs) (r t : Outcome) (b d : Buf
   pub names : (z : Progress) → load file g .answer ≡ finished z → b .names ≡ d .names
   pub addresses : (z : Progress) → load file g .answer ≡ finished z → b .addresses ≡ d .addresses
 
--- The claim: of every file, whatever is given, and of every two calls that keep the loader's contract, with buffers of the right lengths.
+-- The claim: of every file, whatever the inputs, and of every two calls that keep the loader's contract, with buffers of the right lengths.
 abbrev pub SameClaim : Type 0
 SameClaim =
     (file : List ℕ) → Bytes file → (g : Inputs) (x y : Bool) (b₁ b₂ b d : Buffers) (r t : Outcome) → x && sized g b₁ ≡ true → y && sized g b₂ ≡ true

@@ -12,7 +12,7 @@ use Rattle.moves.specs.Call.{ruling, outcomeOf, memoryAfter, mapAfter, scratchA
 use Rattle.moves.specs.Move.{carried, transfer, moved}
 use Rattle.names.specs.Names.{same, newestOf, newest, lookUp}
 use Rattle.passes.specs.Buffers.{startIn}
-use Rattle.passes.specs.Walk.{carriedAt, turn, blocksFrom}
+use Rattle.passes.specs.Walk.{appliedAt, turn, blocksFrom}
 use Rattle.pieces.specs.AtBases.{placing, adjusting, ending, applied}
 use Rattle.pieces.specs.Pieces.{amountOf, edited, adjustments, events}
 use Rattle.fields.specs.Fields.{fieldsOf}
@@ -24,5 +24,5 @@ use Rattle.words.specs.Runs.{part, put, allZero, contains}
 use Rattle.table.specs.Table.{TableHolds}
 
 pub table-holds : TableHolds
-unfolding number value digits store on off change part put allZero contains need pick play marks blank placedIn adjustedIn fieldsOf readCode readItems readFixups readEnd read amountOf edited adjustments events placing adjusting ending applied checked turnRecord recordsFrom walk from opening judged load call carried transfer moved ruling outcomeOf memoryAfter mapAfter scratchAfter same newestOf newest lookUp setting settingToBlock readItem adjustingWord turnItem items readPlain readRoom readRelocatable readUpdate readNames readAddress readNewName readBlock carriedAt turn blocksFrom openingSdx judgedSdx admitting loadSdx callSdx startIn
+unfolding number value digits store on off change part put allZero contains need pick play marks blank placedIn adjustedIn fieldsOf readCode readItems readFixups readEnd read amountOf edited adjustments events placing adjusting ending applied checked turnRecord recordsFrom walk from opening judged load call carried transfer moved ruling outcomeOf memoryAfter mapAfter scratchAfter same newestOf newest lookUp setting settingToBlock readItem adjustingWord turnItem items readPlain readRoom readRelocatable readUpdate readNames readAddress readNewName readBlock appliedAt turn blocksFrom openingSdx judgedSdx admitting loadSdx callSdx startIn
 table-holds = refl

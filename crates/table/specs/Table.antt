@@ -1,5 +1,5 @@
 -- The bench table of document 01, P1 to P10, about the definitions that the loaders and the mover are proved to keep.
--- A row is a call and all that it gives: its outcome, and every byte of every room that it is lent. Each room holds zeros before the call; only
+-- A row is a call and all that it gives: its outcome, and every byte of every buffer that it may write. Each holds zeros before the call; only
 -- before a move memory is as a load at the old bases left it.
 -- `TableHolds` is the statement, proved in proofs/Table.antt.
 -- Assumes nothing.
@@ -17,7 +17,7 @@ use Rattle.answer.specs.declared.Outcome.the-variants.{Accepted, Refused}
 use Rattle.answer.specs.declared.Start.the-variants.{Absent, At}
 use Rattle.events.specs.Events.{blank}
 use Rattle.moves.specs.Call as moves
-use Rattle.passes.specs.Buffers.{Buffers, buffers, namesRoom, addressesRoom}
+use Rattle.passes.specs.Buffers.{Buffers, buffers, newNamesLength, newAddressesLength}
 use Rattle.passes.specs.Walk.{inputs}
 use Rattle.pieces.specs.Pieces.{basesAt}
 use Rattle.pieces.specs.declared.Bases.{Bases}
@@ -35,7 +35,7 @@ pub data Case : Type 0 where
   -- the same, and then moved from those bases to others
   moveAcx : (form : ℕ) → (file : List ℕ) → (old new : Bases) → Case
 
--- bytes of a room, from an address on
+-- bytes of a buffer, from an address on
 pub record Region : Type 0 where
   pub from : ℕ
   pub bytes : List ℕ
@@ -178,7 +178,7 @@ table = P1 ∷ P2 ∷ P3 ∷ P4 ∷ P5 ∷ P6 ∷ P7 ∷ P8 ∷ P9 ∷ P10 ∷ [
 
 -- ---- what the definitions give: the same terms as in the promises of `sdx::load`, `acx::load` and `mover::move_handler`
 
--- the outcome of a call, and every room that it is lent, whole: memory, the map, and the others (the new names and their addresses of an SDX
+-- the outcome of a call, and every buffer that it may write, whole: memory, the map, and the others (the new names and their addresses of an SDX
 -- load; the scratch of a move)
 pub record Result : Type 0 where
   pub outcome : Outcome
@@ -188,7 +188,7 @@ pub record Result : Type 0 where
 
 -- the buffers of an SDX load, all zero
 abbrev pub clear : Buffers
-clear = buffers blank blank (replicate namesRoom 0) (replicate addressesRoom 0)
+clear = buffers blank blank (replicate newNamesLength 0) (replicate newAddressesLength 0)
 
 abbrev pub sdxLoaded : List ℕ → ℕ → ℕ → Result
 sdxLoaded file low high =
@@ -229,7 +229,7 @@ resultOf (moveAcx form file old new) = acxMoved form file old new
 
 -- ---- what the table says
 
--- a room of 65,536 bytes that holds some runs, and zero elsewhere
+-- a buffer of 65,536 bytes that holds some runs, and zero elsewhere
 abbrev pub holding : List Region → List ℕ
 holding [] = blank
 holding (r ∷ rs) = put (holding rs) (r .from) (r .bytes)

@@ -156,7 +156,7 @@ sound file b c s (Fixups fixup from n) i es e k =
 sound file b c s (End entry next) i es e k = tt
 sound file b c s (Faulty fault) i es e k = tt
 
--- ---- a record taken by the program, which lends parts of the buffers
+-- ---- a record gathered by the program, which lends parts of the buffers
 
 module _ (file : List ℕ) (old new : Bases) (source target : Cursor) (m t : List ℕ) {r : Record} where
   -- code
@@ -201,7 +201,7 @@ module _ (file : List ℕ) (old new : Bases) (source target : Cursor) (m t : Lis
   unfolding scratchWith
   gathers-fault e = rw e refl
 
--- a fixup record may be taken: it lies in the file, and its fields in the code
+-- a fixup record may be gathered: it lies in the file, and its fields in the code
 pub gathers-sound : (file : List ℕ) (size : ℕ) (r : Record) → Sound file size r → {fixup : Fixup} {from n : ℕ} → r ≡ Fixups fixup from n
     → (from + n ≤ length file) × Each (Inside size) (fieldsOf fixup (part file from n))
 gathers-sound file size r h e = rw e at h
@@ -275,7 +275,7 @@ module _ {file : List ℕ} {old new : Bases} {first : ℕ} {m t₀ : List ℕ} w
                 (ap (λ (k : Cursor). k .size) (x .at-new .here)) found-is o (x .gathered);
           }
 
-      -- the record may be taken
+      -- the record may be gathered
       pub gathering-sound : Sound file (advanced new target found .size) found
       gathering-sound =
           sound file new target (x .progress) found (x .at-new .stands .inside) (ap (λ (k : Cursor). k .size) (x .at-new .here)) found-is

@@ -59,8 +59,8 @@ fn gather(form: u32, file: &[u8], old: Bases, new: Bases, memory: &[u8], scratch
     ensures { λ _. ⌜ now (scratch .exit) ≡ transfer old new (piecesOf (rulingOf form old new (now (file .entry)))) (now (memory .entry)) (now (scratch .entry)) ⌝ }
 {
     let at = acx::opening_size(acx::form_of(form));
-    let mut source = acx::begin(at);
-    let mut target = acx::begin(at);
+    let mut source = acx::first_cursor(at);
+    let mut target = acx::first_cursor(at);
     loop {
         let last = source.last;
         let found = records::read(file, source.at, last);
@@ -73,7 +73,7 @@ fn gather(form: u32, file: &[u8], old: Bases, new: Bases, memory: &[u8], scratch
     }
 }
 
-// Takes to the scratch what a record brings: its code from memory, or a change of the fields that it lists.
+// Gathers in the scratch what a record brings: its code from memory, or a change of the fields that it lists.
 fn gather_record(
     file: &[u8],
     found: Record,

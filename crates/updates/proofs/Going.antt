@@ -26,7 +26,7 @@ use Rattle.items.specs.declared.Item.the-variants.{Faulty, End, Move, Adjust}
 use Rattle.items.specs.declared.Slot.{Slot}
 use Rattle.updates.proofs.Turning.{Onward, adjusts, applied-counts, turn-falls, turn-further}
 use Rattle.updates.specs.Bodies.{applied, BodyState, Stop, broken, done, judge, turn, items, body, ended}
-use Rattle.updates.specs.Cursor.{cursorAt, advanced}
+use Rattle.updates.specs.Cursor.{firstCursor, advanced}
 use Rattle.updates.specs.declared.Cursor.{Cursor}
 use Rattle.updates.specs.declared.Ended.{Ended}
 use Rattle.updates.specs.declared.Ended.the-variants.{Broken, Done}
@@ -75,7 +75,7 @@ pub record Going (file : List ℕ) (table : List Slot) (amount first : ℕ) (wri
 
 module _ {file : List ℕ} {table : List Slot} {amount first : ℕ} {write : Bool} {m₀ p₀ : List ℕ} where
   -- before the first item
-  pub going-first : first ≤ length file → Going file table amount first write m₀ p₀ (cursorAt first) m₀ p₀
+  pub going-first : first ≤ length file → Going file table amount first write m₀ p₀ (firstCursor first) m₀ p₀
   unfolding items adjustedIn
   going-first l =
       record {

@@ -10,7 +10,7 @@ ghost use lib.ListN.{length};
 ghost use Rattle.events.specs.Events.{Did};
 ghost use Rattle.items.specs.declared.Item.the-variants.{Adjust};
 ghost use Rattle.updates.specs.Bodies.{isLoaded, wordLoaded, adjusting, applied, body as bodyOf, ended};
-ghost use Rattle.updates.specs.Cursor.{cursorAt, advanced};
+ghost use Rattle.updates.specs.Cursor.{firstCursor, advanced};
 
 // How a body ends: at a fault, or with the offset after it and the number of words adjusted.
 pub enum Ended {
@@ -38,7 +38,7 @@ pub fn body(
     requires { ⌜ (length (now file) ≤ 65536) × (at ≤ length (now file)) × (length (now memory) ≡ 65536) × (length (now map) ≡ 65536) ⌝ }
     ensures { λ r. ⌜ Did Ended (ended (bodyOf (now (file .entry)) table amount at (now (map .entry)))) write (now (memory .entry)) (now (map .entry)) r (now (memory .exit)) (now (map .exit)) ⌝ }
 {
-    let mut cursor = begin(at);
+    let mut cursor = first_cursor(at);
     loop {
         let counter = cursor.counter;
         let item = items::read(file, table, cursor.at, counter);
@@ -111,8 +111,8 @@ fn adjust(at: usize, amount: u16, write: bool, memory: &mut [u8], map: &mut [u8]
 }
 
 // The cursor of a body that begins at `at`.
-fn begin(at: usize) -> Cursor
-    ensures { λ r. ⌜ r ≡ cursorAt at ⌝ }
+fn first_cursor(at: usize) -> Cursor
+    ensures { λ r. ⌜ r ≡ firstCursor at ⌝ }
 {
     Cursor {
         at,

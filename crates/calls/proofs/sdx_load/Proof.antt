@@ -1,4 +1,4 @@
--- `calls::sdx_load` meets its contract: with an answer to write it is a load that is told.
+-- `calls::sdx_load` meets its contract: with an answer to write it is a load that is answered.
 -- Assumes nothing.
 use borrow.Author.Needs.{needs}
 use Rattle.calls.proofs.Answering.{sdx-unanswered, sdx-answered}

@@ -1,7 +1,7 @@
 -- `effects::place` meets its contract: the lent part of the file is the bytes that are placed.
 -- Assumes nothing.
 use borrow.Author.Needs.{needs}
-use Rattle.effects.proofs.Carrying.{placing-did}
+use Rattle.effects.proofs.Applying.{placing-did}
 use Rattle.effects.proofs.place.Statement.{statement}
 use Rattle.effects.proofs.place.Tie as tie
 

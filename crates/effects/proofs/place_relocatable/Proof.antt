@@ -2,7 +2,7 @@
 -- Assumes nothing.
 use native.Mathlib.Omega.{arith}
 use borrow.Author.Needs.{needs}
-use Rattle.effects.proofs.Carrying.{relocatable-reserved, relocatable-placed}
+use Rattle.effects.proofs.Applying.{relocatable-reserved, relocatable-placed}
 use Rattle.effects.proofs.place_relocatable.Statement.{statement}
 use Rattle.effects.proofs.place_relocatable.Tie as tie
 

@@ -2,7 +2,7 @@
 -- Assumes nothing.
 use native.Mathlib.Omega.{arith}
 use borrow.Author.Needs.{needs}
-use Rattle.effects.proofs.Carrying.{stored-none, stored-name}
+use Rattle.effects.proofs.Applying.{stored-none, stored-name}
 use Rattle.effects.proofs.store_name.Statement.{statement}
 use Rattle.effects.proofs.store_name.Tie as tie
 

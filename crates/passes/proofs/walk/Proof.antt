@@ -1,4 +1,4 @@
--- `passes::walk` meets its contract: the definition's walk has come to the cursor, with the memory, the map and the buffers of what it did (`Going`).
+-- `passes::walk` meets its contract: the definition's walk has come to the cursor, with the buffers as what it did left them (`Going`).
 -- Assumes nothing.
 use mathlib.Core.Path.{_≡_, refl, sym, _∙_}
 use Prim.Native.Nat.{_+_, _-_, _≤_}
@@ -41,8 +41,8 @@ began c = c .before .before .before .before .before .before .before .before .bef
 
 -- ---- the needs
 
-first-requires : tie.Need-first-requires Inv-loop μ-loop
-first-requires c κs = search needs
+first-cursor-requires : tie.Need-first-cursor-requires Inv-loop μ-loop
+first-cursor-requires c κs = search needs
 
 loop-holds : tie.Need-loop-holds Inv-loop μ-loop
 loop-holds c =
@@ -52,7 +52,7 @@ loop-holds c =
       s .pre .3,
       s .pre .4,
       s .pre .5,
-      rw (c .first .ensures, s .pre .6)
+      rw (c .first-cursor .ensures, s .pre .6)
           (going-first (record { short = s .pre .0; top = top; known = s .pre .1; clear = refl; room = s .pre .4; spots = s .pre .5 })),
     )
 
@@ -102,8 +102,8 @@ part-own-start c = omega arith
 part-own-end : tie.Need-part-own-end Inv-loop μ-loop
 part-own-end c = let l = c .before .before .before .before .before .before .loop .inv in omega (arith, l .3, l .4 .counted .few)
 
-carry-out-requires : tie.Need-carry-out-requires Inv-loop μ-loop
-carry-out-requires c κs =
+apply-requires : tie.Need-apply-requires Inv-loop μ-loop
+apply-requires c κs =
     let r = c .before .before .before .before in
     let l = stood r .loop .inv in
     (l .4 .lent .short, r .read .ensures .1, found-fits (l .4) (r .read .ensures .0), l .0, l .1)
@@ -115,13 +115,13 @@ same-length-5 : tie.Need-same-length-5 Inv-loop μ-loop
 same-length-5 c =
     let d = c .before .before .before .before .before .before .before in
     let t = stood (d .before .before .before .before .before) in
-    d .carry-out .kept .1 .1 .1 .1 .1 .1 .0 ∙ t .loop .inv .0 ∙ sym (began t .pre .2)
+    d .apply .kept .1 .1 .1 .1 .1 .1 .0 ∙ t .loop .inv .0 ∙ sym (began t .pre .2)
 
 same-length-6 : tie.Need-same-length-6 Inv-loop μ-loop
 same-length-6 c =
     let d = c .before .before .before .before .before .before .before in
     let t = stood (d .before .before .before .before .before) in
-    d .carry-out .kept .1 .1 .1 .1 .1 .1 .1 .0 ∙ t .loop .inv .1 ∙ sym (began t .pre .3)
+    d .apply .kept .1 .1 .1 .1 .1 .1 .1 .0 ∙ t .loop .inv .1 ∙ sym (began t .pre .3)
 
 same-length-7 : tie.Need-same-length-7 Inv-loop μ-loop
 same-length-7 c =
@@ -137,7 +137,7 @@ returns-2 : tie.Need-returns-2 Inv-loop μ-loop
 returns-2 c =
     let d = c .before .before .before .before .before .before .before in
     let r = d .before .before .before .before .before in
-    going-stops (stood r .loop .inv .4) (r .read .ensures .0) (r .before .before .before .if1 .left) (d .carry-out .ensures) _
+    going-stops (stood r .loop .inv .4) (r .read .ensures .0) (r .before .before .before .if1 .left) (d .apply .ensures) _
     (c .before .end .given .1)
 
 enum-known-end-2 : tie.Need-enum-known-end-2 Inv-loop μ-loop
@@ -158,7 +158,7 @@ sums : (c : tie.After-placed-by Inv-loop μ-loop)
 sums c =
     let r = was-read c in
     let x = stood r .loop .inv .4 in
-    let d = was-done c .before .before .before .before .before .before .carry-out .ensures in
+    let d = was-done c .before .before .before .before .before .before .apply .ensures in
     let k = going-counts x (r .read .ensures .0) (r .before .before .before .if1 .left) d _ _ (was-done c .end2 .given .1) in
     (omega (arith, k .0, x .lent .short, c .placed-by .ensures), omega (arith, k .1, x .lent .short))
 
@@ -182,7 +182,7 @@ loop-less c =
     let d = n .before .before .before .before .before .before in
     let r = d .before .before .before .before .before in
     rw (c .advance .ensures)
-    (going-falls (stood r .loop .inv .4) (r .read .ensures .0) (r .before .before .before .if1 .left) (d .carry-out .ensures) _ _
+    (going-falls (stood r .loop .inv .4) (r .read .ensures .0) (r .before .before .before .if1 .left) (d .apply .ensures) _ _
     (n .end2 .given .1))
 
 loop-again : tie.Need-loop-again Inv-loop μ-loop
@@ -192,12 +192,12 @@ loop-again c =
     let d = n .before .before .before .before .before .before in
     let r = d .before .before .before .before .before in
     let l = stood r .loop .inv in (
-      d .carry-out .kept .1 .1 .1 .1 .1 .1 .0 ∙ l .0,
-      d .carry-out .kept .1 .1 .1 .1 .1 .1 .1 .0 ∙ l .1,
+      d .apply .kept .1 .1 .1 .1 .1 .1 .0 ∙ l .0,
+      d .apply .kept .1 .1 .1 .1 .1 .1 .1 .0 ∙ l .1,
       k .store-name .kept .1 .1 .1 .0 ∙ l .2,
       k .store-name .kept .1 .1 .1 .1 .0 ∙ l .3,
       rw (c .advance .ensures, c .before .placed-by .ensures)
-          (going-on (l .4) (r .read .ensures .0) (r .before .before .before .if1 .left) (d .carry-out .ensures) _ _ (n .end2 .given .1) _ _
+          (going-on (l .4) (r .read .ensures .0) (r .before .before .before .if1 .left) (d .apply .ensures) _ _ (n .end2 .given .1) _ _
           (k .store-name .ensures)),
     )
 
@@ -207,7 +207,7 @@ walk-spec =
     (tie.spec
     Inv-loop
     μ-loop
-    first-requires
+    first-cursor-requires
     loop-holds
     total-requires
     same-length
@@ -223,7 +223,7 @@ walk-spec =
     sub-own
     part-own-start
     part-own-end
-    carry-out-requires
+    apply-requires
     enum-known-end
     same-length-5
     same-length-6

@@ -1,4 +1,4 @@
--- `sdx::load_blocks` meets its contract: the first walk left memory and the lent buffers alone; where it stopped, that is the refusal, and where
+-- `sdx::load_blocks` meets its contract: the first walk left memory and the new-name buffers alone; where it stopped, that is the refusal, and where
 -- it did not, the second walk does what it said.
 -- Assumes nothing.
 use mathlib.Core.Path.{_∙_}

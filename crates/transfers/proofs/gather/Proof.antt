@@ -25,18 +25,18 @@ form-of-requires c κs = search needs
 opening-size-requires : tie.Need-opening-size-requires Inv-loop μ-loop
 opening-size-requires c κs = search needs
 
-begin-requires : tie.Need-begin-requires Inv-loop μ-loop
-begin-requires c κs = search needs
+first-cursor-requires : tie.Need-first-cursor-requires Inv-loop μ-loop
+first-cursor-requires c κs = search needs
 
-begin-requires-2 : tie.Need-begin-requires-2 Inv-loop μ-loop
-begin-requires-2 c κs = search needs
+first-cursor-requires-2 : tie.Need-first-cursor-requires-2 Inv-loop μ-loop
+first-cursor-requires-2 c κs = search needs
 
 loop-holds : tie.Need-loop-holds Inv-loop μ-loop
 loop-holds c =
     let s = c .before .before .before .before .before .before .before in
     let w = walkable _ _ _ _ _ (c .before .before .opening-size .ensures ∙ ap openingSize (c .before .before .before .form-of .ensures))
     (s .pre .0) in
-    (s .pre .2, w, rw (c .before .begin .ensures, c .begin2 .ensures) (gathering-first (w .opens)))
+    (s .pre .2, w, rw (c .before .first-cursor .ensures, c .first-cursor2 .ensures) (gathering-first (w .opens)))
 
 read-requires : tie.Need-read-requires Inv-loop μ-loop
 read-requires c κs = search needs
@@ -124,8 +124,8 @@ gather-spec =
     μ-loop
     form-of-requires
     opening-size-requires
-    begin-requires
-    begin-requires-2
+    first-cursor-requires
+    first-cursor-requires-2
     loop-holds
     read-requires
     enum-known-found

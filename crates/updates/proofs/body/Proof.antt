@@ -16,13 +16,13 @@ Inv-loop file table amount at write memory₀ map₀ cursor₀ memory map cursor
 abbrev μ-loop : tie.MeasureT-loop
 μ-loop file table amount at write memory₀ map₀ cursor₀ memory map cursor = length file - cursor .at
 
-begin-requires : tie.Need-begin-requires Inv-loop μ-loop
-begin-requires c κs = search needs
+first-cursor-requires : tie.Need-first-cursor-requires Inv-loop μ-loop
+first-cursor-requires c κs = search needs
 
 loop-holds : tie.Need-loop-holds Inv-loop μ-loop
 loop-holds c =
     let s = c .before .before .before .before in
-    (s .pre .2, s .pre .3, rw (c .begin .ensures) (going-first (s .pre .1)))
+    (s .pre .2, s .pre .3, rw (c .first-cursor .ensures) (going-first (s .pre .1)))
 
 read-requires : tie.Need-read-requires Inv-loop μ-loop
 read-requires c κs = search needs
@@ -102,7 +102,7 @@ body-spec =
     (tie.spec
     Inv-loop
     μ-loop
-    begin-requires
+    first-cursor-requires
     loop-holds
     read-requires
     apply-requires

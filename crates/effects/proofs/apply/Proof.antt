@@ -1,10 +1,10 @@
--- `effects::carry_out` meets its contract: each kind of block is carried out by its own function.
+-- `effects::apply` meets its contract: each kind of block is carried out by its own function.
 -- Assumes nothing.
 use native.Mathlib.Omega.{arith}
 use borrow.Author.Needs.{needs}
-use Rattle.effects.proofs.Carrying.{carried-plain, carried-room, carried-body, carried-name, carried-faulty, plain-inside, room-inside, body-inside, name-inside}
-use Rattle.effects.proofs.carry_out.Statement.{statement}
-use Rattle.effects.proofs.carry_out.Tie as tie
+use Rattle.effects.proofs.Applying.{applied-plain, applied-room, applied-body, applied-name, applied-faulty, plain-inside, room-inside, body-inside, name-inside}
+use Rattle.effects.proofs.apply.Statement.{statement}
+use Rattle.effects.proofs.apply.Tie as tie
 
 enum-known-found : tie.Need-enum-known-found
 enum-known-found c = search needs
@@ -61,7 +61,7 @@ returns : tie.Need-returns
 returns c =
     let c4 = c .before .before .before .before in
     let c8 = c4 .before .before .before .before in
-    carried-plain _ _ _ _ _ _ _ _ _ _ _ _ _ _ (c8 .found .given .1) (c4 .place .ensures)
+    applied-plain _ _ _ _ _ _ _ _ _ _ _ _ _ _ (c8 .found .given .1) (c4 .place .ensures)
 
 same-length-3 : tie.Need-same-length-3
 same-length-3 c = search needs
@@ -73,7 +73,7 @@ returns-2 : tie.Need-returns-2
 returns-2 c =
     let c4 = c .before .before .before .before in
     let c8 = c4 .before .before .before .before in
-    carried-room _ _ _ _ _ _ _ _ _ _ _ _ _ _ _ _ (c8 .found2 .given .1) (c4 .place-relocatable .ensures)
+    applied-room _ _ _ _ _ _ _ _ _ _ _ _ _ _ _ _ (c8 .found2 .given .1) (c4 .place-relocatable .ensures)
 
 same-length-5 : tie.Need-same-length-5
 same-length-5 c = search needs
@@ -85,16 +85,16 @@ returns-3 : tie.Need-returns-3
 returns-3 c =
     let c4 = c .before .before .before .before in
     let c10 = c4 .before .before .before .before .before .before in
-    carried-body _ _ _ _ _ _ _ _ _ _ _ _ _ _ (c10 .found3 .given .1) (c4 .before .before .before .amount .ensures) (c4 .body .ensures)
+    applied-body _ _ _ _ _ _ _ _ _ _ _ _ _ _ (c10 .found3 .given .1) (c4 .before .before .before .amount .ensures) (c4 .body .ensures)
 
 returns-4 : tie.Need-returns-4
-returns-4 c = carried-name _ _ _ _ _ _ _ _ _ _ (c .before .found4 .given .1)
+returns-4 c = applied-name _ _ _ _ _ _ _ _ _ _ (c .before .found4 .given .1)
 
 returns-5 : tie.Need-returns-5
-returns-5 c = carried-faulty _ _ _ _ _ _ _ _ _ (c .before .found5 .given .1)
+returns-5 c = applied-faulty _ _ _ _ _ _ _ _ _ (c .before .found5 .given .1)
 
-pub carry-out-spec : {M : Type 1} → statement M
-carry-out-spec =
+pub apply-spec : {M : Type 1} → statement M
+apply-spec =
     tie.close
     (tie.spec
     enum-known-found

@@ -24,7 +24,7 @@ use Rattle.updates.specs.declared.Ended.the-variants.{Broken, Done}
 use Rattle.words.proofs.Lent.{lent-is, back-is}
 use Rattle.words.proofs.Runs.{length-part}
 use Rattle.words.specs.Runs.{part, put}
-use Rattle.effects.specs.Effects.{placing, placingRelocatable, carried}
+use Rattle.effects.specs.Effects.{placing, placingRelocatable, applied}
 use Rattle.effects.specs.Parts.{NameStored}
 
 -- ---- one block
@@ -58,28 +58,28 @@ relocatable-placed reserves file low from size write m p r m′ p′ e h = rw e 
 
 -- each kind of block comes to what its part comes to
 module _ (file lent own : List ℕ) (c : Cursor) (b : Block) (write : Bool) (m p : List ℕ) where
-  pub carried-plain : (address from size : ℕ) (r : Ended) (m′ p′ : List ℕ) → b ≡ Plain address from size
-      → Did Ended (ended (placing file address from size)) write m p r m′ p′ → Did Ended (ended (carried file lent own c b p)) write m p r m′ p′
-  carried-plain address from size r m′ p′ e h = rw e h
+  pub applied-plain : (address from size : ℕ) (r : Ended) (m′ p′ : List ℕ) → b ≡ Plain address from size
+      → Did Ended (ended (placing file address from size)) write m p r m′ p′ → Did Ended (ended (applied file lent own c b p)) write m p r m′ p′
+  applied-plain address from size r m′ p′ e h = rw e h
 
-  pub carried-room : (reserves : Bool) (number offset from size : ℕ) (r : Ended) (m′ p′ : List ℕ) → b ≡ Relocatable reserves number offset from size
+  pub applied-room : (reserves : Bool) (number offset from size : ℕ) (r : Ended) (m′ p′ : List ℕ) → b ≡ Relocatable reserves number offset from size
       → Did Ended (ended (placingRelocatable reserves file (c .low) from size)) write m p r m′ p′
-      → Did Ended (ended (carried file lent own c b p)) write m p r m′ p′
-  carried-room reserves number offset from size r m′ p′ e h = rw e h
+      → Did Ended (ended (applied file lent own c b p)) write m p r m′ p′
+  applied-room reserves number offset from size r m′ p′ e h = rw e h
 
-  pub carried-body : (source : Source) (from amount : ℕ) (r : Ended) (m′ p′ : List ℕ) → b ≡ Update source from
+  pub applied-body : (source : Source) (from amount : ℕ) (r : Ended) (m′ p′ : List ℕ) → b ≡ Update source from
       → amount ≡ amountOf (c .table) lent own source → Did Ended (ended (body file (c .table) amount from p)) write m p r m′ p′
-      → Did Ended (ended (carried file lent own c b p)) write m p r m′ p′
-  carried-body source from amount r m′ p′ e a h = rw (e, ← a) h
+      → Did Ended (ended (applied file lent own c b p)) write m p r m′ p′
+  applied-body source from amount r m′ p′ e a h = rw (e, ← a) h
 
   -- a new name and a fault leave memory and the map as they are
-  pub carried-name : (from address : ℕ) → b ≡ NewName from address
-      → Did Ended (ended (carried file lent own c b p)) write m p (Done (from + 8) 0) m p
+  pub applied-name : (from address : ℕ) → b ≡ NewName from address
+      → Did Ended (ended (applied file lent own c b p)) write m p (Done (from + 8) 0) m p
   unfolding adjustedIn
-  carried-name from address e = rw e (did-none (Done (from + 8) 0) write m p)
+  applied-name from address e = rw e (did-none (Done (from + 8) 0) write m p)
 
-  pub carried-faulty : (fault : Fault) → b ≡ Faulty fault → Did Ended (ended (carried file lent own c b p)) write m p (Broken fault) m p
-  carried-faulty fault e = rw e (did-none (Broken fault) write m p)
+  pub applied-faulty : (fault : Fault) → b ≡ Faulty fault → Did Ended (ended (applied file lent own c b p)) write m p (Broken fault) m p
+  applied-faulty fault e = rw e (did-none (Broken fault) write m p)
 
 -- what a block asks for lies where it says
 module _ (len : ℕ) (c : Cursor) (lent own : ℕ) (b : Block) (f : Fits len c lent own b) where
