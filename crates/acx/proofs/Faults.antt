@@ -4,15 +4,15 @@ use mathlib.Core.Bool.{Bool, false}
 use mathlib.Core.List.{List}
 use mathlib.Core.Path.{_≡_}
 use Prim.Native.Nat.{ℕ}
-use Rattle.answer.proofs.Faults.{isWrong, Late, wrongOutcome, late-not}
+use Rattle.answer.proofs.Faults.{isEarly, Late, earlyOutcome, late-not}
 use Rattle.answer.specs.declared.Fault.{Fault}
 use Rattle.answer.specs.declared.Fault.the-variants.{WrongBuffer}
 use Rattle.answer.specs.declared.Outcome.the-variants.{Refused}
-use Rattle.events.proofs.Faults.{wrongCheck, wrongRan, wrongTurn, late-ran, late-answer, late-runs}
+use Rattle.events.proofs.Faults.{earlyCheck, earlyRan, earlyTurn, late-ran, late-answer, late-runs}
 use Rattle.events.specs.Events.{Event, Ran}
 use Rattle.events.specs.declared.Check.{Check}
 use Rattle.events.specs.declared.Check.the-variants.{Passed, Failed}
-use Rattle.pieces.proofs.Faults.{wrongRecord, read-late, applied-late}
+use Rattle.pieces.proofs.Faults.{earlyRecord, read-late, applied-late}
 use Rattle.pieces.specs.declared.Bases.{Bases}
 use Rattle.records.specs.declared.Record.{Record}
 use Rattle.records.specs.declared.Record.the-variants.{Code, Fixups, End, Faulty}
@@ -22,13 +22,13 @@ use Rattle.acx.specs.declared.Form.{Form}
 use Rattle.acx.specs.declared.Form.the-variants.{Disk, Device}
 
 -- whether a verdict is a refusal with 1
-abbrev wrongVerdict : Verdict → Bool
-wrongVerdict (accepted ps start) = false
-wrongVerdict (refused fault at) = isWrong fault
+abbrev earlyVerdict : Verdict → Bool
+earlyVerdict (accepted ps start) = false
+earlyVerdict (refused fault at) = isEarly fault
 
 -- where a record leads
-judge-late : (file : List ℕ) (b : Bases) (s : Progress) (c : Check) (r : Record) → Late wrongCheck c → Late wrongRecord r
-    → Late (wrongTurn wrongVerdict) (judge file b s c r)
+judge-late : (file : List ℕ) (b : Bases) (s : Progress) (c : Check) (r : Record) → Late earlyCheck c → Late earlyRecord r
+    → Late (earlyTurn earlyVerdict) (judge file b s c r)
 judge-late file b s (Failed fault) r k l = search late-runs
 judge-late file b s Passed (Code kind address from n) k l = search late-runs
 judge-late file b s Passed (Fixups fixup from n) k l = search late-runs
@@ -36,33 +36,33 @@ judge-late file b s Passed (End entry next) k l = search late-runs
 judge-late file b s Passed (Faulty fault) k l = search late-runs
 
 -- so every turn of a file, and all its records
-turn-late : (file : List ℕ) (b : Bases) (s : Progress) (map : List ℕ) → Late (wrongRan (wrongTurn wrongVerdict)) (turn file b s map)
+turn-late : (file : List ℕ) (b : Bases) (s : Progress) (map : List ℕ) → Late (earlyRan (earlyTurn earlyVerdict)) (turn file b s map)
 unfolding turn checked
 turn-late file b s map =
     let r = read-late file (s .at) (lastOf (s .pieces)) in
     late-ran _ _ _ (judge-late file b s _ _ (late-answer _ _ (applied-late file b _ _ (recordAt file s) map r)) r)
 
-records-late : (file : List ℕ) (b : Bases) (at : ℕ) → Late (wrongRan wrongVerdict) (recordsOf file b at)
+records-late : (file : List ℕ) (b : Bases) (at : ℕ) → Late (earlyRan earlyVerdict) (recordsOf file b at)
 unfolding recordsFrom
 records-late file b at = search (late-runs, turn-late)
 
 -- the opening
-opening-late : (form : Form) (file : List ℕ) → Late wrongCheck (opening form file)
+opening-late : (form : Form) (file : List ℕ) → Late earlyCheck (opening form file)
 unfolding opening
 opening-late Disk file = search late-runs
 opening-late Device file = search late-runs
 
-opened-late : (c : Check) (rest : Ran Verdict) → Late wrongCheck c → Late (wrongRan wrongVerdict) rest
-    → Late (wrongRan wrongVerdict) (opened c rest)
+opened-late : (c : Check) (rest : Ran Verdict) → Late earlyCheck c → Late (earlyRan earlyVerdict) rest
+    → Late (earlyRan earlyVerdict) (opened c rest)
 opened-late Passed rest h i = i
 opened-late (Failed fault) rest h i = search late-runs
 
 -- the whole file, and the settings
-loads-late : (form : ℕ) (b : Bases) (file : List ℕ) → Late (wrongRan wrongVerdict) (load form b file)
+loads-late : (form : ℕ) (b : Bases) (file : List ℕ) → Late (earlyRan earlyVerdict) (load form b file)
 unfolding load judged
 loads-late form b file = search (late-runs, opened-late, opening-late, records-late)
 
-report-late : (v : Verdict) (es : List Event) → Late wrongVerdict v → Late wrongOutcome (report v es)
+report-late : (v : Verdict) (es : List Event) → Late earlyVerdict v → Late earlyOutcome (report v es)
 report-late (accepted ps start) es h = search late-runs
 report-late (refused fault at) es h = search late-runs
 

@@ -2,5 +2,6 @@
 pub mod Events
 pub mod Checks
 pub mod Walks
+pub mod Traces
 pub mod Lists
 pub mod Faults

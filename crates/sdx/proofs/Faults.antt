@@ -3,13 +3,13 @@
 use mathlib.Core.Bool.{Bool, true, false}
 use mathlib.Core.List.{List}
 use Prim.Native.Nat.{ℕ}
-use Rattle.answer.proofs.Faults.{isWrong, Late, wrongOutcome}
+use Rattle.answer.proofs.Faults.{isEarly, Late, earlyOutcome}
 use Rattle.blocks.specs.Blocks.{readPlain, readRoom, readRelocatable, readUpdate, byDefinition, readNames, readAddress, readNewName, read}
 use Rattle.blocks.specs.declared.Block.{Block}
 use Rattle.blocks.specs.declared.Block.the-variants.{Plain, Relocatable, Update, NewName, Faulty}
 use Rattle.blocks.specs.declared.Cursor.{Cursor}
 use Rattle.effects.specs.Effects.{applied}
-use Rattle.events.proofs.Faults.{wrongCheck, wrongRan, wrongTurn, late-ran, late-answer, late-runs}
+use Rattle.events.proofs.Faults.{earlyCheck, earlyRan, earlyTurn, late-ran, late-answer, late-runs}
 use Rattle.events.specs.Events.{Event, Ran}
 use Rattle.events.specs.declared.Check.{Check}
 use Rattle.events.specs.declared.Check.the-variants.{Passed, Failed}
@@ -27,37 +27,37 @@ use Rattle.sdx.specs.Call.{opening, opened, admitting, load, report}
 
 -- ---- whether an answer is a refusal with 1
 
-abbrev wrongItem : Item → Bool
-wrongItem (FaultyItem fault) = isWrong fault
-wrongItem (End next) = false
-wrongItem (Move counter next) = false
-wrongItem (Adjust counter next) = false
+abbrev earlyItem : Item → Bool
+earlyItem (FaultyItem fault) = isEarly fault
+earlyItem (End next) = false
+earlyItem (Move counter next) = false
+earlyItem (Adjust counter next) = false
 
-abbrev wrongStop : Stop → Bool
-wrongStop (broken fault) = isWrong fault
-wrongStop (done next) = false
+abbrev earlyStop : Stop → Bool
+earlyStop (broken fault) = isEarly fault
+earlyStop (done next) = false
 
-abbrev wrongBlock : Block → Bool
-wrongBlock (Plain address from size) = false
-wrongBlock (Relocatable reserves number offset from size) = false
-wrongBlock (Update source from) = false
-wrongBlock (NewName from address) = false
-wrongBlock (Faulty fault) = isWrong fault
+abbrev earlyBlock : Block → Bool
+earlyBlock (Plain address from size) = false
+earlyBlock (Relocatable reserves number offset from size) = false
+earlyBlock (Update source from) = false
+earlyBlock (NewName from address) = false
+earlyBlock (Faulty fault) = isEarly fault
 
-abbrev wrongVerdict : Verdict → Bool
-wrongVerdict (finished z) = false
-wrongVerdict (refused fault z) = isWrong fault
+abbrev earlyVerdict : Verdict → Bool
+earlyVerdict (finished z) = false
+earlyVerdict (refused fault z) = isEarly fault
 
 -- ---- a body
 
 -- an item, read
-item-late : (file : List ℕ) (table : List Slot) (at : ℕ) (counter : Counter) → Late wrongItem (read-item file table at counter)
+item-late : (file : List ℕ) (table : List Slot) (at : ℕ) (counter : Counter) → Late earlyItem (read-item file table at counter)
 unfolding read-item setting settingToBlock
 item-late file table at Unset = search late-runs depth 10
 item-late file table at (Set counter) = search late-runs depth 10
 
 -- carried out
-applied-item-late : (amount : ℕ) (item : Item) (map : List ℕ) → Late wrongItem item → Late (wrongRan wrongCheck) (appliedItem amount item map)
+applied-item-late : (amount : ℕ) (item : Item) (map : List ℕ) → Late earlyItem item → Late (earlyRan earlyCheck) (appliedItem amount item map)
 unfolding adjusting
 applied-item-late amount (FaultyItem fault) map h = search late-runs
 applied-item-late amount (End next) map h = search late-runs
@@ -65,7 +65,7 @@ applied-item-late amount (Move counter next) map h = search late-runs
 applied-item-late amount (Adjust counter next) map h = search late-runs
 
 -- and where it leads
-judge-late : (c : Check) (item : Item) → Late wrongCheck c → Late wrongItem item → Late (wrongTurn wrongStop) (judge c item)
+judge-late : (c : Check) (item : Item) → Late earlyCheck c → Late earlyItem item → Late (earlyTurn earlyStop) (judge c item)
 judge-late (Failed fault) item h i = search late-runs
 judge-late Passed (FaultyItem fault) h i = search late-runs
 judge-late Passed (End next) h i = search late-runs
@@ -74,32 +74,32 @@ judge-late Passed (Adjust counter next) h i = search late-runs
 
 -- so every turn of a body, and the body
 turn-late : (file : List ℕ) (table : List Slot) (amount : ℕ) (s : BodyState) (map : List ℕ)
-    → Late (wrongRan (wrongTurn wrongStop)) (turn file table amount s map)
+    → Late (earlyRan (earlyTurn earlyStop)) (turn file table amount s map)
 unfolding turn
 turn-late file table amount s map =
     let item = item-late file table (s .at) (s .counter) in
     late-ran _ _ _ (judge-late _ _ (late-answer _ _ (applied-item-late amount _ map item)) item)
 
-body-late : (file : List ℕ) (table : List Slot) (amount at : ℕ) (map : List ℕ) → Late (wrongRan wrongStop) (body file table amount at map)
+body-late : (file : List ℕ) (table : List Slot) (amount at : ℕ) (map : List ℕ) → Late (earlyRan earlyStop) (body file table amount at map)
 unfolding items
 body-late file table amount at map = search (late-runs, turn-late)
 
 -- ---- a block
 
 -- a name, by its definition
-definition-late : (next : ℕ) (d : Definition) → Late wrongBlock (byDefinition next d)
+definition-late : (next : ℕ) (d : Definition) → Late earlyBlock (byDefinition next d)
 definition-late next Missing = search late-runs
 definition-late next (Own i) = search late-runs
 definition-late next (Lent i) = search late-runs
 
 -- a block, read
-block-late : (file : List ℕ) (high : ℕ) (lent own : List ℕ) (c : Cursor) → Late wrongBlock (read file high lent own c)
+block-late : (file : List ℕ) (high : ℕ) (lent own : List ℕ) (c : Cursor) → Late earlyBlock (read file high lent own c)
 unfolding read readPlain readNames readNewName readAddress readUpdate readRelocatable readRoom
 block-late file high lent own c = search (late-runs, definition-late) depth 14
 
 -- and carried out
-applied-late : (file lent own : List ℕ) (c : Cursor) (b : Block) (map : List ℕ) → Late wrongBlock b
-    → Late (wrongRan wrongStop) (applied file lent own c b map)
+applied-late : (file lent own : List ℕ) (c : Cursor) (b : Block) (map : List ℕ) → Late earlyBlock b
+    → Late (earlyRan earlyStop) (applied file lent own c b map)
 applied-late file lent own c (Plain address from size) map h = search late-runs
 applied-late file lent own c (Relocatable true number offset from size) map h = search late-runs
 applied-late file lent own c (Relocatable false number offset from size) map h = search late-runs
@@ -107,42 +107,42 @@ applied-late file lent own c (Update source from) map h = body-late file (c .tab
 applied-late file lent own c (NewName from address) map h = search late-runs
 applied-late file lent own c (Faulty fault) map h = search late-runs
 
-applied-at-late : (file : List ℕ) (g : Inputs) (z : Progress) (map : List ℕ) → Late (wrongRan wrongStop) (appliedAt file g z map)
+applied-at-late : (file : List ℕ) (g : Inputs) (z : Progress) (map : List ℕ) → Late (earlyRan earlyStop) (appliedAt file g z map)
 unfolding appliedAt
 applied-at-late file g z map = applied-late file _ _ (z .cursor) _ map (block-late file (g .high) (g .names) (z .names) (z .cursor))
 
 -- ---- a load
 
 -- where a block leads
-judge-block-late : (file : List ℕ) (z : Progress) (b : Block) (es : List Event) (s : Stop) → Late wrongStop s
-    → Late (wrongTurn wrongVerdict) (judge-block file z b es s)
+judge-block-late : (file : List ℕ) (z : Progress) (b : Block) (es : List Event) (s : Stop) → Late earlyStop s
+    → Late (earlyTurn earlyVerdict) (judge-block file z b es s)
 judge-block-late file z b es (broken fault) h = search late-runs
 judge-block-late file z b es (done next) h = search late-runs
 
 -- so every turn of a file, and all its blocks
-turn-block-late : (file : List ℕ) (g : Inputs) (z : Progress) (map : List ℕ) → Late (wrongRan (wrongTurn wrongVerdict)) (turn-block file g z map)
+turn-block-late : (file : List ℕ) (g : Inputs) (z : Progress) (map : List ℕ) → Late (earlyRan (earlyTurn earlyVerdict)) (turn-block file g z map)
 unfolding turn-block
 turn-block-late file g z map = search (late-runs, judge-block-late file z (blockAt file g z), applied-at-late)
 
-blocks-late : (file : List ℕ) (g : Inputs) → Late (wrongRan wrongVerdict) (blocksOf file g)
+blocks-late : (file : List ℕ) (g : Inputs) → Late (earlyRan earlyVerdict) (blocksOf file g)
 unfolding blocksFrom
 blocks-late file g = search (late-runs, turn-block-late)
 
 -- the checks before the first block, and then the blocks
-opened-late : (g : Inputs) (c : Check) (rest : Ran Verdict) → Late wrongCheck c → Late (wrongRan wrongVerdict) rest
-    → Late (wrongRan wrongVerdict) (opened g c rest)
+opened-late : (g : Inputs) (c : Check) (rest : Ran Verdict) → Late earlyCheck c → Late (earlyRan earlyVerdict) rest
+    → Late (earlyRan earlyVerdict) (opened g c rest)
 opened-late g Passed rest h i = i
 opened-late g (Failed fault) rest h i = search late-runs
 
-loads-late : (file : List ℕ) (g : Inputs) → Late (wrongRan wrongVerdict) (load file g)
+loads-late : (file : List ℕ) (g : Inputs) → Late (earlyRan earlyVerdict) (load file g)
 unfolding load admitting opening
 loads-late file g = search (late-runs, opened-late, blocks-late) depth 6
 
 -- what is reported of it
-report-late : (memory : List ℕ) (v : Verdict) (es : List Event) → Late wrongVerdict v → Late wrongOutcome (report memory v es)
+report-late : (memory : List ℕ) (v : Verdict) (es : List Event) → Late earlyVerdict v → Late earlyOutcome (report memory v es)
 report-late memory (finished z) es h = search late-runs
 report-late memory (refused fault z) es h = search late-runs
 
 -- no load with the right buffers is refused with 1
-pub load-late : (file : List ℕ) (g : Inputs) (memory : List ℕ) → Late wrongOutcome (report memory (load file g .answer) (load file g .events))
+pub load-late : (file : List ℕ) (g : Inputs) (memory : List ℕ) → Late earlyOutcome (report memory (load file g .answer) (load file g .events))
 load-late file g memory = search (late-runs, report-late memory (load file g .answer) (load file g .events), loads-late)
