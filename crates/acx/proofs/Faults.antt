@@ -1,10 +1,15 @@
--- No file is refused with 1: that number is left to the lengths of what is lent.
+-- No file is refused with 1, 2 or 3: these are left to lengths and settings. So each has its one cause.
 -- Assumes nothing.
-use mathlib.Core.Bool.{Bool, false}
+use mathlib.Core.Bool.{Bool, true, false, false≢true}
 use mathlib.Core.List.{List}
-use mathlib.Core.Path.{_≡_}
+use mathlib.Core.Path.{_≡_, refl, sym, ap, _∙_}
 use Prim.Native.Nat.{ℕ}
-use Rattle.answer.proofs.Faults.{isEarly, Late, earlyOutcome, late-not}
+use lib.Dec.{leb}
+use lib.ListN.{length}
+use Rattle.answer.proofs.Causes.{causes-of}
+use Rattle.answer.proofs.Faults.{isEarly, Late, earlyOutcome}
+use Rattle.answer.specs.Causes.{Causes}
+use Rattle.answer.specs.Checks.{need}
 use Rattle.answer.specs.declared.Fault.{Fault}
 use Rattle.answer.specs.declared.Fault.the-variants.{WrongBuffer}
 use Rattle.answer.specs.declared.Outcome.the-variants.{Refused}
@@ -16,12 +21,13 @@ use Rattle.pieces.proofs.Faults.{earlyRecord, read-late, applied-late}
 use Rattle.pieces.specs.declared.Bases.{Bases}
 use Rattle.records.specs.declared.Record.{Record}
 use Rattle.records.specs.declared.Record.the-variants.{Code, Fixups, End, Faulty}
-use Rattle.acx.specs.Call.{load}
+use Rattle.events.specs.Sizes.{fileLimit}
+use Rattle.acx.specs.Call.{formOf, inRange, load, call}
 use Rattle.acx.specs.Walk.{Verdict, accepted, refused, Progress, lastOf, recordAt, checked, judge, turn, recordsFrom, recordsOf, opening, opened, judged, report, reported}
 use Rattle.acx.specs.declared.Form.{Form}
 use Rattle.acx.specs.declared.Form.the-variants.{Disk, Device}
 
--- whether a verdict is a refusal with 1
+-- whether a verdict is a refusal with 1, 2 or 3
 abbrev earlyVerdict : Verdict → Bool
 earlyVerdict (accepted ps start) = false
 earlyVerdict (refused fault at) = isEarly fault
@@ -57,16 +63,27 @@ opened-late : (c : Check) (rest : Ran Verdict) → Late earlyCheck c → Late (e
 opened-late Passed rest h i = i
 opened-late (Failed fault) rest h i = search late-runs
 
--- the whole file, and the settings
-loads-late : (form : ℕ) (b : Bases) (file : List ℕ) → Late (earlyRan earlyVerdict) (load form b file)
-unfolding load judged
-loads-late form b file = search (late-runs, opened-late, opening-late, records-late)
+-- the whole file
+judged-late : (form : Form) (file : List ℕ) (b : Bases) → Late (earlyRan earlyVerdict) (judged form file b)
+unfolding judged
+judged-late form file b = search (late-runs, opened-late, opening-late, records-late)
 
 report-late : (v : Verdict) (es : List Event) → Late earlyVerdict v → Late earlyOutcome (report v es)
 report-late (accepted ps start) es h = search late-runs
 report-late (refused fault at) es h = search late-runs
 
--- a load with the right buffers is never refused with 1
+-- why a call is refused with 1, 2 or 3
+pub call-causes : (form : ℕ) (b : Bases) (file : List ℕ) (right : Bool)
+    → Causes right (inRange form b) (leb (length file) fileLimit) (reported (call form b file right) .answer)
+unfolding call load need
+call-causes form b file right =
+    causes-of right (inRange form b) (leb (length file) fileLimit) (λ h. rw h refl) (λ h i. rw (h, i) refl) (λ h i j. rw (h, i, j) refl)
+    (λ h i j. rw (h, i, j) (report-late _ _ (late-answer _ _ (judged-late (formOf form) file b))))
+
+-- so a load with the right buffers is never refused with 1
 pub load-late : (form : ℕ) (b : Bases) (file : List ℕ) (fault : Fault) (at side : ℕ) → reported (load form b file) .answer ≡ Refused fault at side
     → ¬ (fault ≡ WrongBuffer)
-load-late form b file fault at side e = late-not (report-late _ (load form b file .events) (late-answer _ _ (loads-late form b file))) e
+unfolding call need
+load-late form b file fault at side e f =
+    false≢true
+    (sym (call-causes form b file true .wrong-buffer-only at side (e ∙ ap (λ (k : Fault). Refused k at side) f)))

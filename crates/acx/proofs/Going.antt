@@ -23,8 +23,9 @@ use Rattle.records.specs.declared.Entry.{Entry}
 use Rattle.records.specs.declared.Record.{Record}
 use Rattle.records.specs.declared.Record.the-variants.{End}
 use Rattle.acx.proofs.Cursors.{Tracks, tracks-first, tracks-found, tracks-ends, tracks-on, tracks-further, tracks-ends-by, onward-by-tag}
-use Rattle.acx.proofs.Turning.{Onward, turn-is, end-none, events-after}
+use Rattle.acx.proofs.Turning.{turn-is, end-none, events-after}
 use Rattle.pieces.specs.AtBases.{startOf, ending, applied, EndsBy}
+use Rattle.acx.specs.Rules.{Onward}
 use Rattle.acx.specs.Cursor.{firstCursor, advanced}
 use Rattle.pieces.specs.Pieces.{events}
 use Rattle.acx.specs.Walk.{Progress, begun, recordAt, checked, stepped, recordsOf, reported}

@@ -8,7 +8,7 @@ use lib.ListN.{length}
 use Rattle.answer.specs.declared.Fault.{Fault}
 use Rattle.answer.specs.declared.Start.{Start}
 use Rattle.events.proofs.Walks.{ends-leads, leads-same, ends-same}
-use Rattle.events.specs.Events.{Event, place}
+use Rattle.events.specs.Events.{Event, place, marks, blank, Ran, passed}
 use Rattle.events.specs.Walk.{ends, leads, bytesLeft}
 use Rattle.events.specs.declared.Check.{Check}
 use Rattle.events.specs.declared.Check.the-variants.{Passed, Failed}
@@ -21,11 +21,12 @@ use Rattle.records.specs.declared.Kind.{Kind}
 use Rattle.records.specs.declared.Record.{Record}
 use Rattle.records.specs.declared.Record.the-variants.{Code, Fixups, End, Faulty}
 use Rattle.words.specs.Runs.{part}
-use Rattle.pieces.proofs.Applying.{ending-none}
+use Rattle.pieces.proofs.Applying.{ending-none, ending-last}
 use Rattle.pieces.proofs.Checks.{placing-passed, adjusting-all}
 use Rattle.pieces.proofs.PieceEvents.{adjustments-append, events-code}
-use Rattle.pieces.specs.AtBases.{placing, adjusting, applied}
+use Rattle.pieces.specs.AtBases.{placing, adjusting, startOf, applied}
 use Rattle.pieces.specs.Pieces.{Piece, placeAt, placeOf, limitOf, adjustments, events}
+use Rattle.acx.specs.Rules.{Onward, EndRecord}
 use Rattle.acx.specs.Walk.{accepted, refused, Progress, lastOf, lastPlace, lastSize, recordAt, checked, withFields, stepped, judge, turn}
 use Rattle.pieces.specs.declared.Bases.{Bases}
 
@@ -39,14 +40,11 @@ refused-accepted e = let n : _≡_ {A = ℕ} 0 1 = cc in omega arith
 pub accepted-pieces : {ps qs : List Piece} {start start′ : Start} → accepted ps start ≡ accepted qs start′ → ps ≡ qs
 accepted-pieces e = cc
 
--- ---- where a record leads
+-- a check by its answer and its events
+pub checked-is : (o : Ran Check) {es : List Event} → o .answer ≡ Passed → o .events ≡ es → o ≡ passed es
+checked-is o e f = ap (λ (c : Check). record { answer = c; events = o .events }) e ∙ ap passed f
 
--- the record is not the last, nor a fault
-abbrev pub Onward : Record → Type 0
-Onward (Code kind address from n) = Unit {0}
-Onward (Fixups fixup from n) = Unit {0}
-Onward (End entry next) = ⊥
-Onward (Faulty fault) = ⊥
+-- ---- where a record leads
 
 -- the next record begins further on, in the file or at its end
 pub further : (file : List ℕ) (s : Progress) (r : Record) → recordAt file s ≡ r → Onward r
@@ -102,18 +100,42 @@ module _ (file : List ℕ) (b : Bases) (s : Progress) (map : List ℕ) where
   unfolding checked applied
   end-none entry next e = rw e (ending-none b entry next (length file))
 
+  -- and where it passes it ends the file
+  end-ends : (entry : Entry) (next : ℕ) → recordAt file s ≡ End entry next → checked file b s map .answer ≡ Passed → next ≡ length file
+  unfolding checked applied
+  end-ends entry next e c =
+      let w = lies-as file (s .at) (lastOf (s .pieces)) _ e in
+      omega (arith, w .1, ending-last b entry next (length file) (rw e at c))
+
+module _ (file : List ℕ) (b : Bases) (s : Progress) (es : List Event) where
+  abbrev map : List ℕ
+  map = marks es blank
+
   -- a turn accepts a file at its end record alone, with the pieces so far
-  pub turn-accepted : (ps : List Piece) (start : Start) → turn file b s map .answer ≡ ends (accepted ps start)
-      → (s .pieces ≡ ps) × (entry : Entry) × (next : ℕ) × (recordAt file s ≡ End entry next)
-  turn-accepted ps start e = by (checked file b s map .answer) (recordAt file s) refl (sym (turn-is _ _ refl refl) ∙ e)
+  pub turn-accepted : (ps : List Piece) (start : Start) → turn file b s map .answer ≡ ends (accepted ps start) → EndRecord file b s es ps start
+  turn-accepted ps start e = by (checked file b s map .answer) (recordAt file s) refl refl (sym (turn-is file b s map _ _ refl refl) ∙ e)
     where
-      by : (c : Check) (r : Record) → recordAt file s ≡ r → judge file b s c r ≡ ends (accepted ps start)
-          → (s .pieces ≡ ps) × (entry : Entry) × (next : ℕ) × (recordAt file s ≡ End entry next)
-      by (Failed fault) r i e = absurd (refused-accepted (ends-same e))
-      by Passed (Code kind address from n) i e = absurd (ends-leads (sym e))
-      by Passed (Fixups fixup from n) i e = absurd (ends-leads (sym e))
-      by Passed (End entry next) i e = (accepted-pieces (ends-same e), entry, next, i)
-      by Passed (Faulty fault) i e = absurd (refused-accepted (ends-same e))
+      by : (c : Check) (r : Record) → checked file b s map .answer ≡ c → recordAt file s ≡ r → judge file b s c r ≡ ends (accepted ps start)
+          → EndRecord file b s es ps start
+      by (Failed fault) r c i e = absurd (refused-accepted (ends-same e))
+      by Passed (Code kind address from n) c i e = absurd (ends-leads (sym e))
+      by Passed (Fixups fixup from n) c i e = absurd (ends-leads (sym e))
+      by Passed (End entry next) c i e =
+          let v : accepted (s .pieces) (startOf b entry) ≡ accepted ps start = ends-same e in
+          record {
+            entry = entry;
+            is = i ∙ ap (End entry) (end-ends file b s map entry next i c);
+            passes = checked-is (checked file b s map) c (end-none file b s map entry next i);
+            pieces = cc;
+            start-is = cc;
+          }
+      by Passed (Faulty fault) c i e = absurd (refused-accepted (ends-same e))
+
+  -- and at every end record that passes and ends the file
+  pub turn-accepts : (ps : List Piece) (start : Start) → EndRecord file b s es ps start → turn file b s map .answer ≡ ends (accepted ps start)
+  turn-accepts ps start h =
+      turn-is file b s map Passed _ (ap (λ (o : Ran Check). o .answer) (h .passes)) (h .is)
+      ∙ ap ends (ap (λ (qs : List Piece). accepted qs (startOf b (h .entry))) (sym (h .pieces)) ∙ ap (accepted ps) (sym (h .start-is)))
 
 -- each turn that leads on leaves fewer bytes
 pub turn-falls : (file : List ℕ) (b : Bases) (s z : Progress) (map : List ℕ) → turn file b s map .answer ≡ leads z

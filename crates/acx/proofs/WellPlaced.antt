@@ -23,10 +23,11 @@ use Rattle.pieces.proofs.Checks.{placing-passed, limit-le}
 use Rattle.pieces.proofs.Loads.{Fits}
 use Rattle.pieces.proofs.Marks.{marks-fields, marks-some, code-apart, fields-fresh}
 use Rattle.acx.proofs.Standing.{Stands, stands-first, stands-on}
-use Rattle.acx.proofs.Turning.{Onward, code-passed, fixups-passed}
+use Rattle.acx.proofs.Turning.{code-passed, fixups-passed}
 use Rattle.acx.proofs.Walking.{Passes, EndedAt, accepted-keeps}
 use Rattle.pieces.specs.AtBases.{adjusting}
 use Rattle.pieces.specs.Places.{FieldsApart, Inside}
+use Rattle.acx.specs.Rules.{Onward}
 use Rattle.acx.specs.Demand2.{WellPlaced}
 use Rattle.pieces.specs.Pieces.{Piece, size, placeOf, limitOf, events}
 use Rattle.acx.specs.Walk.{accepted, Progress, lastOf, lastPlace, lastSize, recordAt, withFields, stepped, openingSize, judged}

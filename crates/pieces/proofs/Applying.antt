@@ -2,20 +2,22 @@
 -- Assumes nothing.
 use mathlib.Core.Bool.{Bool, true, false}
 use mathlib.Core.List.{List, []}
-use mathlib.Core.Path.{_≡_, refl, ap, _∙_}
+use mathlib.Core.Path.{_≡_, refl, sym, ap, _∙_}
 use Prim.Native.Nat.{ℕ, _+_, _-_, _≤_}
 use native.Mathlib.Omega.{arith}
 use borrow.Rule.Slice.PartMut.{midOf}
+use borrow.Author.Tests.{leb-true}
 use lib.Dec.{leb}
 use lib.ListN.{length}
 use Rattle.answer.specs.Checks.{need}
 use Rattle.answer.specs.Report.{address}
 use Rattle.answer.specs.declared.Fault.{Fault}
 use Rattle.answer.specs.declared.Fault.the-variants.{StartTooHigh, BytesAfterEnd}
+use Rattle.events.proofs.Checks.{need-passed}
 use Rattle.events.proofs.Events.{reached-none, did-none}
-use Rattle.events.specs.Events.{failed, passed, Did}
+use Rattle.events.specs.Events.{Ran, failed, passed, Did}
 use Rattle.events.specs.declared.Check.{Check}
-use Rattle.events.specs.declared.Check.the-variants.{Failed}
+use Rattle.events.specs.declared.Check.the-variants.{Passed, Failed}
 use Rattle.fields.specs.Fields.{fieldsOf}
 use Rattle.records.specs.declared.Entry.{Entry}
 use Rattle.fields.specs.declared.Fixup.{Fixup}
@@ -45,6 +47,14 @@ needs-none false d = refl
 pub ending-none : (b : Bases) (entry : Entry) (next len : ℕ) → ending b entry next len .events ≡ []
 unfolding ending
 ending-none b entry next len = needs-none (leb (address (startOf b entry)) 65535) (leb len next)
+
+-- and where it passes, nothing follows it
+pub ending-last : (b : Bases) (entry : Entry) (next len : ℕ) → ending b entry next len .answer ≡ Passed → len ≤ next
+unfolding ending
+ending-last b entry next len e =
+    let x = need-passed _ _ _ e in
+    let y = need-passed _ _ _ (sym (ap (λ (o : Ran Check). o .answer) (x .1)) ∙ e) in
+    leb-true _ _ (y .0)
 
 -- a record of each kind, where the last code record before it has k bytes at a
 module _ (file : List ℕ) (b : Bases) (a k : ℕ) (found : Record) (write : Bool) (m p : List ℕ) where

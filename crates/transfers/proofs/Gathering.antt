@@ -12,7 +12,7 @@ use Rattle.acx.proofs.Cursors.{Tracks, tracks-first, tracks-found, tracks-on, t
 use Rattle.pieces.proofs.Edits.{length-edited, edited-append}
 use Rattle.pieces.proofs.Marks.{fields-fresh}
 use Rattle.acx.proofs.Turning.{Onward, fixups-passed}
-use Rattle.acx.proofs.Walking.{Passes, judged-opens}
+use Rattle.acx.proofs.Walking.{opening-fits, Passes, judged-opens}
 use Rattle.acx.specs.Call.{formOf}
 use Rattle.acx.specs.Cursor.{firstCursor, advanced}
 use Rattle.pieces.specs.Places.{Inside}
@@ -67,7 +67,7 @@ walkable form old new file first e h =
     rw e
     (record {
       fits = follows file form ps old (x .0) .fits;
-      opens = u .0;
+      opens = opening-fits (formOf form) file (u .0);
       start = x .0 .0;
       start′ = x .1 .0;
       yes-old = ap (λ (o : Ran Verdict). o .answer) (sym (u .1)) ∙ yes-old;

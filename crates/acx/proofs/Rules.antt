@@ -1,0 +1,190 @@
+-- The loader's definition accepts exactly the files that follow the rules, and refuses exactly where they are broken: specs/Rules.antt.
+-- Assumes nothing.
+use mathlib.Core.Bool.{Bool, true, false}
+use mathlib.Core.List.{List}
+use mathlib.Core.Path.{_≡_, refl, sym, ap, _∙_, subst}
+use Prim.Native.Nat.{ℕ, _≤_}
+use native.Mathlib.Omega.{arith}
+use borrow.Author.Tests.{leb-true, leb-false, le-leb, lt-leb}
+use lib.Dec.{leb}
+use lib.ListN.{length}
+use Rattle.answer.specs.Checks.{need}
+use Rattle.answer.specs.declared.Fault.{Fault}
+use Rattle.answer.specs.declared.Fault.the-variants.{SettingOutOfRange, FileTooLong, CutShort}
+use Rattle.answer.specs.declared.Start.{Start}
+use Rattle.events.proofs.Checks.{failed-passed}
+use Rattle.events.proofs.Traces.{trace-ends, walk-traced}
+use Rattle.events.proofs.Walks.{ends-leads, ends-same, EndsAt}
+use Rattle.events.specs.Events.{Event, marks, blank, Ran}
+use Rattle.events.specs.Trace.{Trace}
+use Rattle.events.specs.Walk.{Turn, ends, leads, bytesLeft}
+use Rattle.events.specs.declared.Check.{Check}
+use Rattle.events.specs.declared.Check.the-variants.{Passed, Failed}
+use Rattle.records.specs.declared.Record.{Record}
+use Rattle.records.specs.declared.Record.the-variants.{Code, Fixups, End, Faulty}
+use Rattle.pieces.specs.AtBases.{applied}
+use Rattle.pieces.specs.Pieces.{Piece}
+use Rattle.pieces.specs.declared.Bases.{Bases}
+use Rattle.acx.proofs.Calling.{load-follows}
+use Rattle.acx.proofs.Turning.{refused-accepted, checked-is, turn-events, turn-is, turn-on, turn-led, turn-accepted, turn-accepts, turn-falls}
+use Rattle.acx.proofs.Walking.{judged-opens}
+use Rattle.acx.specs.Call.{formOf, inRange, load}
+use Rattle.acx.specs.Rules.{Onward, NextRecord, Follows, Fails, in-opening, in-record, Accepts, Refuses, out-of-range, too-long, by-file, RulesClaim}
+use Rattle.acx.specs.Walk.{Verdict, accepted, refused, atOnce, Progress, begun, recordAt, checked, stepped, judge, turn, recordsFrom, recordsOf, opening, openingSize, opened, judged}
+use Rattle.acx.specs.declared.Form.{Form}
+
+-- ---- the steps are the turns
+
+module _ (file : List ℕ) (b : Bases) where
+  -- a record that leads on is a turn that does
+  step-turn : (y z : Progress) (es fs : List Event) → NextRecord file b y es z fs → turn file b y (marks es blank) ≡ record { answer = leads z; events = fs }
+  step-turn y z es fs x =
+      let p = marks es blank in
+      let answer : turn file b y p .answer ≡ leads z =
+      turn-on file b y p _ refl (x .onward) (ap (λ (o : Ran Check). o .answer) (x .passes)) ∙ ap leads (sym (x .leads-to)) in
+      ap (λ (t : Turn Progress Verdict). record { answer = t; events = turn file b y p .events }) answer
+      ∙ ap (λ (gs : List Event). record { answer = leads z; events = gs })
+      (turn-events file b y p ∙ ap (λ (o : Ran Check). o .events) (x .passes))
+
+  -- and the other way round
+  turn-step : (y z : Progress) (es : List Event) → turn file b y (marks es blank) .answer ≡ leads z
+      → NextRecord file b y es z (turn file b y (marks es blank) .events)
+  turn-step y z es e =
+      let p = marks es blank in
+      let l = turn-led file b y p z e in
+      record {
+        onward = subst Onward (sym (l .is)) (l .on);
+        passes = checked-is (checked file b y p) (l .passed) (sym (turn-events file b y p));
+        leads-to = sym (l .to) ∙ ap (stepped file y) (sym (l .is));
+      }
+
+  -- the records from an offset on end where their trace does
+  records-traced : (at : ℕ) → EndsAt (turn file b) (Trace (NextRecord file b) (begun at)) blank (recordsOf file b at)
+  unfolding recordsFrom
+  records-traced at =
+      walk-traced (turn file b) (λ z. refused CutShort (z .at)) (λ z. bytesLeft file (z .at)) (turn-falls file b) blank (NextRecord file b) turn-step
+      (begun at)
+
+  trace-records : (at : ℕ) (s : Progress) (es : List Event) (v : Verdict) → Trace (NextRecord file b) (begun at) s es
+      → turn file b s (marks es blank) .answer ≡ ends v
+      → recordsOf file b at .answer ≡ v
+  unfolding recordsFrom
+  trace-records at s es v t e =
+      ap (λ (o : Ran Verdict). o .answer)
+      (trace-ends (turn file b) (λ z. refused CutShort (z .at)) (λ z. bytesLeft file (z .at)) (turn-falls file b) blank (NextRecord file b) step-turn
+      t v e)
+
+-- ---- the file
+
+module _ (form : Form) (file : List ℕ) (b : Bases) where
+  -- behind an opening that passes the records decide
+  judged-records : opening form file ≡ Passed → judged form file b ≡ recordsOf file b (openingSize form)
+  unfolding judged
+  judged-records o = ap (λ (c : Check). opened c (recordsOf file b (openingSize form))) o
+
+  pub followed : (ps : List Piece) (start : Start) → judged form file b .answer ≡ accepted ps start → Follows form file b ps start
+  followed ps start e =
+      let o = judged-opens form file b ps start e in
+      let x = records-traced file b (openingSize form) in
+      let v : recordsOf file b (openingSize form) .answer ≡ accepted ps start = ap (λ (q : Ran Verdict). q .answer) (sym (o .1)) ∙ e in
+      record {
+        opens = o .0;
+        last = x .state;
+        events = x .before;
+        records = x .held;
+        end = turn-accepted file b (x .state) (x .before) ps start (x .answer ∙ ap ends v);
+      }
+
+  pub follows-judged : (ps : List Piece) (start : Start) → Follows form file b ps start → judged form file b .answer ≡ accepted ps start
+  follows-judged ps start h =
+      ap (λ (q : Ran Verdict). q .answer) (judged-records (h .opens))
+      ∙ trace-records file b (openingSize form) (h .last) (h .events) (accepted ps start) (h .records)
+      (turn-accepts file b (h .last) (h .events) ps start (h .end))
+
+  -- a turn refuses a file where its record does not pass
+  turn-failed : (s : Progress) (es : List Event) (fault : Fault) (at : ℕ) → turn file b s (marks es blank) .answer ≡ ends (refused fault at)
+      → (checked file b s (marks es blank) .answer ≡ Failed fault) × (s .at ≡ at)
+  unfolding checked applied
+  turn-failed s es fault at e =
+      by (checked file b s (marks es blank) .answer) (recordAt file s) refl refl (sym (turn-is file b s (marks es blank) _ _ refl refl) ∙ e)
+    where
+      by : (c : Check) (r : Record) → checked file b s (marks es blank) .answer ≡ c → recordAt file s ≡ r → judge file b s c r ≡ ends (refused fault at)
+          → (checked file b s (marks es blank) .answer ≡ Failed fault) × (s .at ≡ at)
+      by (Failed f) r c i e =
+          let v : refused f (s .at) ≡ refused fault at = ends-same e in
+          let k : f ≡ fault = cc in
+          (c ∙ ap Failed k, cc)
+      by Passed (Code kind address from n) c i e = absurd (ends-leads (sym e))
+      by Passed (Fixups fixup from n) c i e = absurd (ends-leads (sym e))
+      by Passed (End entry next) c i e = absurd (refused-accepted (sym (ends-same e)))
+      by Passed (Faulty f) c i e = absurd (failed-passed (rw i at c))
+
+  pub failed : (fault : Fault) (at : ℕ) → judged form file b .answer ≡ refused fault at → Fails form file b fault at
+  unfolding judged
+  failed fault at e = by (opening form file) refl e
+    where
+      by : (c : Check) → opening form file ≡ c → opened c (recordsOf file b (openingSize form)) .answer ≡ refused fault at → Fails form file b fault at
+      by (Failed f) o e =
+          let k : f ≡ fault = cc in
+          let l : 0 ≡ at = cc in
+          subst (Fails form file b fault) l (in-opening (o ∙ ap Failed k))
+      by Passed o e =
+          let x = records-traced file b (openingSize form) in
+          let t = turn-failed (x .state) (x .before) fault at (x .answer ∙ ap ends e) in
+          subst (Fails form file b fault) (t .1) (in-record o (x .held) (t .0))
+
+  pub fails-judged : (fault : Fault) (at : ℕ) → Fails form file b fault at → judged form file b .answer ≡ refused fault at
+  unfolding judged
+  fails-judged fault at (in-opening o) = ap (λ (c : Check). opened c (recordsOf file b (openingSize form)) .answer) o
+  fails-judged fault at (in-record {s = s} {es = es} o t c) =
+      ap (λ (q : Ran Verdict). q .answer) (judged-records o)
+      ∙ trace-records file b (openingSize form) s es (refused fault (s .at)) t (turn-is file b s (marks es blank) (Failed fault) _ c refl)
+
+-- ---- a load
+
+-- where the settings are in range and the file is not too long, the file decides
+pub load-judged : (form : ℕ) (b : Bases) (file : List ℕ) → inRange form b ≡ true → length file ≤ 65536 → load form b file ≡ judged (formOf form) file b
+unfolding load need
+load-judged form b file h k = rw (h, le-leb _ _ k) refl
+
+module _ (form : ℕ) (b : Bases) (file : List ℕ) where
+  load-refuses : (fault : Fault) (at : ℕ) → Refuses form b file fault at → load form b file .answer ≡ refused fault at
+  unfolding load need
+  load-refuses fault at (out-of-range h) = rw h refl
+  load-refuses fault at (too-long h k) = rw (h, lt-leb _ _ k) refl
+  load-refuses fault at (by-file h k f) =
+      ap (λ (q : Ran Verdict). q .answer) (load-judged form b file h k) ∙ fails-judged (formOf form) file b fault at f
+
+  load-refused : (fault : Fault) (at : ℕ) → load form b file .answer ≡ refused fault at → Refuses form b file fault at
+  unfolding load need
+  load-refused fault at e = by (inRange form b) (leb (length file) 65536) refl refl e
+    where
+      at-once : {f : Fault} → Refuses form b file f 0 → refused f 0 ≡ refused fault at → Refuses form b file fault at
+      at-once {f} h e =
+          let k : f ≡ fault = cc in
+          let l : 0 ≡ at = cc in
+          subst (Refuses form b file fault) l (subst (λ (g : Fault). Refuses form b file g 0) k h)
+
+      by : (c d : Bool) → inRange form b ≡ c → leb (length file) 65536 ≡ d
+          → need atOnce c SettingOutOfRange (need atOnce d FileTooLong (judged (formOf form) file b)) .answer ≡ refused fault at
+          → Refuses form b file fault at
+      by true true h k e = by-file h (leb-true _ _ k) (failed (formOf form) file b fault at e)
+      by true false h k e = at-once (too-long h (leb-false _ _ k)) e
+      by false d h k e = at-once (out-of-range h) e
+
+-- "accepted exactly if it follows the .. ACX rules of document 01 and fits", and else refused where it breaks them first
+pub by-rules : RulesClaim
+by-rules form b file =
+    record {
+      accepts = λ ps start h. ap (λ (q : Ran Verdict). q .answer) (load-judged form b file (h .settings) (h .fits))
+          ∙ follows-judged (formOf form) file b ps start (h .follows);
+      accepts-only = λ ps start e.
+          let w = load-follows form b file ps start e in
+          record {
+            settings = w .range;
+            fits = w .fits;
+            follows = followed (formOf form) file b ps start (ap (λ (q : Ran Verdict). q .answer) (sym (w .by-rules)) ∙ e);
+          };
+      refuses = load-refuses form b file;
+      refuses-only = load-refused form b file;
+    }
