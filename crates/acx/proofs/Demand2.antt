@@ -5,7 +5,7 @@ use mathlib.Core.List.{List, [], _∷_}
 use mathlib.Core.Path.{_≡_, refl, sym, ap, _∙_}
 use Prim.Native.Nat.{ℕ, _≤_}
 use native.Mathlib.Omega.{arith}
-use borrow.Author.Tests.{le-leb, eq-eqb, eqb-true}
+use borrow.Author.Tests.{eq-eqb, eqb-true}
 use lib.Dec.{eqb}
 use lib.ListN.{length, getD}
 use Rattle.answer.proofs.Checks.{and-true}
@@ -25,9 +25,11 @@ use Rattle.acx.proofs.WellPlaced.{fits-memory, placed-well}
 use Rattle.pieces.proofs.Loads.{laid, play-laid, laid-outside, laid-plain, laid-fields}
 use Rattle.pieces.proofs.Marks.{marks-outside, marks-plain, marks-fields}
 use Rattle.pieces.proofs.PieceEvents.{placed-adjustments, adjusted-adjustments}
+use Rattle.acx.proofs.Rules.{followed, follows-judged, load-judged}
 use Rattle.acx.proofs.Standing.{Stands}
-use Rattle.acx.specs.Call.{formOf, inRange, sized, load, call, memoryAfter, mapAfter, Loaded}
+use Rattle.acx.specs.Call.{formOf, sized, load, call, memoryAfter, mapAfter, Loaded}
 use Rattle.acx.specs.Demand2.{total, WellPlaced, Demand2, Asked, AcceptedCall, Claim}
+use Rattle.acx.specs.Rules.{Follows}
 use Rattle.pieces.specs.Pieces.{Piece, size, placeOf, adjustments, events}
 use Rattle.acx.specs.Walk.{Verdict, accepted, refused, atOnce, judged, report, reported}
 use Rattle.pieces.specs.declared.Bases.{Bases}
@@ -54,14 +56,15 @@ adjusted-total b (p ∷ ps) =
     ∙ omega (arith, adjusted-total b ps, adjusted-adjustments b (placeOf b p) (p .fields))
 
 -- what the events of well-placed pieces make of memory and map
-loads : (file : List ℕ) (b : Bases) (ps : List Piece) (at : ℕ) (m : List ℕ) → WellPlaced file b ps → at ≤ length file
-    → Stands b (record { at = at; pieces = ps })
-    → length m ≡ 65536 → Demand2 file b ps m (play (events b ps) m) (marks (events b ps) blank) (placedIn (events b ps)) (adjustedIn (events b ps))
-loads file b ps at m h l s n =
+loads : (form : Form) (file : List ℕ) (b : Bases) (ps : List Piece) (start : Start) (at : ℕ) (m : List ℕ) → Follows form file b ps start
+    → WellPlaced file b ps → at ≤ length file → Stands b (record { at = at; pieces = ps }) → length m ≡ 65536
+    → Demand2 form file b ps start m (play (events b ps) m) (marks (events b ps) blank) (placedIn (events b ps)) (adjustedIn (events b ps))
+loads form file b ps start at m f h l s n =
     let fits = fits-memory b (length m) ps n (h .fits) in
     let clear = fits-memory b (length blank) ps length-blank (h .fits) in
     let e : play (events b ps) m ≡ laid b ps m = play-laid b ps m fits (h .inside) in
     record {
+      follows = f;
       well-placed = h;
       loaded = rw e (laid-plain b ps m fits (h .apart));
       fields = rw e (laid-fields b ps m fits (h .apart) (h .inside) (h .distinct));
@@ -78,11 +81,11 @@ loads file b ps at m h l s n =
 -- Demand 2, of every accepted file, at every pair of bases and in every memory
 pub demand2 : (form : Form) (file : List ℕ) (b : Bases) (ps : List Piece) (start : Start) → judged form file b .answer ≡ accepted ps start
     → (m : List ℕ) → length m ≡ 65536
-    → Demand2 file b ps m (play (judged form file b .events) m) (marks (judged form file b .events) blank)
+    → Demand2 form file b ps start m (play (judged form file b .events) m) (marks (judged form file b .events) blank)
     (placedIn (judged form file b .events)) (adjustedIn (judged form file b .events))
 demand2 form file b ps start e m n =
     let x = placed-well file b form ps start e in
-    rw (x .events) (loads file b ps (x .at) m (x .held .0) (x .inside) (x .held .1) n)
+    rw (x .events) (loads form file b ps start (x .at) m (followed form file b ps start e) (x .held .0) (x .inside) (x .held .1) n)
 
 -- ---- of every call
 
@@ -102,12 +105,6 @@ right-lengths x m p e =
     let y = and-true x (sized m p) e in
     let z = and-true (eqb (length m) 65536) (eqb (length p) 65536) (y .1) in
     (y .0, eqb-true _ _ (z .0), eqb-true _ _ (z .1))
-
--- a load with settings and a length as asked comes to what the file comes to
-asked-judged : (form : ℕ) (b : Bases) (file : List ℕ) → inRange form b ≡ true → length file ≤ 65536
-    → load form b file ≡ judged (formOf form) file b
-unfolding load need
-asked-judged form b file h k = rw (h, le-leb _ _ k) refl
 
 module _ (form : ℕ) (b : Bases) (file : List ℕ) (x : Bool) (m p : List ℕ) (r : Outcome) (m′ p′ : List ℕ)
     (d : Loaded form b file (x && sized m p) m p r m′ p′) where
@@ -146,22 +143,23 @@ module _ (form : ℕ) (b : Bases) (file : List ℕ) (x : Bool) (m p : List ℕ) 
           eo ∙ ap (λ (v : Verdict). report v (o .events)) f ∙ ap (λ (q : Ran Verdict). report (accepted ps begin) (q .events)) (w .by-rules) in
           let en : placed ≡ placedIn (k .events) = ap placedOf eo′ in
           let ea : adjusted ≡ adjustedIn (k .events) = ap adjustedOf eo′ in
+          let es : start ≡ begin = ap startIn eo′ in
           record {
             asked = record { answer = n .0; memory = n .1; map = n .2; settings = w .range; fits = w .fits };
             pieces = ps;
-            follows = g ∙ ap (accepted ps) (sym (ap startIn eo′));
-            leaves = rw (em′, ep′, en, ea) (demand2 (formOf form) file b ps begin g m (n .1));
+            leaves = rw (em′, ep′, en, ea, es) (demand2 (formOf form) file b ps begin g m (n .1));
           }
 
-  -- a call as asked accepts every file that the rules accept, with its start and counts
-  call-accepts : Asked form b file x m p → (ps : List Piece) (start : Start) → judged (formOf form) file b .answer ≡ accepted ps start
+  -- a call as asked accepts every file that follows the rules, with its start and counts
+  call-accepts : Asked form b file x m p → (ps : List Piece) (start : Start) → Follows (formOf form) file b ps start
       → r ≡ Accepted start (total size ps) (total (λ p. length (p .fields)) ps) 0 0
-  call-accepts a ps start e =
+  call-accepts a ps start f =
+      let e = follows-judged (formOf form) file b ps start f in
       let o = judged (formOf form) file b in
       let t : x && sized m p ≡ true = rw (a .answer, eq-eqb _ _ (a .memory), eq-eqb _ _ (a .map)) refl in
       let h = placed-well file b (formOf form) ps start e in
       loaded-right t d .0
-      ∙ ap (λ (k : Ran Verdict). reported k .answer) (asked-judged form b file (a .settings) (a .fits))
+      ∙ ap (λ (k : Ran Verdict). reported k .answer) (load-judged form b file (a .settings) (a .fits))
       ∙ ap (λ (v : Verdict). report v (o .events)) e
       ∙ ap (λ (es : List Event). report (accepted ps start) es) (h .events)
       ∙ ap (λ (n : ℕ). Accepted start n (adjustedIn (events b ps)) 0 0) (placed-total b ps)

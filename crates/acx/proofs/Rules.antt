@@ -4,7 +4,6 @@ use mathlib.Core.Bool.{Bool, true, false}
 use mathlib.Core.List.{List}
 use mathlib.Core.Path.{_≡_, refl, sym, ap, _∙_, subst}
 use Prim.Native.Nat.{ℕ, _≤_}
-use native.Mathlib.Omega.{arith}
 use borrow.Author.Tests.{leb-true, leb-false, le-leb, lt-leb}
 use lib.Dec.{leb}
 use lib.ListN.{length}
@@ -29,7 +28,7 @@ use Rattle.acx.proofs.Calling.{load-follows}
 use Rattle.acx.proofs.Turning.{refused-accepted, checked-is, turn-events, turn-is, turn-on, turn-led, turn-accepted, turn-accepts, turn-falls}
 use Rattle.acx.proofs.Walking.{judged-opens}
 use Rattle.acx.specs.Call.{formOf, inRange, load}
-use Rattle.acx.specs.Rules.{Onward, NextRecord, Follows, Fails, in-opening, in-record, Accepts, Refuses, out-of-range, too-long, by-file, RulesClaim}
+use Rattle.acx.specs.Rules.{Onward, NextRecord, Follows, Fails, in-opening, in-record, Refuses, out-of-range, too-long, by-file, RulesClaim}
 use Rattle.acx.specs.Walk.{Verdict, accepted, refused, atOnce, Progress, begun, recordAt, checked, stepped, judge, turn, recordsFrom, recordsOf, opening, openingSize, opened, judged}
 use Rattle.acx.specs.declared.Form.{Form}
 

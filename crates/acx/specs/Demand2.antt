@@ -1,6 +1,6 @@
--- Demand 2 for ACX files, sentence by sentence: what a load leaves where it accepts, and that it accepts what the rules accept. Proved in
--- proofs/Demand2.antt: `demand2` of the definition, of every file, every pair of bases and every memory; `accepted-exactly : Claim` of every
--- call that keeps the loader's contract.
+-- Demand 2 for ACX files, sentence by sentence: what a load leaves where it accepts, and that it accepts exactly what follows the rules
+-- (Rules.antt). Proved in proofs/Demand2.antt: `demand2` of the definition, of every file, every pair of bases and every memory;
+-- `accepted-exactly : Claim` of every call that keeps the loader's contract.
 -- Assumes nothing.
 use mathlib.Core.Bool.{Bool, true, _&&_}
 use mathlib.Core.List.{List, [], _∷_}
@@ -17,8 +17,9 @@ use Rattle.words.specs.Runs.{part}
 use Rattle.acx.specs.Call.{formOf, inRange, sized, Loaded}
 use Rattle.pieces.specs.Places.{Placed, In, Inside, PiecesApart, FieldsApart}
 use Rattle.pieces.specs.Pieces.{Piece, size, placeOf, limitOf, width, amountOf}
-use Rattle.acx.specs.Walk.{accepted, judged}
 use Rattle.pieces.specs.declared.Bases.{Bases}
+use Rattle.acx.specs.Rules.{Follows}
+use Rattle.acx.specs.declared.Form.{Form}
 
 -- The pieces of an accepted file.
 pub record WellPlaced (file : List ℕ) (b : Bases) (ps : List Piece) : Type 0 where
@@ -38,8 +39,10 @@ abbrev pub total : (Piece → ℕ) → List Piece → ℕ
 total n [] = 0
 total n (p ∷ ps) = n p + total n ps
 
--- What its load leaves: it found memory m, left m′ and the map p′, and reported the two counts.
-pub record Demand2 (file : List ℕ) (b : Bases) (ps : List Piece) (m m′ p′ : List ℕ) (placed adjusted : ℕ) : Type 0 where
+-- What the load of a file leaves that has these pieces and this start: it found memory m, left m′ and the map p′, and reported the two counts.
+pub record Demand2 (form : Form) (file : List ℕ) (b : Bases) (ps : List Piece) (start : Start) (m m′ p′ : List ℕ) (placed adjusted : ℕ) : Type 0 where
+  -- the pieces are those of its records, one after the other
+  pub follows : Follows form file b ps start
   pub well-placed : WellPlaced file b ps
   -- "each loaded byte as its last block put it"
   pub loaded : Each (λ p. (j : ℕ) → j < size p → Each (λ f. ¬ In j f) (p .fields) → getD m′ (placeOf b p + j) 0 ≡ getD (p .code) j 0) ps
@@ -71,17 +74,16 @@ pub record AcceptedCall (form : ℕ) (b : Bases) (file : List ℕ) (answerSized 
     (m′ p′ : List ℕ) : Type 0 where
   pub asked : Asked form b file answerSized m p
   pub pieces : List Piece
-  pub follows : judged (formOf form) file b .answer ≡ accepted pieces start
-  pub leaves : Demand2 file b pieces m m′ p′ placed adjusted
+  pub leaves : Demand2 (formOf form) file b pieces start m m′ p′ placed adjusted
 
 -- "With settings and buffers as document 01 asks, a file is accepted exactly if it follows the .. ACX rules of document 01 and fits": of a call
 -- that found memory m and the map p, answered r and left m′ and p′
 pub record Exactly (form : ℕ) (b : Bases) (file : List ℕ) (answerSized : Bool) (m p : List ℕ) (r : Outcome) (m′ p′ : List ℕ) : Type 0 where
-  -- only if: an acceptance is of a call as asked and of a file that the rules accept, and leaves what demand 2 says
+  -- only if: an acceptance is of a call as asked and of a file that follows the rules, and leaves what demand 2 says
   pub only : (start : Start) (placed adjusted names low : ℕ) → r ≡ Accepted start placed adjusted names low
       → AcceptedCall form b file answerSized m p start placed adjusted m′ p′
-  -- if: a call as asked accepts every file that the rules accept, with its start and the counts of its pieces
-  pub all : Asked form b file answerSized m p → (ps : List Piece) (start : Start) → judged (formOf form) file b .answer ≡ accepted ps start
+  -- if: a call as asked accepts every file that follows the rules, with its start and the counts of its pieces
+  pub all : Asked form b file answerSized m p → (ps : List Piece) (start : Start) → Follows (formOf form) file b ps start
       → r ≡ Accepted start (total size ps) (total (λ p. length (p .fields)) ps) 0 0
 
 -- The claim: of every file, all settings, whatever is lent, and every call that keeps the loader's contract.

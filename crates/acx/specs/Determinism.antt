@@ -1,39 +1,17 @@
--- Two sentences of the user about every call, in terms of the loader's contract. Proved in proofs/Determinism.antt: `call-refused :
--- RefusedClaim` and `same-program : SameClaim`.
+-- One file, one program: of every two calls that keep the loader's contract. Proved in proofs/Determinism.antt (`same-program : SameClaim`).
 -- Assumes nothing.
 use mathlib.Core.Bool.{Bool, true, _&&_}
 use mathlib.Core.List.{List}
 use mathlib.Core.Path.{_≡_}
 use Prim.Native.Nat.{ℕ}
-use Rattle.answer.specs.declared.Fault.{Fault}
-use Rattle.answer.specs.declared.Fault.the-variants.{WrongBuffer}
 use Rattle.answer.specs.declared.Outcome.{Outcome}
-use Rattle.answer.specs.declared.Outcome.the-variants.{Refused}
 use Rattle.answer.specs.declared.Start.{Start}
-use Rattle.events.specs.Events.{blank}
 use Rattle.events.specs.Lists.{Each}
 use Rattle.words.specs.Runs.{part}
-use Rattle.acx.specs.Call.{sized, load, Loaded}
+use Rattle.acx.specs.Call.{sized, Loaded}
 use Rattle.pieces.specs.Pieces.{Piece, size, placeOf}
 use Rattle.pieces.specs.declared.Bases.{Bases}
-use Rattle.acx.specs.Walk.{accepted}
-
--- "A refusal leaves program memory untouched, and the other buffers hold what document 01 names": a call that was refused found memory m
--- and the map p, and left m′ and p′
-pub record RefusedCall (fault : Fault) (m p m′ p′ : List ℕ) : Type 0 where
-  pub memory : m′ ≡ m
-  -- "Refusal 1 changes nothing"
-  pub wrong-buffer : fault ≡ WrongBuffer → p′ ≡ p
-  -- "Every other refusal leaves .. the map all zero"
-  pub other : ¬ (fault ≡ WrongBuffer) → p′ ≡ blank
-
--- of every refused call that keeps the loader's contract
-abbrev pub RefusedClaim : Type 0
-RefusedClaim =
-    (form : ℕ) (b : Bases) (file : List ℕ) (right : Bool) (m p : List ℕ) (r : Outcome) (m′ p′ : List ℕ) → Loaded form b file right m p r m′ p′
-    → (fault : Fault) (offset side : ℕ)
-    → r ≡ Refused fault offset side
-    → RefusedCall fault m p m′ p′
+use Rattle.acx.specs.Rules.{Accepts}
 
 -- "Two benches with the same settings must never hold two different programs from one file": two calls of a file, whatever their memories
 -- and maps held before, answer r and t, and leave the memories m and n and the maps p and q. (A file that is refused, for its settings or its
@@ -41,8 +19,8 @@ RefusedClaim =
 pub record SameProgram (form : ℕ) (b : Bases) (file : List ℕ) (r t : Outcome) (m n p q : List ℕ) : Type 0 where
   pub outcome : r ≡ t
   pub map : p ≡ q
-  -- every byte at a place of the handler
-  pub program : (ps : List Piece) (start : Start) → load form b file .answer ≡ accepted ps start
+  -- where it was accepted, every byte at a place of the handler
+  pub program : (ps : List Piece) (start : Start) → Accepts form b file ps start
       → Each (λ x. part m (placeOf b x) (size x) ≡ part n (placeOf b x) (size x)) ps
 
 -- of every two calls that keep the loader's contract and are lent buffers of the right lengths (x and y: a C answer, if one is lent, too)

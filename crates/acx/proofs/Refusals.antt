@@ -1,0 +1,64 @@
+-- Which calls are refused, and what a refused call leaves: specs/Refusals.antt, of every call that keeps the contract.
+-- Assumes nothing.
+use mathlib.Core.Bool.{Bool, true, false, false≢true}
+use mathlib.Core.List.{List}
+use mathlib.Core.Path.{_≡_, refl, sym, ap, _∙_, subst}
+use Prim.Native.Nat.{ℕ}
+use Rattle.answer.proofs.Outcomes.{isRefused, faultIn}
+use Rattle.answer.specs.Checks.{need, pick}
+use Rattle.answer.specs.declared.Fault.{Fault}
+use Rattle.answer.specs.declared.Outcome.{Outcome}
+use Rattle.answer.specs.declared.Outcome.the-variants.{Refused}
+use Rattle.events.specs.Events.{Event}
+use Rattle.pieces.specs.declared.Bases.{Bases}
+use Rattle.acx.proofs.Calling.{refused-memory, refused-map, loaded-right}
+use Rattle.acx.proofs.Faults.{call-causes, load-late}
+use Rattle.acx.proofs.Rules.{by-rules}
+use Rattle.acx.specs.Call.{load, call, Loaded}
+use Rattle.acx.specs.Refusals.{RefusedCall, RefusalsClaim}
+use Rattle.acx.specs.Walk.{Verdict, accepted, refused, report}
+
+module _ (form : ℕ) (b : Bases) (file m p : List ℕ) (r : Outcome) (m′ p′ : List ℕ) (fault : Fault) (at side : ℕ) (e : r ≡ Refused fault at side) where
+  -- where a length is wrong, that is the fault
+  refused-wrong : Loaded form b file false m p r m′ p′ → RefusedCall fault m p m′ p′
+  unfolding call need pick
+  refused-wrong d = record { memory = d .memory; wrong-buffer = λ h. d .map; other = λ n. absurd (n (ap faultIn (sym e ∙ d .outcome))) }
+
+  -- where all are right, it is another
+  refused-right : Loaded form b file true m p r m′ p′ → RefusedCall fault m p m′ p′
+  refused-right d =
+      let o = load form b file in
+      let l = loaded-right refl d in
+      let k : isRefused (report (o .answer) (o .events)) ≡ true = ap isRefused (sym (l .0) ∙ e) in
+      record {
+        memory = l .1 ∙ refused-memory (o .answer) (o .events) m k;
+        wrong-buffer = λ h. absurd (load-late form b file fault at side (sym (l .0) ∙ e) h);
+        other = λ n. l .2 ∙ refused-map (o .answer) (o .events) k;
+      }
+
+-- an outcome that is a refusal is of a verdict that is one
+reported-refused : (v : Verdict) (es : List Event) (fault : Fault) (at side : ℕ) → report v es ≡ Refused fault at side
+    → (v ≡ refused fault at) × (side ≡ 0)
+reported-refused (accepted ps start) es fault at side e = absurd (false≢true (ap isRefused e))
+reported-refused (refused f a) es fault at side e =
+    let k : f ≡ fault = cc in
+    let l : a ≡ at = cc in
+    let s : 0 ≡ side = cc in
+    (ap (λ (g : Fault). refused g a) k ∙ ap (refused fault) l, sym s)
+
+-- every call
+pub call-refusals : RefusalsClaim
+call-refusals form b file right m p r m′ p′ d =
+    record {
+      causes = rw (d .outcome) (call-causes form b file right);
+      only = λ h fault at side e.
+          let k = reported-refused (load form b file .answer) (load form b file .events) fault at side (sym (loaded-right h d .0) ∙ e) in
+          (by-rules form b file .refuses-only fault at (k .0), k .1);
+      all = λ h fault at c. loaded-right h d .0
+          ∙ ap (λ (v : Verdict). report v (load form b file .events)) (by-rules form b file .refuses fault at c);
+      leaves = λ fault at side e. by fault at side e right refl;
+    }
+  where
+    by : (fault : Fault) (at side : ℕ) → r ≡ Refused fault at side → (t : Bool) → right ≡ t → RefusedCall fault m p m′ p′
+    by fault at side e true h = refused-right form b file m p r m′ p′ fault at side e (subst (λ (t : Bool). Loaded form b file t m p r m′ p′) h d)
+    by fault at side e false h = refused-wrong form b file m p r m′ p′ fault at side e (subst (λ (t : Bool). Loaded form b file t m p r m′ p′) h d)
