@@ -11,7 +11,7 @@ use Rattle.answer.specs.Checks.{need}
 use Rattle.answer.specs.declared.Fault.{Fault}
 use Rattle.answer.specs.declared.Fault.the-variants.{SettingOutOfRange, FileTooLong, CutShort}
 use Rattle.answer.specs.declared.Start.{Start}
-use Rattle.events.proofs.Checks.{failed-passed}
+use Rattle.events.proofs.Checks.{passed-is, failed-passed}
 use Rattle.events.proofs.Traces.{trace-ends, walk-traced}
 use Rattle.events.proofs.Walks.{ends-leads, ends-same, EndsAt}
 use Rattle.events.specs.Events.{Event, marks, blank, Ran}
@@ -25,7 +25,7 @@ use Rattle.pieces.specs.AtBases.{applied}
 use Rattle.pieces.specs.Pieces.{Piece}
 use Rattle.pieces.specs.declared.Bases.{Bases}
 use Rattle.acx.proofs.Calling.{load-follows}
-use Rattle.acx.proofs.Turning.{refused-accepted, checked-is, turn-events, turn-is, turn-on, turn-led, turn-accepted, turn-accepts, turn-falls}
+use Rattle.acx.proofs.Turning.{refused-accepted, turn-events, turn-is, turn-on, turn-led, turn-accepted, turn-accepts, turn-falls}
 use Rattle.acx.proofs.Walking.{judged-opens}
 use Rattle.acx.specs.Call.{formOf, inRange, load}
 use Rattle.acx.specs.Rules.{Onward, NextRecord, Follows, Fails, in-opening, in-record, Refuses, out-of-range, too-long, by-file, RulesClaim}
@@ -53,7 +53,7 @@ module _ (file : List ℕ) (b : Bases) where
       let l = turn-led file b y p z e in
       record {
         onward = subst Onward (sym (l .is)) (l .on);
-        passes = checked-is (checked file b y p) (l .passed) (sym (turn-events file b y p));
+        passes = passed-is (checked file b y p) (l .passed) (sym (turn-events file b y p));
         leads-to = sym (l .to) ∙ ap (stepped file y) (sym (l .is));
       }
 

@@ -7,6 +7,7 @@ use native.Mathlib.Omega.{arith}
 use lib.ListN.{length}
 use Rattle.answer.specs.declared.Fault.{Fault}
 use Rattle.answer.specs.declared.Start.{Start}
+use Rattle.events.proofs.Checks.{passed-is}
 use Rattle.events.proofs.Walks.{ends-leads, leads-same, ends-same}
 use Rattle.events.specs.Events.{Event, place, marks, blank, Ran, passed}
 use Rattle.events.specs.Walk.{ends, leads, bytesLeft}
@@ -39,10 +40,6 @@ refused-accepted e = let n : _≡_ {A = ℕ} 0 1 = cc in omega arith
 -- a verdict has one list of pieces
 pub accepted-pieces : {ps qs : List Piece} {start start′ : Start} → accepted ps start ≡ accepted qs start′ → ps ≡ qs
 accepted-pieces e = cc
-
--- a check by its answer and its events
-pub checked-is : (o : Ran Check) {es : List Event} → o .answer ≡ Passed → o .events ≡ es → o ≡ passed es
-checked-is o e f = ap (λ (c : Check). record { answer = c; events = o .events }) e ∙ ap passed f
 
 -- ---- where a record leads
 
@@ -125,7 +122,7 @@ module _ (file : List ℕ) (b : Bases) (s : Progress) (es : List Event) where
           record {
             entry = entry;
             is = i ∙ ap (End entry) (end-ends file b s map entry next i c);
-            passes = checked-is (checked file b s map) c (end-none file b s map entry next i);
+            passes = passed-is (checked file b s map) c (end-none file b s map entry next i);
             pieces = cc;
             start-is = cc;
           }

@@ -1,18 +1,23 @@
 -- A check that was passed.
 -- Assumes nothing.
 use mathlib.Core.Bool.{Bool, true, false}
-use mathlib.Core.Path.{_≡_, refl}
+use mathlib.Core.List.{List}
+use mathlib.Core.Path.{_≡_, refl, ap, _∙_}
 use Prim.Native.Nat.{ℕ}
 use native.Mathlib.Omega.{arith}
 use Rattle.answer.specs.Checks.{need}
 use Rattle.answer.specs.declared.Fault.{Fault}
-use Rattle.events.specs.Events.{Ran, failed}
+use Rattle.events.specs.Events.{Event, Ran, failed, passed}
 use Rattle.events.specs.declared.Check.{Check}
 use Rattle.events.specs.declared.Check.the-variants.{Passed, Failed}
 
 -- a check that failed did not pass
 pub failed-passed : {fault : Fault} → Failed fault ≡ Passed → ⊥
 failed-passed e = let n : _≡_ {A = ℕ} 0 1 = cc in omega arith
+
+-- a part of the work that passed, by its answer and its events
+pub passed-is : (o : Ran Check) {es : List Event} → o .answer ≡ Passed → o .events ≡ es → o ≡ passed es
+passed-is o e f = ap (λ (c : Check). record { answer = c; events = o .events }) e ∙ ap passed f
 
 -- what passes a check holds it, and the rest decides
 pub check-passed : (c : Bool) (fault : Fault) (rest : Check) → need Failed c fault rest ≡ Passed → (c ≡ true) × (rest ≡ Passed)
