@@ -35,6 +35,18 @@ pub record Led (file : List ℕ) (g : Inputs) (y z : Progress) (map : List ℕ) 
   pub leads-to : stepped file y (blockAt file g y) (appliedAt file g y map .events) next ≡ z
   pub events : turn file g y map .events ≡ appliedAt file g y map .events
 
+-- one that finishes a file is at its end
+pub record Finishes (file : List ℕ) (g : Inputs) (y z : Progress) (map : List ℕ) : Type 0 where
+  pub at-end : y .cursor .at ≡ length file
+  pub state : y ≡ z
+  pub events : turn file g y map .events ≡ []
+
+-- and one that refuses it is a block that breaks a rule
+pub record Refuses (file : List ℕ) (g : Inputs) (y z : Progress) (map : List ℕ) (fault : Fault) : Type 0 where
+  pub more : y .cursor .at ≡ length file → ⊥
+  pub broke : appliedAt file g y map .answer ≡ broken fault
+  pub state : y ≡ z
+
 module _ (file : List ℕ) (g : Inputs) (y : Progress) (map : List ℕ) where
   -- at the file's end a turn finishes the walk and does nothing
   pub turn-end : y .cursor .at ≡ length file → turn file g y map ≡ record { answer = ends (finished y); events = [] }
@@ -77,23 +89,47 @@ module _ (file : List ℕ) (g : Inputs) (y : Progress) (map : List ℕ) where
           (sym (ap (λ (r : Ran (Turn Progress Verdict)). r .answer) (turn-block more)) ∙ e)
 
   -- a turn finishes a file at its end alone, and does nothing there
-  turn-finished : (z : Progress) → turn file g y map .answer ≡ ends (finished z) → (y ≡ z) × (turn file g y map .events ≡ [])
+  pub turn-finished : (z : Progress) → turn file g y map .answer ≡ ends (finished z) → Finishes file g y z map
   turn-finished z e = by (eqb (y .cursor .at) (length file)) refl
     where
       stops : (es : List Event) (s : Stop) → judge file y (blockAt file g y) es s ≡ ends (finished z) → ⊥
       stops es (broken fault) f = refused-finished (ends-same f)
       stops es (done next) f = ends-leads (sym f)
 
-      by : (t : Bool) → eqb (y .cursor .at) (length file) ≡ t → (y ≡ z) × (turn file g y map .events ≡ [])
+      by : (t : Bool) → eqb (y .cursor .at) (length file) ≡ t → Finishes file g y z map
       by true h =
-          let k = turn-end (eqb-true _ _ h) in (
-            ap progressOf (ends-same (sym (ap (λ (r : Ran (Turn Progress Verdict)). r .answer) k) ∙ e)),
-            ap (λ (r : Ran (Turn Progress Verdict)). r .events) k,
-          )
+          let k = turn-end (eqb-true _ _ h) in
+          record {
+            at-end = eqb-true _ _ h;
+            state = ap progressOf (ends-same (sym (ap (λ (r : Ran (Turn Progress Verdict)). r .answer) k) ∙ e));
+            events = ap (λ (r : Ran (Turn Progress Verdict)). r .events) k;
+          }
       by false h =
           absurd
           (stops _ (appliedAt file g y map .answer)
           (sym (ap (λ (r : Ran (Turn Progress Verdict)). r .answer) (turn-block (eqb-false _ _ h))) ∙ e))
+
+  -- and refuses one at a block that breaks a rule, before its end
+  pub turn-refused : (fault : Fault) (z : Progress) → turn file g y map .answer ≡ ends (refused fault z) → Refuses file g y z map fault
+  turn-refused fault z e = by (eqb (y .cursor .at) (length file)) refl
+    where
+      stops : (s : Stop) → appliedAt file g y map .answer ≡ s → (y .cursor .at ≡ length file → ⊥)
+          → judge file y (blockAt file g y) (appliedAt file g y map .events) s ≡ ends (refused fault z)
+          → Refuses file g y z map fault
+      stops (broken f) o h w =
+          let v : refused f y ≡ refused fault z = ends-same w in
+          let k : f ≡ fault = cc in
+          record { more = h; broke = o ∙ ap broken k; state = cc }
+      stops (done next) o h w = absurd (ends-leads (sym w))
+
+      by : (t : Bool) → eqb (y .cursor .at) (length file) ≡ t → Refuses file g y z map fault
+      by true h =
+          absurd
+          (refused-finished (sym (ends-same (sym (ap (λ (r : Ran (Turn Progress Verdict)). r .answer) (turn-end (eqb-true _ _ h))) ∙ e))))
+      by false h =
+          let more = eqb-false _ _ h in
+          stops (appliedAt file g y map .answer) refl more
+          (sym (ap (λ (r : Ran (Turn Progress Verdict)). r .answer) (turn-block more)) ∙ e)
 
 -- where blocks lie and end, with high below 65,536
 module _ (file : List ℕ) (g : Inputs) (top : g .high ≤ 65535) where
@@ -127,5 +163,5 @@ module _ (file : List ℕ) (g : Inputs) (top : g .high ≤ 65535) where
     blocks-hold z e =
         let x = walk-keeps (turn file g) (λ y. refused CutShort y) (λ y. bytesLeft file (y .cursor .at)) turn-falls P blank keeps (begun g) first in
         let t = turn-finished file g (x .state) (marks (x .before) blank) z (x .answer ∙ ap ends e) in
-        let es : blocksOf file g .events ≡ x .before = x .events ∙ ap (λ (fs : List Event). x .before ++ fs) (t .1) ∙ append-nil (x .before) in
-        rw (es, ← t .0) (x .held)
+        let es : blocksOf file g .events ≡ x .before = x .events ∙ ap (λ (fs : List Event). x .before ++ fs) (t .events) ∙ append-nil (x .before) in
+        rw (es, ← t .state) (x .held)

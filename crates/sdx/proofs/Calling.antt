@@ -180,6 +180,11 @@ module _ (file : List ℕ) (g : Inputs) (top : g .high ≤ 65535) (P : Progress 
       by Passed f = blocks-hold file g top P first keeps z f
       by (Failed fault) f = absurd (refused-finished f)
 
+-- with the right buffers a call is a load
+pub call-load : (file : List ℕ) (g : Inputs) (right : Bool) → right ≡ true → call file g right ≡ load file g
+unfolding call need
+call-load file g right h = ap (λ (t : Bool). need (atOnce g) t WrongBuffer (load file g)) h
+
 -- ---- the counts
 
 -- neither count of a finished load exceeds the file's length

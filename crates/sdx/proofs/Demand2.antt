@@ -26,20 +26,22 @@ use Rattle.passes.proofs.Turning.{refused-finished}
 use Rattle.passes.specs.Buffers.{newNamesLength, newAddressesLength, startIn, filledUp, Buffers}
 use Rattle.passes.specs.Walk.{Inputs, Progress, Verdict, finished, refused, blocksOf}
 use Rattle.sdx.proofs.Calling.{admitted, range-bounds, right-sizes}
-use Rattle.sdx.proofs.Keeping.{Keeps, judged-keeps, judged-trace}
+use Rattle.sdx.proofs.Keeping.{Keeps, judged-keeps}
 use Rattle.sdx.proofs.Lawful.{Lawful, marks-untouched, marks-last, play-others, put-held, play-fields}
 use Rattle.sdx.specs.Call.{atOnce, opened, admitting, load, call, report, memoryAfter, mapAfter, namesAfter, addressesAfter, sized, Loaded, judged}
-use Rattle.sdx.specs.Demand2.{Among, Trace, Demand2, Asked, AcceptedCall, Claim}
+use Rattle.sdx.proofs.Rules.{follows-judged, followed}
+use Rattle.sdx.specs.Demand2.{Among, Demand2, Asked, AcceptedCall, Claim}
+use Rattle.sdx.specs.Rules.{Follows}
 
 -- what the events of a file leave that kept to the rules
-kept-demand2 : (file : List ℕ) (g : Inputs) (z : Progress) (es : List Event) (m : List ℕ) → Trace file g z es → Keeps file g z es
+kept-demand2 : (file : List ℕ) (g : Inputs) (z : Progress) (es : List Event) (m : List ℕ) → Follows file g z es → Keeps file g z es
     → length m ≡ 65536
     → Demand2 file g z es m (play es m) (marks es blank) (placedIn es) (adjustedIn es)
-kept-demand2 file g z es m c k n =
+kept-demand2 file g z es m f k n =
     let split : (before : List Event) (e : Event) (after : List Event) → Among es before e after → Lawful blank (before ++ (e ∷ after)) =
     λ before e after h. rw (h .order) at (k .lawful) in
     record {
-      trace = c;
+      follows = f;
       effects = k .effects;
       by-rule = each-map (λ d h. h .by-rule) (z .effects) (k .ruled);
       names = k .names;
@@ -61,7 +63,7 @@ pub demand2 : (file : List ℕ) (g : Inputs) (z : Progress) (m : List ℕ) → g
     → judged file g .answer ≡ finished z
     → Demand2 file g z (judged file g .events) m (play (judged file g .events) m) (marks (judged file g .events) blank)
     (placedIn (judged file g .events)) (adjustedIn (judged file g .events))
-demand2 file g z m top bytes n e = kept-demand2 file g z (judged file g .events) m (judged-trace file g top bytes z e) (judged-keeps file g top bytes z e) n
+demand2 file g z m top bytes n e = kept-demand2 file g z (judged file g .events) m (followed file g top z e) (judged-keeps file g top bytes z e) n
 
 -- ---- of every call
 
@@ -155,7 +157,7 @@ accepted-call file g x b b′ r z d bytes a f start placed adjusted named low e 
     record {
       asked = a;
       end = z;
-      follows = f;
+      events = judged file g .events;
       leaves = rw (l .memory, l .map, ep, ea) (demand2 file g z (b .memory) (asked-top file g x b a) bytes (asked-memory file g x b a) f);
       start-is = rw (l .memory, l .map) (ap startOf s);
       new-names = l .names;
@@ -176,12 +178,15 @@ call-accepted file g x b b′ r d bytes start placed adjusted named low e =
     let f = ap (λ (k : Ran Verdict). k .answer) (sym (asked-judged file g x b a)) ∙ y .1 in
     accepted-call file g x b b′ r (y .0) d bytes a f start placed adjusted named low e
 
--- a call as asked accepts every file that the rules accept
+-- a call as asked accepts every file that follows the rules
 call-accepts : (file : List ℕ) (g : Inputs) (x : Bool) (b b′ : Buffers) (r : Outcome) → Loaded file g (x && sized g b) b r b′ → Asked file g x b → (z : Progress)
-    → judged file g .answer ≡ finished z
-    → r ≡ Accepted (startIn (b′ .map) (b′ .memory)) (placedIn (judged file g .events)) (adjustedIn (judged file g .events)) (length (z .addresses))
-    (z .cursor .low)
-call-accepts file g x b b′ r d a z f = let l = call-leaves file g x b b′ r d a z f in rw (l .memory, l .map) (l .outcome)
+    (es : List Event)
+    → Follows file g z es
+    → r ≡ Accepted (startIn (b′ .map) (b′ .memory)) (placedIn es) (adjustedIn es) (length (z .addresses)) (z .cursor .low)
+call-accepts file g x b b′ r d a z es f =
+    let j = follows-judged file g (asked-top file g x b a) z es f in
+    let l = call-leaves file g x b b′ r d a z (ap (λ (o : Ran Verdict). o .answer) j) in
+    rw (← ap (λ (o : Ran Verdict). o .events) j, l .memory, l .map) (l .outcome)
 
 -- Demand 2, of every call
 pub call-demand2 : Claim

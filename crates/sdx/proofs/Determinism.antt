@@ -1,15 +1,12 @@
--- A refused call changes no memory, and two machines hold the same program: specs/Determinism.antt, of every call that keeps the contract.
+-- Two machines hold the same program: specs/Determinism.antt, of every two calls that keep the contract.
 -- Assumes nothing.
-use mathlib.Core.Bool.{Bool, true, false, _&&_, false≢true}
+use mathlib.Core.Bool.{Bool, true, _&&_}
 use mathlib.Core.List.{List, _∷_, _++_}
 use mathlib.Core.Path.{_≡_, refl, sym, ap, _∙_}
 use Prim.Native.Nat.{ℕ}
 use lib.ListN.{length, getD}
-use Rattle.answer.proofs.Faults.{late-not}
-use Rattle.answer.proofs.Outcomes.{isRefused, faultIn}
-use Rattle.answer.specs.Checks.{need, pick}
+use Rattle.answer.specs.Checks.{pick}
 use Rattle.answer.specs.declared.Fault.{Fault}
-use Rattle.answer.specs.declared.Fault.the-variants.{WrongBuffer}
 use Rattle.answer.specs.declared.Outcome.{Outcome}
 use Rattle.answer.specs.declared.Outcome.the-variants.{Accepted, Refused}
 use Rattle.answer.specs.declared.Start.{Start}
@@ -17,81 +14,18 @@ use Rattle.events.specs.Events.{Event, play, marks, blank, placedIn, adjustedIn
 use Rattle.words.specs.Runs.{Bytes}
 use Rattle.passes.specs.Buffers.{Buffers}
 use Rattle.passes.specs.Walk.{Inputs, Progress, Verdict, finished, refused}
+use Rattle.sdx.proofs.Calling.{call-load}
 use Rattle.sdx.proofs.Demand2.{finished-asked, asked-judged, asked-memory, asked-top, Left, call-leaves}
-use Rattle.sdx.proofs.Faults.{load-late}
+use Rattle.sdx.proofs.Rules.{by-rules}
 use Rattle.sdx.proofs.Keeping.{judged-keeps}
 use Rattle.sdx.proofs.Lawful.{Lawful}
 use Rattle.sdx.proofs.Same.{loaded-same, placed-same, start-same}
-use Rattle.sdx.specs.Determinism.{RefusedClaim, SameClaim}
-use Rattle.sdx.specs.Call.{load, call, report, memoryAfter, mapAfter, namesAfter, addressesAfter, sized, Loaded, atOnce, judged}
+use Rattle.sdx.specs.Determinism.{SameClaim}
+use Rattle.sdx.specs.Call.{load, call, report, mapAfter, sized, Loaded, judged}
 use Rattle.sdx.specs.Demand2.{Places, Among, Asked}
+use Rattle.sdx.specs.Rules.{Accepts}
 
--- ---- refused
-
--- what was refused leaves memory and new names, and a clear map
-record Untouched (v : Verdict) (es : List Event) (m ns ads : List ℕ) : Type 0 where
-  memory : memoryAfter v es m ≡ m
-  map : mapAfter v es ≡ blank
-  names : namesAfter v ns ≡ ns
-  addresses : addressesAfter v ads ≡ ads
-
-refused-untouched : (v : Verdict) (es : List Event) (m ns ads : List ℕ) → isRefused (report m v es) ≡ true → Untouched v es m ns ads
-refused-untouched (finished z) es m ns ads e = absurd (false≢true e)
-refused-untouched (refused fault z) es m ns ads e = record { memory = refl; map = refl; names = refl; addresses = refl }
-
--- a call with the right buffers is not refused with 1, one with others is
-module _ (file : List ℕ) (g : Inputs) (right : Bool) (b b′ : Buffers) (r : Outcome) (d : Loaded file g right b r b′) (fault : Fault) (offset side : ℕ)
-    (e : r ≡ Refused fault offset side) where
-  -- it is what the definition reports
-  reported : (t : Bool) → right ≡ t → report (b .memory) (call file g t .answer) (call file g t .events) ≡ Refused fault offset side
-  reported t h = ap (λ (s : Bool). report (b .memory) (call file g s .answer) (call file g s .events)) (sym h) ∙ sym (d .outcome) ∙ e
-
-  right-late : right ≡ true → ¬ (fault ≡ WrongBuffer)
-  unfolding call need
-  right-late h = late-not (load-late file g (b .memory)) (reported true h)
-
-  wrong-first : right ≡ false → fault ≡ WrongBuffer
-  unfolding call need
-  wrong-first h = ap faultIn (sym (reported false h))
-
-  untouched : Untouched (call file g right .answer) (call file g right .events) (b .memory) (b .names) (b .addresses)
-  untouched = refused-untouched _ _ (b .memory) (b .names) (b .addresses) (ap isRefused (sym (d .outcome) ∙ e))
-
-  map-is : (t : Bool) → right ≡ t
-      → b′ .map ≡ pick t (mapAfter (call file g right .answer) (call file g right .events)) (b .map)
-  map-is t h =
-      d .map ∙ ap (λ (s : Bool). pick s (mapAfter (call file g right .answer) (call file g right .events)) (b .map)) h
-
-  map-first : (t : Bool) → right ≡ t → fault ≡ WrongBuffer → b′ .map ≡ b .map
-  unfolding pick
-  map-first true h f = absurd (right-late h f)
-  map-first false h f = map-is false h
-
-  map-late : (t : Bool) → right ≡ t → ¬ (fault ≡ WrongBuffer) → b′ .map ≡ blank
-  unfolding pick
-  map-late true h f = map-is true h ∙ untouched .map
-  map-late false h f = absurd (f (wrong-first h))
-
--- a refused call
-pub call-refused : RefusedClaim
-call-refused file g right b b′ r d fault offset side e =
-    let u = untouched file g right b b′ r d fault offset side e in
-    record {
-      memory = d .memory ∙ u .memory;
-      names = d .names ∙ u .names;
-      addresses = d .addresses ∙ u .addresses;
-      wrong-buffer = map-first file g right b b′ r d fault offset side e right refl;
-      other = map-late file g right b b′ r d fault offset side e right refl;
-    }
-
--- ---- two machines
-
--- with the right buffers a call is a load
-call-load : (file : List ℕ) (g : Inputs) (right : Bool) → right ≡ true → call file g right ≡ load file g
-unfolding call need
-call-load file g right h = ap (λ (t : Bool). need (atOnce g) t WrongBuffer (load file g)) h
-
--- and a load that finished is of a call as asked
+-- a load that finished is of a call as asked
 load-asked : (file : List ℕ) (g : Inputs) (x : Bool) (b : Buffers) (z : Progress) → x && sized g b ≡ true → load file g .answer ≡ finished z
     → Asked file g x b
 load-asked file g x b z h e = finished-asked file g x b z (ap (λ (o : Ran Verdict). o .answer) (call-load file g (x && sized g b) h) ∙ e)
@@ -178,12 +112,18 @@ the-map file g right b b′ r d h =
 pub same-program : SameClaim
 same-program file bytes g x y b₁ b₂ b d r t h i f s =
     let w = both file g x y b₁ b₂ b d r t f s h i bytes in
+    let is : (z : Progress) (es : List Event) → Accepts file g z es → load file g ≡ record { answer = finished z; events = es } =
+    by-rules file g .accepts in
+    let yes : (z : Progress) (es : List Event) → Accepts file g z es → load file g .answer ≡ finished z =
+    λ z es a. ap (λ (o : Ran Verdict). o .answer) (is z es a) in
     record {
       outcome = by (load file g .answer) refl;
       map = the-map file g _ b₁ b r f h ∙ sym (the-map file g _ b₂ d t s i);
-      program = same-placed file g x y b₁ b₂ b d r t f s h i bytes;
-      names = λ z e. w z e .left₁ .names ∙ sym (w z e .left₂ .names);
-      addresses = λ z e. w z e .left₁ .addresses ∙ sym (w z e .left₂ .addresses);
+      program = λ z es a before after e k o.
+          same-placed file g x y b₁ b₂ b d r t f s h i bytes z (yes z es a) before after e k
+          (record { order = ap (λ (q : Ran Verdict). q .events) (is z es a) ∙ o .order });
+      names = λ z es a. w z (yes z es a) .left₁ .names ∙ sym (w z (yes z es a) .left₂ .names);
+      addresses = λ z es a. w z (yes z es a) .left₁ .addresses ∙ sym (w z (yes z es a) .left₂ .addresses);
     }
   where
     by : (v : Verdict) → load file g .answer ≡ v → r ≡ t

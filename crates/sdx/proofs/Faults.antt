@@ -1,9 +1,15 @@
--- With the right buffers a load is never refused with 1: no item, no block and no opening gives that number, so no walk ends with it.
+-- No file is refused with 1, 2 or 3: no item, no block and no opening gives these numbers, so no walk ends with one. So each has its one cause.
 -- Assumes nothing.
 use mathlib.Core.Bool.{Bool, true, false}
 use mathlib.Core.List.{List}
+use mathlib.Core.Path.{refl}
 use Prim.Native.Nat.{ℕ}
+use lib.Dec.{leb}
+use lib.ListN.{length}
+use Rattle.answer.proofs.Causes.{causes-of}
 use Rattle.answer.proofs.Faults.{isEarly, Late, earlyOutcome}
+use Rattle.answer.specs.Causes.{Causes}
+use Rattle.answer.specs.Checks.{need}
 use Rattle.blocks.specs.Blocks.{readPlain, readRoom, readRelocatable, readUpdate, byDefinition, readNames, readAddress, readNewName, read}
 use Rattle.blocks.specs.declared.Block.{Block}
 use Rattle.blocks.specs.declared.Block.the-variants.{Plain, Relocatable, Update, NewName, Faulty}
@@ -11,6 +17,7 @@ use Rattle.blocks.specs.declared.Cursor.{Cursor}
 use Rattle.effects.specs.Effects.{applied}
 use Rattle.events.proofs.Faults.{earlyCheck, earlyRan, earlyTurn, late-ran, late-answer, late-runs}
 use Rattle.events.specs.Events.{Event, Ran}
+use Rattle.events.specs.Sizes.{fileLimit}
 use Rattle.events.specs.declared.Check.{Check}
 use Rattle.events.specs.declared.Check.the-variants.{Passed, Failed}
 use Rattle.items.specs.Items.{setting, settingToBlock, read as read-item}
@@ -23,9 +30,9 @@ use Rattle.names.specs.declared.Definition.{Definition}
 use Rattle.names.specs.declared.Definition.the-variants.{Missing, Own, Lent}
 use Rattle.passes.specs.Walk.{Inputs, Progress, Verdict, finished, refused, judge as judge-block, blockAt, appliedAt, turn as turn-block, blocksFrom, blocksOf}
 use Rattle.updates.specs.Bodies.{adjusting, applied as appliedItem, BodyState, Stop, broken, done, judge, turn, items, body}
-use Rattle.sdx.specs.Call.{opening, opened, admitting, load, report}
+use Rattle.sdx.specs.Call.{inRange, opening, opened, judged, admitting, load, call, report}
 
--- ---- whether an answer is a refusal with 1
+-- ---- whether an answer is a refusal with 1, 2 or 3
 
 abbrev earlyItem : Item → Bool
 earlyItem (FaultyItem fault) = isEarly fault
@@ -128,21 +135,25 @@ blocks-late : (file : List ℕ) (g : Inputs) → Late (earlyRan earlyVerdict) (b
 unfolding blocksFrom
 blocks-late file g = search (late-runs, turn-block-late)
 
--- the checks before the first block, and then the blocks
+-- the opening, and then the blocks
 opened-late : (g : Inputs) (c : Check) (rest : Ran Verdict) → Late earlyCheck c → Late (earlyRan earlyVerdict) rest
     → Late (earlyRan earlyVerdict) (opened g c rest)
 opened-late g Passed rest h i = i
 opened-late g (Failed fault) rest h i = search late-runs
 
-loads-late : (file : List ℕ) (g : Inputs) → Late (earlyRan earlyVerdict) (load file g)
-unfolding load admitting opening
-loads-late file g = search (late-runs, opened-late, blocks-late) depth 6
+judged-late : (file : List ℕ) (g : Inputs) → Late (earlyRan earlyVerdict) (judged file g)
+unfolding judged opening
+judged-late file g = search (late-runs, opened-late, blocks-late) depth 6
 
 -- what is reported of it
 report-late : (memory : List ℕ) (v : Verdict) (es : List Event) → Late earlyVerdict v → Late earlyOutcome (report memory v es)
 report-late memory (finished z) es h = search late-runs
 report-late memory (refused fault z) es h = search late-runs
 
--- no load with the right buffers is refused with 1
-pub load-late : (file : List ℕ) (g : Inputs) (memory : List ℕ) → Late earlyOutcome (report memory (load file g .answer) (load file g .events))
-load-late file g memory = search (late-runs, report-late memory (load file g .answer) (load file g .events), loads-late)
+-- why a call is refused with 1, 2 or 3
+pub call-causes : (file : List ℕ) (g : Inputs) (right : Bool) (memory : List ℕ)
+    → Causes right (inRange g) (leb (length file) fileLimit) (report memory (call file g right .answer) (call file g right .events))
+unfolding call load judged admitting need
+call-causes file g right memory =
+    causes-of right (inRange g) (leb (length file) fileLimit) (λ h. rw h refl) (λ h i. rw (h, i) refl) (λ h i j. rw (h, i, j) refl)
+    (λ h i j. rw (h, i, j) (report-late memory _ _ (late-answer _ _ (judged-late file g))))

@@ -36,7 +36,7 @@ use Rattle.sdx.proofs.Calling.{judged-holds}
 use Rattle.sdx.proofs.Lawful.{Lawful, lawful-append}
 use Rattle.sdx.proofs.Passing.{Granted, read-granted, body-lawful}
 use Rattle.sdx.specs.Call.{judged}
-use Rattle.sdx.specs.Demand2.{AdjustsBy, ByRule, Trace, at-start, after-block, eventsOf, namesOf, addressesOf}
+use Rattle.sdx.specs.Demand2.{AdjustsBy, ByRule, eventsOf, namesOf, addressesOf}
 
 -- ---- progress that only grows
 
@@ -283,13 +283,3 @@ module _ (file : List ℕ) (g : Inputs) (top : g .high ≤ 65535) (bytes : Bytes
   -- so it holds of every file that is accepted
   pub judged-keeps : (z : Progress) → judged file g .answer ≡ finished z → Keeps file g z (judged file g .events)
   judged-keeps = judged-holds file g top (Keeps file g) (keeps-first file g) keeps-on
-
-  -- and it came there block by block
-  trace-on : (y z : Progress) (es : List Event) → Trace file g y es → turn file g y (marks es blank) .answer ≡ leads z
-      → Trace file g z (es ++ turn file g y (marks es blank) .events)
-  trace-on y z es h e =
-      let l = turn-led file g y (marks es blank) z e in
-      rw (l .events) (after-block h (record { end = l .next; ends-done = l .done-at; leads-to = sym (l .leads-to) }))
-
-  pub judged-trace : (z : Progress) → judged file g .answer ≡ finished z → Trace file g z (judged file g .events)
-  judged-trace = judged-holds file g top (Trace file g) at-start trace-on

@@ -1,5 +1,6 @@
--- Demand 2 for SDX files, sentence by sentence: what a load leaves where it accepts. Proved in proofs/Demand2.antt of the definition
--- (`demand2`), of every file, all settings and every memory; the claim at the end, of every call, by `call-demand2`.
+-- Demand 2 for SDX files, sentence by sentence: what a load leaves where it accepts, and that it accepts exactly what follows the rules
+-- (Rules.antt). Proved in proofs/Demand2.antt: `demand2` of the definition, of every file, all settings and every memory; `call-demand2 : Claim` of
+-- every call that keeps the loader's contract.
 -- Assumes nothing.
 use mathlib.Core.Bool.{Bool, true, false, _&&_}
 use mathlib.Core.List.{List, [], _∷_, _++_}
@@ -13,16 +14,16 @@ use Rattle.blocks.specs.Blocks.{amountOf}
 use Rattle.blocks.specs.declared.Block.{Block}
 use Rattle.blocks.specs.declared.Block.the-variants.{Plain, Relocatable, Update, NewName, Faulty}
 use Rattle.effects.specs.Effects.{Effect, nameIn, addressIn}
-use Rattle.events.specs.Events.{Event, place, reserve, adjust, marks, blank, placedMark, reservedMark, adjustedMark, placedIn, adjustedIn}
+use Rattle.events.specs.Events.{Event, place, reserve, adjust, placedMark, reservedMark, adjustedMark, placedIn, adjustedIn}
 use Rattle.events.specs.Lists.{Each}
 use Rattle.events.specs.Sizes.{fileLimit}
 use Rattle.items.specs.Items.{slotAt}
 use Rattle.passes.specs.Buffers.{Buffers, newNamesLength, newAddressesLength, filledUp, startIn}
-use Rattle.passes.specs.Walk.{Inputs, Progress, finished, stepped, blockAt, appliedAt, begun}
-use Rattle.updates.specs.Bodies.{done}
+use Rattle.passes.specs.Walk.{Inputs, Progress}
 use Rattle.words.specs.Numbers.{value, digits, on}
 use Rattle.words.specs.Runs.{Bytes, Within, part}
-use Rattle.sdx.specs.Call.{inRange, sized, judged, Loaded}
+use Rattle.sdx.specs.Call.{inRange, sized, Loaded}
+use Rattle.sdx.specs.Rules.{Follows}
 
 -- ---- events at an address
 
@@ -88,7 +89,7 @@ pub record AdjustsBy (amount : ℕ) (e : Event) : Type 0 where
   pub is : e ≡ adjust 2 address amount
 
 -- the events of a block are those of the rules; z is where the file ended, with the table and the names of all its blocks (of a body: each event
--- adjusts a word by the rules' amount; which words it lists, `body` says, by `Trace` below)
+-- adjusts a word by the rules' amount; which words it lists, `Follows` says, by its items)
 abbrev pub ByRule : List ℕ → Inputs → Progress → Block → List Event → Type 0
 ByRule file g z (Plain address from size) es = es ≡ place address (part file from size) ∷ []
 ByRule file g z (Relocatable true number offset from size) es = es ≡ reserve (slotAt (z .cursor .table) number .address) size ∷ []
@@ -97,20 +98,6 @@ ByRule file g z (Relocatable false number offset from size) es =
 ByRule file g z (Update source from) es = Each (AdjustsBy (amountOf (z .cursor .table) (g .addresses) (z .addresses) source)) es
 ByRule file g z (NewName from address) es = es ≡ []
 ByRule file g z (Faulty fault) es = ⊥
-
--- The block at which a load stands at y, by the events es, is carried out over the map as these left it, and leads on to z.
-pub record NextBlock (file : List ℕ) (g : Inputs) (y : Progress) (es : List Event) (z : Progress) : Type 0 where
-  pub end : ℕ
-  pub ends-done : appliedAt file g y (marks es blank) .answer ≡ done end
-  pub leads-to : z ≡ stepped file y (blockAt file g y) (appliedAt file g y (marks es blank) .events) end
-
--- How a load came to z, by the events es: from the first block on, each read where the one before it ended, with the table and the names as those
--- before it left them. So each effect of z is that of the block at its offset, and its events are all that this block does: of a body, one for
--- each word that it lists.
-pub data Trace (file : List ℕ) (g : Inputs) : Progress → List Event → Type 0 where
-  at-start : Trace file g (begun g) []
-  after-block : {y z : Progress} {es : List Event} → Trace file g y es → NextBlock file g y es z
-      → Trace file g z (es ++ appliedAt file g y (marks es blank) .events)
 
 -- what all blocks did, in file order (the latest effect stands first)
 unfoldable pub eventsOf : List Effect → List Event
@@ -130,7 +117,7 @@ addressesOf (d ∷ ds) = addressesOf ds ++ addressIn (d .block)
 -- What a load leaves that accepted a file, after the events es: it found memory m, left m′ and the map p′, and reported the two counts.
 pub record Demand2 (file : List ℕ) (g : Inputs) (z : Progress) (es : List Event) (m m′ p′ : List ℕ) (placed adjusted : ℕ) : Type 0 where
   -- the events are those of its blocks, one after the other, and those are the rules'
-  pub trace : Trace file g z es
+  pub follows : Follows file g z es
   pub effects : es ≡ eventsOf (z .effects)
   pub by-rule : Each (λ d. ByRule file g z (d .block) (d .events)) (z .effects)
   -- "New names and addresses stand in file order"
@@ -161,12 +148,12 @@ pub record Asked (file : List ℕ) (g : Inputs) (others : Bool) (b : Buffers) : 
   pub settings : inRange g ≡ true
   pub fits : length file ≤ fileLimit
 
--- A call that was accepted: it was as asked, the file follows the rules, and this is what it left and reported.
+-- A call that was accepted: it was as asked, the file follows the rules to its end, and this is what it left and reported.
 pub record AcceptedCall (file : List ℕ) (g : Inputs) (others : Bool) (b b′ : Buffers) (start : Start) (placed adjusted named low : ℕ) : Type 0 where
   pub asked : Asked file g others b
   pub end : Progress
-  pub follows : judged file g .answer ≡ finished end
-  pub leaves : Demand2 file g end (judged file g .events) (b .memory) (b′ .memory) (b′ .map) placed adjusted
+  pub events : List Event
+  pub leaves : Demand2 file g end events (b .memory) (b′ .memory) (b′ .map) placed adjusted
   -- "the start (present or not, address)": by the map and the memory that were left
   pub start-is : start ≡ startIn (b′ .map) (b′ .memory)
   -- "and for SDX the number of new names and low afterwards"; "The unfilled rest of any room lent for output is zero"
@@ -178,15 +165,13 @@ pub record AcceptedCall (file : List ℕ) (g : Inputs) (others : Bool) (b b′ :
 -- "With settings and buffers as document 01 asks, a file is accepted exactly if it follows the SpartaDOS X .. rules of document 01 and fits": of a
 -- call that found the buffers b, answered r and left b′
 pub record Exactly (file : List ℕ) (g : Inputs) (others : Bool) (b : Buffers) (r : Outcome) (b′ : Buffers) : Type 0 where
-  -- only if: an acceptance is of a call as asked and of a file that the rules accept, and leaves what demand 2 says
+  -- only if: an acceptance is of a call as asked and of a file that follows the rules, and leaves what demand 2 says
   pub only : (start : Start) (placed adjusted named low : ℕ) → r ≡ Accepted start placed adjusted named low
       → AcceptedCall file g others b b′ start placed adjusted named low
-  -- if: a call as asked accepts every file that the rules accept, with the start that map and memory show, the counts of its events, the number
+  -- if: a call as asked accepts every file that follows the rules, with the start that map and memory show, the counts of its events, the number
   -- of its new names and low
-  pub all : Asked file g others b → (z : Progress) → judged file g .answer ≡ finished z
-      → r
-      ≡ Accepted (startIn (b′ .map) (b′ .memory)) (placedIn (judged file g .events)) (adjustedIn (judged file g .events)) (length (z .addresses))
-      (z .cursor .low)
+  pub all : Asked file g others b → (z : Progress) (es : List Event) → Follows file g z es
+      → r ≡ Accepted (startIn (b′ .map) (b′ .memory)) (placedIn es) (adjustedIn es) (length (z .addresses)) (z .cursor .low)
 
 -- The claim: of every file, whatever the inputs and the buffers, and of every call that keeps the loader's contract.
 abbrev pub Claim : Type 0
