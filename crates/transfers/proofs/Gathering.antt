@@ -11,10 +11,11 @@ use lib.ListN.{length}
 use Rattle.acx.proofs.Cursors.{Tracks, tracks-first, tracks-found, tracks-on, tracks-passes, tracks-to-end, tracks-onward}
 use Rattle.pieces.proofs.Edits.{length-edited, edited-append}
 use Rattle.pieces.proofs.Marks.{fields-fresh}
-use Rattle.acx.proofs.Turning.{Onward, fixups-passed}
+use Rattle.acx.proofs.Turning.{fixups-passed}
 use Rattle.acx.proofs.Walking.{opening-fits, Passes, judged-opens}
 use Rattle.acx.specs.Call.{formOf}
 use Rattle.acx.specs.Cursor.{firstCursor, advanced}
+use Rattle.acx.specs.Rules.{Onward}
 use Rattle.pieces.specs.Places.{Inside}
 use Rattle.pieces.specs.Pieces.{Piece, size, placeAt, placeOf, edited, events}
 use Rattle.acx.specs.Walk.{Verdict, accepted, Progress, begun, lastOf, lastPlace, lastSize, recordAt, withFields, stepped, recordsOf, openingSize}
