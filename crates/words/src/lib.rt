@@ -2,7 +2,7 @@
 // A leaf: it knows no file format. Each `requires` is a bound that the caller has looked at; the crates above know these functions only by
 // what they promise, in the terms of specs/.
 ghost use mathlib.Core.Path.{_≡_};
-ghost use Prim.Native.Nat.{_+_, _*_, _/_, _<_, _≤_};
+ghost use Prim.Native.Nat.{_+_, _*_, _/_, _<_, _≤_, _^_};
 ghost use lib.ListN.{length, replicate};
 ghost use Rattle.words.specs.Runs.{put, allZero, contains as containsOf};
 ghost use Rattle.words.specs.Numbers.{value, store, on, off, change, encoded, decoded};
@@ -61,10 +61,10 @@ pub fn put_word(bytes: &mut [u8], at: usize, word: u16)
     bytes[at + 1] = (word / 256 % 256) as u8;
 }
 
-// Puts the number into the four bytes at `at`.
+// Puts the number into the four bytes at `at`, in which it has room.
 pub fn put_number(bytes: &mut [u8], at: usize, number: u32)
     requires { ⌜ at + 4 ≤ length (now bytes) ⌝ }
-    ensures { λ _. ⌜ now (bytes .exit) ≡ store 4 (now (bytes .entry)) at number ⌝ }
+    ensures { λ _. ⌜ (now (bytes .exit) ≡ store 4 (now (bytes .entry)) at number) × (number < 256 ^ 4) ⌝ }
 {
     bytes[at] = (number % 256) as u8;
     bytes[at + 1] = (number / 256 % 256) as u8;

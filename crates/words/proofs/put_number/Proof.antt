@@ -47,7 +47,7 @@ same-length c = search needs
 
 returns : tie.Need-returns
 unfolding store digits put
-returns c = rw (add-one, add-two, add-three)
+returns c = (rw (add-one, add-two, add-three), omega arith)
 
 pub put-number-spec : {M : Type 1} → statement M
 put-number-spec =
