@@ -1,9 +1,10 @@
 -- What a call reports, in numbers (document 01, "What the bench lends" and "Numbers a bench can show").
 -- Assumes nothing.
 use mathlib.Core.List.{List, [], _∷_}
+use mathlib.Core.Path.{_≡_}
 use Prim.Native.Nat.{ℕ}
 use lib.ListN.{getD}
-use Rattle.words.specs.Numbers.{encoded}
+use Rattle.words.specs.Numbers.{encoded, decoded}
 use Rattle.answer.specs.declared.Fault.{Fault}
 use Rattle.answer.specs.declared.Fault.the-variants.{WrongBuffer, SettingOutOfRange, FileTooLong, WrongOpening, CutShort, NotKnown, BlockTaken, BlockMissing, LengthNotAllowed, DoesNotFit, CounterUnusable, FieldNotLoaded, AdjustedTwice, NameUnknown, TooManyNames, NameOutsideBlock, PiecesOverlap, FixupUnsuited, BytesAfterEnd, StartTooHigh}
 use Rattle.answer.specs.declared.Start.{Start}
@@ -71,3 +72,13 @@ answerLength = 36
 -- each number in four bytes, "low byte first"
 unfoldable pub answerBytes : Outcome → List ℕ
 answerBytes outcome = encoded 4 (numbersOf outcome)
+
+-- the nine numbers that an answer holds
+abbrev pub numbersIn : List ℕ → List ℕ
+numbersIn answer = decoded 4 9 answer
+
+-- What an answer is that was written for an outcome: its bytes are the outcome's, and they read back as its numbers, so that none was too large
+-- for its four bytes.
+pub record Written (outcome : Outcome) (answer : List ℕ) : Type 0 where
+  pub bytes : answer ≡ answerBytes outcome
+  pub reads-back : numbersIn answer ≡ numbersOf outcome

@@ -3,7 +3,7 @@
 ghost use mathlib.Core.Path.{_≡_};
 ghost use lib.ListN.{length};
 ghost use Rattle.answer.specs.declared.Outcome.the-variants.{Refused};
-ghost use Rattle.answer.specs.Report.{numberOf, numbersOf, numberReturned, answerLength, answerBytes};
+ghost use Rattle.answer.specs.Report.{numberOf, numbersOf, numberReturned, answerLength, Written};
 
 // What is wrong: a variant for each row of the table "Numbers a bench can show", in its order.
 pub enum Fault {
@@ -126,7 +126,7 @@ pub fn number(outcome: Outcome) -> u32
 // Writes the answer into a buffer of its length.
 pub fn write(outcome: Outcome, answer: &mut [u8])
     requires { ⌜ length (now answer) ≡ answerLength ⌝ }
-    ensures { λ _. ⌜ now (answer .exit) ≡ answerBytes outcome ⌝ }
+    ensures { λ _. ⌜ Written outcome (now (answer .exit)) ⌝ }
 {
     let all = numbers(outcome);
     let mut i = 0;

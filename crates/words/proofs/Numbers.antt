@@ -1,14 +1,14 @@
 -- Numbers and their bytes are one another's inverse, and so are an amount on and off. Each law once, over the width.
 -- Assumes nothing.
-use mathlib.Core.List.{List, [], _∷_}
+use mathlib.Core.List.{List, [], _∷_, _++_}
 use mathlib.Core.Path.{_≡_, refl, sym, ap, ap₂, _∙_}
 use Prim.Native.Nat.{ℕ, zero, suc, _+_, _-_, _*_, _/_, _%_, _^_, _≤_, _<_}
 use native.Mathlib.Decide.{decLt}
-use native.Mathlib.Nat.{mod-lt, mod-eq-of-lt, mod-mod, mod-add-mod, add-mod-mod, div-add-mod, add-mul-mod-self-left, pow-suc, one-le-pow, mul-suc, mul-zero, add-comm}
+use native.Mathlib.Nat.{mod-lt, mod-eq-of-lt, mod-mod, mod-add-mod, add-mod-mod, div-add-mod, add-mul-mod-self-left, pow-suc, one-le-pow, mul-suc, mul-zero, add-comm, le-of-suc-le-suc, not-suc-le-zero}
 use native.Mathlib.Numerals.{add-one}
 use native.Mathlib.Omega.{arith}
-use lib.ListN.{length, getD, drop-of-length-le, length-append, List·getD-eq-default}
-use lib.Seq.{drop-cons, take-nil}
+use lib.ListN.{length, getD, take, drop, drop-of-length-le, length-append, List·getD-eq-default}
+use lib.Seq.{drop-cons, take-nil, take-at, take-suc, drop-append-add}
 use Rattle.words.specs.Numbers.{number, digits, value, on, off, encoded, decoded}
 use Rattle.words.specs.Runs.{Bytes, part}
 
@@ -129,3 +129,29 @@ pub length-decoded : (k n : ℕ) (l : List ℕ) → length (decoded k n l) ≡ n
 unfolding decoded
 length-decoded k zero l = refl
 length-decoded k (suc n) l = rw (length-append, length-decoded k n l) (add-one n)
+
+-- ---- and read back
+
+-- a number that has room in its k bytes
+value-encoded : (k : ℕ) (vs : List ℕ) (n : ℕ) → n < length vs → getD vs n 0 < 256 ^ k → value k (encoded k vs) (k * n) ≡ getD vs n 0
+unfolding encoded value part
+value-encoded k [] n h f = absurd (not-suc-le-zero h)
+value-encoded k (v ∷ vs) zero h f =
+    ap (λ (i : ℕ). number (take k (drop i (digits k v ++ encoded k vs)))) (mul-zero k)
+    ∙ ap number (take-at (digits k v) (encoded k vs) k (length-digits k v))
+    ∙ number-digits k v f
+value-encoded k (v ∷ vs) (suc n) h f =
+    let e : k * suc n ≡ length (digits k v) + k * n = omega (arith, mul-suc k n, length-digits k v) in
+    ap (λ (i : ℕ). number (take k (drop i (digits k v ++ encoded k vs)))) e
+    ∙ ap (λ (l : List ℕ). number (take k l)) (drop-append-add (digits k v) (encoded k vs) (k * n))
+    ∙ value-encoded k vs n (le-of-suc-le-suc h) f
+
+-- the first n of some that all have
+pub decoded-encoded : (k : ℕ) (vs : List ℕ) → ((j : ℕ) → j < length vs → getD vs j 0 < 256 ^ k) → (n : ℕ) → n ≤ length vs
+    → decoded k n (encoded k vs) ≡ take n vs
+unfolding decoded
+decoded-encoded k vs f zero h = refl
+decoded-encoded k vs f (suc n) h =
+    ap (λ (l : List ℕ). l ++ (value k (encoded k vs) (k * n) ∷ [])) (decoded-encoded k vs f n (omega arith))
+    ∙ ap (λ (v : ℕ). take n vs ++ (v ∷ [])) (value-encoded k vs n h (f n h))
+    ∙ sym (take-suc vs n 0 h)

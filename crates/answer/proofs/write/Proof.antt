@@ -1,20 +1,22 @@
--- `answer::write` meets its contract: up to number `i` the buffer holds the answer, and from there on what it held.
+-- `answer::write` meets its contract: up to number `i` the buffer holds the answer, and from there on what it held; and each number so far has
+-- room in its bytes.
 -- Assumes nothing.
 use mathlib.Core.List.{List, _++_}
 use mathlib.Core.Path.{_≡_, refl, ap, _∙_}
-use Prim.Native.Nat.{ℕ, _≤_, _-_, _*_}
+use Prim.Native.Nat.{ℕ, _+_, _≤_, _<_, _-_, _*_, _^_}
 use native.Mathlib.Omega.{arith}
 use borrow.Author.Needs.{needs}
 use lib.ListN.{getD, length, take, drop}
-use Rattle.answer.proofs.Lengths.{length-numbers}
+use Rattle.answer.proofs.Lengths.{length-numbers, below-more, written}
 use Rattle.answer.proofs.write.Statement.{statement}
 use Rattle.answer.proofs.write.Tie as tie
-use Rattle.answer.specs.Report.{answerBytes}
 use Rattle.words.proofs.Turns.{encode-all, encode-more}
 use Rattle.words.specs.Numbers.{store, encoded}
 
 abbrev Inv-loop : tie.InvT-loop
-Inv-loop answer₀ all i₀ answer i = (i ≤ 9) × (answer ≡ encoded 4 (take i all) ++ drop (4 * i) answer₀) × (length answer ≡ length answer₀)
+Inv-loop answer₀ all i₀ answer i =
+    (i ≤ 9) × (answer ≡ encoded 4 (take i all) ++ drop (4 * i) answer₀) × (length answer ≡ length answer₀)
+    × ((j : ℕ) → j < i → getD all j 0 < 256 ^ 4)
 
 abbrev μ-loop : tie.MeasureT-loop
 μ-loop answer₀ all i₀ answer i = 9 - i
@@ -24,7 +26,7 @@ numbers-requires c κs = search needs
 
 loop-holds : tie.Need-loop-holds Inv-loop μ-loop
 unfolding encoded
-loop-holds c = (search needs, refl, refl)
+loop-holds c = (search needs, refl, refl, λ j h. absurd (omega arith))
 
 mul-put-number : tie.Need-mul-put-number Inv-loop μ-loop
 mul-put-number c = omega arith
@@ -53,24 +55,26 @@ loop-again c =
     let s = c .before .before .before .before .before .before .before .before in
     let nine : length (n .result) ≡ 9 = ap length (n .ensures) ∙ length-numbers (s .args .outcome) in (
       omega arith,
-      c .before .before .put-number .ensures
+      c .before .before .put-number .ensures .0
           ∙ ap (λ (b : List ℕ). store 4 b (4 * l .i) (getD (n .result) (l .i) 0)) (l .inv .1)
           ∙ encode-more 4 (n .result) (s .args .answer .now) (l .i) (omega arith) (omega (arith, s .pre)),
       c .before .before .put-number .kept .0 ∙ l .inv .2,
+      below-more (λ j. getD (n .result) j 0 < 256 ^ 4) (l .i) (l .inv .3) (c .before .before .put-number .ensures .1),
     )
 
 same-length : tie.Need-same-length Inv-loop μ-loop
 same-length c = omega arith
 
 returns : tie.Need-returns Inv-loop μ-loop
-unfolding answerBytes
 returns c =
     let l = c .before .loop in
     let n = c .before .before .numbers in
     let s = c .before .before .before .before in
     let nine : length (n .result) ≡ 9 = ap length (n .ensures) ∙ length-numbers (s .args .outcome) in
     let end : l .i ≡ length (n .result) = omega arith in
-    l .inv .1 ∙ rw end (encode-all 4 (n .result) (s .args .answer .now) (omega (arith, s .pre)) ∙ ap (encoded 4) (n .ensures))
+    let all : encoded 4 (take (l .i) (n .result)) ++ drop (4 * l .i) (s .args .answer .now) ≡ encoded 4 (n .result) =
+    rw end (encode-all 4 (n .result) (s .args .answer .now) (omega (arith, s .pre))) in
+    written (s .args .outcome) _ _ (n .ensures) (l .inv .1 ∙ all) (λ j h. l .inv .3 j (omega arith))
 
 pub write-spec : {M : Type 1} → statement M
 write-spec =
