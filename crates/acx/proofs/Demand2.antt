@@ -29,7 +29,7 @@ use Rattle.acx.proofs.Rules.{followed, follows-judged, load-judged}
 use Rattle.acx.proofs.Standing.{Stands}
 use Rattle.acx.specs.Call.{formOf, sized, load, call, memoryAfter, mapAfter, Loaded}
 use Rattle.acx.specs.Demand2.{total, WellPlaced, Demand2, Asked, AcceptedCall, Claim}
-use Rattle.acx.specs.Rules.{Follows}
+use Rattle.acx.specs.Rules.{Follows, Accepts}
 use Rattle.pieces.specs.Pieces.{Piece, size, placeOf, adjustments, events}
 use Rattle.acx.specs.Walk.{Verdict, accepted, refused, atOnce, judged, report, reported}
 use Rattle.pieces.specs.declared.Bases.{Bases}
@@ -93,6 +93,18 @@ abbrev startIn : Outcome → Start
 startIn (Accepted start placed adjusted names low) = start
 startIn (Refused fault offset side) = Absent
 
+-- a load that accepts reports the start and the counts of the pieces
+pub load-reports : (form : ℕ) (b : Bases) (file : List ℕ) (ps : List Piece) (start : Start) → Accepts form b file ps start
+    → reported (load form b file) .answer ≡ Accepted start (total size ps) (total (λ p. length (p .fields)) ps) 0 0
+load-reports form b file ps start h =
+    let e = follows-judged (formOf form) file b ps start (h .follows) in
+    let o = judged (formOf form) file b in
+    ap (λ (k : Ran Verdict). reported k .answer) (load-judged form b file (h .settings) (h .fits))
+    ∙ ap (λ (v : Verdict). report v (o .events)) e
+    ∙ ap (λ (es : List Event). report (accepted ps start) es) (placed-well file b (formOf form) ps start e .events)
+    ∙ ap (λ (n : ℕ). Accepted start n (adjustedIn (events b ps)) 0 0) (placed-total b ps)
+    ∙ ap (λ (n : ℕ). Accepted start (total size ps) n 0 0) (adjusted-total b ps)
+
 -- an outcome that is accepted held its check
 need-held : (c : Bool) (fault : Fault) (o : Ran Verdict) → isRefused (reported (need atOnce c fault o) .answer) ≡ false → c ≡ true
 unfolding need
@@ -154,16 +166,8 @@ module _ (form : ℕ) (b : Bases) (file : List ℕ) (x : Bool) (m p : List ℕ) 
   call-accepts : Asked form b file x m p → (ps : List Piece) (start : Start) → Follows (formOf form) file b ps start
       → r ≡ Accepted start (total size ps) (total (λ p. length (p .fields)) ps) 0 0
   call-accepts a ps start f =
-      let e = follows-judged (formOf form) file b ps start f in
-      let o = judged (formOf form) file b in
       let t : x && sized m p ≡ true = rw (a .answer, eq-eqb _ _ (a .memory), eq-eqb _ _ (a .map)) refl in
-      let h = placed-well file b (formOf form) ps start e in
-      loaded-right t d .0
-      ∙ ap (λ (k : Ran Verdict). reported k .answer) (load-judged form b file (a .settings) (a .fits))
-      ∙ ap (λ (v : Verdict). report v (o .events)) e
-      ∙ ap (λ (es : List Event). report (accepted ps start) es) (h .events)
-      ∙ ap (λ (n : ℕ). Accepted start n (adjustedIn (events b ps)) 0 0) (placed-total b ps)
-      ∙ ap (λ (n : ℕ). Accepted start (total size ps) n 0 0) (adjusted-total b ps)
+      loaded-right t d .0 ∙ load-reports form b file ps start (record { settings = a .settings; fits = a .fits; follows = f })
 
 -- "a file is accepted exactly if it follows the .. ACX rules of document 01 and fits"
 pub accepted-exactly : Claim

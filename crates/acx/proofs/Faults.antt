@@ -80,10 +80,14 @@ call-causes form b file right =
     causes-of right (inRange form b) (leb (length file) fileLimit) (λ h. rw h refl) (λ h i. rw (h, i) refl) (λ h i j. rw (h, i, j) refl)
     (λ h i j. rw (h, i, j) (report-late _ _ (late-answer _ _ (judged-late (formOf form) file b))))
 
--- so a load with the right buffers is never refused with 1
+-- so a load with the right buffers is refused with 2 or 3 exactly for its cause
+pub load-causes : (form : ℕ) (b : Bases) (file : List ℕ)
+    → Causes true (inRange form b) (leb (length file) fileLimit) (reported (load form b file) .answer)
+unfolding call need
+load-causes form b file = call-causes form b file true
+
+-- and never with 1
 pub load-late : (form : ℕ) (b : Bases) (file : List ℕ) (fault : Fault) (at side : ℕ) → reported (load form b file) .answer ≡ Refused fault at side
     → ¬ (fault ≡ WrongBuffer)
-unfolding call need
 load-late form b file fault at side e f =
-    false≢true
-    (sym (call-causes form b file true .wrong-buffer-only at side (e ∙ ap (λ (k : Fault). Refused k at side) f)))
+    false≢true (sym (load-causes form b file .wrong-buffer-only at side (e ∙ ap (λ (k : Fault). Refused k at side) f)))

@@ -4,19 +4,24 @@ use mathlib.Core.Bool.{Bool, true, false, false≢true}
 use mathlib.Core.List.{List}
 use mathlib.Core.Path.{_≡_, refl, sym, ap, _∙_, subst}
 use Prim.Native.Nat.{ℕ}
+use lib.Dec.{leb}
+use lib.ListN.{length}
 use Rattle.answer.proofs.Outcomes.{isRefused, faultIn}
 use Rattle.answer.specs.Checks.{need, pick}
 use Rattle.answer.specs.declared.Fault.{Fault}
+use Rattle.answer.specs.declared.Fault.the-variants.{WrongBuffer, SettingOutOfRange, FileTooLong}
 use Rattle.answer.specs.declared.Outcome.{Outcome}
 use Rattle.answer.specs.declared.Outcome.the-variants.{Refused}
 use Rattle.events.specs.Events.{Event}
+use Rattle.events.specs.Sizes.{fileLimit}
 use Rattle.pieces.specs.declared.Bases.{Bases}
 use Rattle.acx.proofs.Calling.{refused-memory, refused-map, loaded-right}
-use Rattle.acx.proofs.Faults.{call-causes, load-late}
+use Rattle.acx.proofs.Faults.{call-causes, load-causes, load-late}
 use Rattle.acx.proofs.Rules.{by-rules}
-use Rattle.acx.specs.Call.{load, call, Loaded}
+use Rattle.acx.specs.Call.{inRange, load, call, Loaded}
 use Rattle.acx.specs.Refusals.{RefusedCall, RefusalsClaim}
-use Rattle.acx.specs.Walk.{Verdict, accepted, refused, report}
+use Rattle.acx.specs.Rules.{Refuses}
+use Rattle.acx.specs.Walk.{Verdict, accepted, refused, report, reported}
 
 module _ (form : ℕ) (b : Bases) (file m p : List ℕ) (r : Outcome) (m′ p′ : List ℕ) (fault : Fault) (at side : ℕ) (e : r ≡ Refused fault at side) where
   -- where a length is wrong, that is the fault
@@ -35,6 +40,27 @@ module _ (form : ℕ) (b : Bases) (file m p : List ℕ) (r : Outcome) (m′ p′
         wrong-buffer = λ h. absurd (load-late form b file fault at side (sym (l .0) ∙ e) h);
         other = λ n. l .2 ∙ refused-map (o .answer) (o .events) k;
       }
+
+-- ---- with the right buffers
+
+module _ (form : ℕ) (b : Bases) (file : List ℕ) (at : ℕ) where
+  -- what the rules refuse a load with is reported
+  refuses-reported : (fault : Fault) → Refuses form b file fault at → reported (load form b file) .answer ≡ Refused fault at 0
+  refuses-reported fault h = ap (λ (v : Verdict). report v (load form b file .events)) (by-rules form b file .refuses fault at h)
+
+  -- so they refuse it with 1 never
+  pub refuses-sized : ¬ Refuses form b file WrongBuffer at
+  refuses-sized h = load-late form b file WrongBuffer at 0 (refuses-reported WrongBuffer h) refl
+
+  -- with 2 only where a setting is out of its range
+  pub refuses-range : Refuses form b file SettingOutOfRange at → inRange form b ≡ false
+  refuses-range h = load-causes form b file .out-of-range-only at 0 (refuses-reported SettingOutOfRange h) .1
+
+  -- and with 3 only where the settings are in their ranges, and the file is too long
+  pub refuses-long : Refuses form b file FileTooLong at → (inRange form b ≡ true) × (leb (length file) fileLimit ≡ false)
+  refuses-long h =
+      let c = load-causes form b file .too-long-only at 0 (refuses-reported FileTooLong h) in
+      (c .1, c .2)
 
 -- an outcome that is a refusal is of a verdict that is one
 reported-refused : (v : Verdict) (es : List Event) (fault : Fault) (at side : ℕ) → report v es ≡ Refused fault at side
