@@ -1,168 +1,100 @@
--- What a single call leaves, as specs/Outcomes.antt states it.
+-- When a call is accepted, and what it then leaves, as specs/Outcomes.antt states it.
 -- Assumes nothing.
-use mathlib.Core.Bool.{Bool, true, false, false≢true}
+use mathlib.Core.Bool.{Bool, true, _&&_}
 use mathlib.Core.List.{List, [], _∷_}
 use mathlib.Core.Path.{_≡_, refl, sym, ap, _∙_, subst}
-use Prim.Native.Nat.{ℕ, _≤_}
-use native.Mathlib.Omega.{arith}
-use lib.ListN.{getD}
+use Prim.Native.Nat.{ℕ}
+use borrow.Author.Tests.{eqb-true}
+use lib.Dec.{eqb}
+use lib.ListN.{length, getD}
 use Rattle.acx.proofs.Calling.{loaded-right}
-use Rattle.acx.proofs.Faults.{load-late}
-use Rattle.acx.specs.Call.{load}
-use Rattle.acx.specs.Walk.{Verdict, accepted, refused, report}
-use Rattle.answer.proofs.Outcomes.{isRefused, faultIn}
-use Rattle.answer.specs.Checks.{need, pick}
-use Rattle.answer.specs.declared.Fault.{Fault}
-use Rattle.answer.specs.declared.Fault.the-variants.{WrongBuffer}
+use Rattle.acx.proofs.Demand2.{load-reports}
+use Rattle.acx.specs.Call.{Loaded}
+use Rattle.acx.specs.Demand2.{total}
+use Rattle.acx.specs.Rules.{Accepts}
+use Rattle.answer.proofs.Checks.{and-true}
+use Rattle.answer.specs.Checks.{pick}
 use Rattle.answer.specs.declared.Outcome.{Outcome}
-use Rattle.answer.specs.declared.Outcome.the-variants.{Accepted, Refused}
+use Rattle.answer.specs.declared.Outcome.the-variants.{Accepted}
+use Rattle.answer.specs.declared.Start.{Start}
 use Rattle.events.specs.Events.{blank}
-use Rattle.pieces.specs.Pieces.{Piece}
+use Rattle.pieces.specs.Pieces.{Piece, size}
 use Rattle.pieces.specs.declared.Bases.{Bases}
 use Rattle.words.specs.Runs.{Bytes}
 use Rattle.moves.proofs.Demand3.{demand3}
-use Rattle.moves.proofs.Rulings.{allows-is, accepted-allows, ruling-allows, memory-moved, report-is}
+use Rattle.moves.proofs.Rulings.{same-at, Allowed, accepted-allowed, memory-moved, report-is}
 use Rattle.moves.proofs.Transfers.{stays}
-use Rattle.moves.specs.Call.{Call, piecesOf, Ruling, allows, refuses, sides, beforehand, rulingOf, sized, ruling, outcomeBy, memoryBy, mapBy, outcomeOf, memoryAfter, mapAfter, scratchAfter, Moved}
-use Rattle.moves.specs.Demand3.{afterCalls, reached, ifAllowed, last, Linked, Chained, Report, Memory, Demand3}
-use Rattle.moves.specs.Outcomes.{AcceptedClaim, RefusedMove, RefusedClaim}
-
--- ---- accepted
+use Rattle.moves.specs.Call.{Call, piecesOf, sized, ruling, outcomeOf, memoryAfter, scratchAfter, Moved}
+use Rattle.moves.specs.Demand3.{Report, Made, ifAccepted, last, onto, Linked, Chained, Run, none, next, Memory, AcceptedAt, Demand3, reportOf, Defined}
+use Rattle.moves.specs.Outcomes.{AcceptedMove, Claim}
 
 module _ (file : List ℕ) (c : Call) (m : List ℕ) where
-  -- the call as a list of one
-  only : Bytes file → Memory m → (ps : List Piece) → ruling file c m ≡ allows ps
-      → Demand3 file (c .form) ps (c .old) (c .new) (c ∷ []) m (memoryAfter file c m)
-  unfolding afterCalls reached
-  only b y ps e =
-      let x = ruling-allows file c m ps e in
-      let z : last (c .old) (ifAllowed (ruling file c m) (c .new) []) ≡ c .new = ap (λ (v : Ruling). last (c .old) (ifAllowed v (c .new) [])) e in
-      let chain : Chained file (c .form) (c .old) (c ∷ []) m = (subst (λ (v : Ruling). Linked v (c .form) (c .old) c) (sym e) (refl, refl), tt) in
-      subst (λ (t : Bases). Demand3 file (c .form) ps (c .old) t (c ∷ []) m (memoryAfter file c m)) z
-      (demand3 file b (c .form) ps (c .old) (x .old) (c ∷ []) m y chain)
+  -- the memory of a call whose lengths are right
+  memory-sized : sized c m ≡ true → length m ≡ 65536
+  memory-sized e =
+      let x = and-true (eqb (length m) 65536 && eqb (length (c .map)) 65536 && eqb (length (c .scratch)) 65536) (c .answerSized) e in
+      let y = and-true (eqb (length m) 65536 && eqb (length (c .map)) 65536) (eqb (length (c .scratch)) 65536) (x .0) in
+      eqb-true _ _ (and-true (eqb (length m) 65536) (eqb (length (c .map)) 65536) (y .0) .0)
 
--- what document 01 says of a call that is accepted
-pub call-accepted : AcceptedClaim
-unfolding outcomeOf scratchAfter pick
-call-accepted file c m r m′ p′ s′ w b y start placed adjusted names low e =
-    let ps = piecesOf (ruling file c m) in
-    let is = allows-is (ruling file c m) (accepted-allows (load (c .form) (c .new) file) (ruling file c m) (sym (w .outcome) ∙ e)) in
-    let x = ruling-allows file c m ps is in
-    let d = only file c m b y ps is in
-    let report-here = report-is file c m ps x in
-    record {
-      pieces = ps;
-      at-old = x .old;
-      at-new = x .new;
-      plain = rw (w .memory) (d .plain);
-      fields = rw (w .memory) (d .fields);
-      kept = λ a h. ap (λ (t : List ℕ). getD t a 0) (w .memory ∙ memory-moved file c m ps x)
-          ∙ stays file (c .form) ps (c .old) (c .new) (x .old) (x .new) m (y .0) a h;
-      as-load = λ k q t k′ q′ f.
-          let g = loaded-right refl f in (
-            w .outcome ∙ ap (λ (z : Report). z .outcome) report-here ∙ sym (g .0),
-            w .map ∙ ap (λ (z : Report). z .map) report-here ∙ sym (g .2),
-          );
-      scratch = w .scratch ∙ ap (λ (t : Bool). pick t blank (c .scratch)) (x .buffers);
-    }
+  -- the call, as it was made
+  abbrev made : Made
+  made = record { call = c; report = reportOf file c m }
 
--- ---- refused
+  module _ (ps : List Piece) (x : Allowed file c m ps) where
+    -- what a call reports that may move the pieces
+    pub reports-accepted : outcomeOf file c m ≡ Accepted (x .new .0) (total size ps) (total (λ p. length (p .fields)) ps) 0 0
+    reports-accepted =
+        ap (λ (t : Report). t .outcome) (report-is file c m ps x) ∙ load-reports (c .form) (c .new) file ps (x .new .0) (x .new .1)
 
-abbrev offsetIn : Outcome → ℕ
-offsetIn (Accepted start placed adjusted names low) = 0
-offsetIn (Refused fault offset side) = offset
+    -- demand 3 of it, as a list of one
+    alone : Bytes file → Memory m → Demand3 (Defined file) file (c .form) ps (c .old) (c .new) (made ∷ []) m (memoryAfter file c m)
+    alone b y =
+        let e = reports-accepted in
+        let z : last (c .old) (ifAccepted (outcomeOf file c m) (c .new) []) ≡ c .new =
+        ap (λ (o : Outcome). last (c .old) (ifAccepted o (c .new) [])) e in
+        let chain : Chained (c .form) (c .old) (made ∷ []) = (subst (λ (o : Outcome). Linked o (c .form) (c .old) c) (sym e) (refl, refl), tt) in
+        let run : Run (Defined file) (made ∷ []) m (memoryAfter file c m) = next (record { report = refl; memory = refl }) none in
+        subst (λ (t : Bases). Demand3 (Defined file) file (c .form) ps (c .old) t (made ∷ []) m (memoryAfter file c m)) z
+        (demand3 file b (c .form) ps (c .old) (x .old) (made ∷ []) m (memoryAfter file c m) run y chain)
 
-abbrev sideIn : Outcome → ℕ
-sideIn (Accepted start placed adjusted names low) = 0
-sideIn (Refused fault offset side) = side
-
-module _ (file : List ℕ) (c : Call) (m : List ℕ) (r : Outcome) (m′ p′ s′ : List ℕ) (w : Moved file c m r m′ p′ s′) (fault : Fault)
-    (offset side : ℕ) (e : r ≡ Refused fault offset side) where
-  -- a ruling that refuses is the call's own
-  same : (f : Fault) (a n : ℕ) → ruling file c m ≡ refuses f a n → Refused fault offset side ≡ Refused f a n
-  unfolding outcomeOf
-  same f a n er = sym e ∙ w .outcome ∙ ap (outcomeBy (load (c .form) (c .new) file)) er
-
-  -- a length is wrong
-  refused-wrong : sized c m ≡ false → RefusedMove file c fault offset side m m′ p′ s′
-  unfolding ruling need memoryAfter mapAfter scratchAfter pick
-  refused-wrong h =
-      let o = load (c .form) (c .new) file in
-      let er : ruling file c m ≡ refuses WrongBuffer 0 0 =
-      ap (λ (t : Bool). need beforehand t WrongBuffer (rulingOf (c .form) (c .old) (c .new) file)) h in
-      let is = same WrongBuffer 0 0 er in
-      let es : side ≡ 0 = ap sideIn is in
+module _ (file : List ℕ) (c : Call) (m : List ℕ) (r : Outcome) (m′ p′ s′ : List ℕ) (w : Moved file c m r m′ p′ s′) where
+  -- what document 01 says of a call that is accepted
+  leaves : Bytes file → Bytes m → (start : Start) (placed adjusted names low : ℕ) → r ≡ Accepted start placed adjusted names low
+      → AcceptedMove file c m r m′ p′ s′
+  unfolding scratchAfter pick
+  leaves b y start placed adjusted names low e =
+      let ps = piecesOf (ruling file c m) in
+      let x = accepted-allowed file c m (sym (w .outcome) ∙ e) in
+      let n = memory-sized file c m (x .buffers) in
+      let d = alone file c m ps x b (n, y) in
+      let report-here = report-is file c m ps x in
       record {
-        memory = w .memory ∙ ap (λ (v : Ruling). memoryBy (c .old) (c .new) v m) er;
-        wrong-buffer = λ k. (
-          w .map ∙ ap (λ (t : Bool). pick t (mapBy o (ruling file c m)) (c .map)) h,
-          w .scratch ∙ ap (λ (t : Bool). pick t blank (c .scratch)) h,
-        );
-        other = λ n. absurd (n (ap faultIn is));
-        at-old = λ n s. absurd (n (ap faultIn is));
-        at-new = λ s. absurd (omega (arith, es, s));
-        either = omega (arith, es);
+        lengths = x .buffers;
+        pieces = ps;
+        at-old = x .old;
+        at-new = x .new;
+        plain = rw (w .memory) (d .plain);
+        fields = rw (w .memory) (d .fields);
+        kept = λ a h. ap (λ (t : List ℕ). getD t a 0) (w .memory ∙ memory-moved file c m ps x)
+            ∙ stays file (c .form) ps (c .old) (c .new) (x .old) (x .new) m n a h;
+        as-load = λ k q t k′ q′ f.
+            let g = loaded-right refl f in (
+              w .outcome ∙ ap (λ (z : Report). z .outcome) report-here ∙ sym (g .0),
+              w .map ∙ ap (λ (z : Report). z .map) report-here ∙ sym (g .2),
+            );
+        scratch = w .scratch ∙ ap (λ (t : Bool). pick t blank (c .scratch)) (x .buffers);
       }
 
-  module _ (h : sized c m ≡ true) where
-    -- a load is refused, at its side
-    refused-by : (f : Fault) (a n : ℕ) → ruling file c m ≡ refuses f a n → ¬ (f ≡ WrongBuffer)
-        → (n ≡ 0 → load (c .form) (c .old) file .answer ≡ refused f a)
-        → (n ≡ 1 → load (c .form) (c .new) file .answer ≡ refused f a)
-        → n ≤ 1
-        → RefusedMove file c fault offset side m m′ p′ s′
-    unfolding memoryAfter mapAfter scratchAfter pick
-    refused-by f a n er late old new le =
-        let o = load (c .form) (c .new) file in
-        let is = same f a n er in
-        let ef : fault ≡ f = ap faultIn is in
-        let ea : offset ≡ a = ap offsetIn is in
-        let en : side ≡ n = ap sideIn is in
-        let reported : refused f a ≡ refused fault offset = sym (ap (λ (k : Fault). refused k offset) ef ∙ ap (refused f) ea) in
-        record {
-          memory = w .memory ∙ ap (λ (v : Ruling). memoryBy (c .old) (c .new) v m) er;
-          wrong-buffer = λ k. absurd (late (sym ef ∙ k));
-          other = λ k. (
-            w .map ∙ ap (λ (t : Bool). pick t (mapBy o (ruling file c m)) (c .map)) h ∙ ap (mapBy o) er,
-            w .scratch ∙ ap (λ (t : Bool). pick t blank (c .scratch)) h,
-          );
-          at-old = λ k s. old (sym en ∙ s) ∙ reported;
-          at-new = λ s. new (sym en ∙ s) ∙ reported;
-          either = omega (arith, en, le);
-        }
+  -- it is accepted where both loads are
+  accepts : sized c m ≡ true → (ps qs : List Piece) (start start′ : Start) → Accepts (c .form) (c .old) file ps start
+      → Accepts (c .form) (c .new) file qs start′
+      → r ≡ Accepted start′ (total size qs) (total (λ p. length (p .fields)) qs) 0 0
+  accepts z ps qs start start′ h k =
+      let e : ps ≡ qs = same-at file (c .form) ps qs (c .old) (c .new) (start, h) (start′, k) in
+      let old : AcceptedAt file (c .form) qs (c .old) = subst (λ (ts : List Piece). AcceptedAt file (c .form) ts (c .old)) e (start, h) in
+      w .outcome ∙ reports-accepted file c m qs (record { buffers = z; old = old; new = (start′, k) })
 
-    -- the ruling by the two loads
-    ruled : (u v : Verdict) → load (c .form) (c .old) file .answer ≡ u → load (c .form) (c .new) file .answer ≡ v → ruling file c m ≡ sides u v
-    unfolding ruling need
-    ruled u v eu ev =
-        ap (λ (t : Bool). need beforehand t WrongBuffer (rulingOf (c .form) (c .old) (c .new) file)) h
-        ∙ ap (λ (x : Verdict). sides x (load (c .form) (c .new) file .answer)) eu
-        ∙ ap (sides u) ev
-
-    -- what a load is refused with
-    late-at : (b : Bases) (f : Fault) (a : ℕ) → load (c .form) b file .answer ≡ refused f a → ¬ (f ≡ WrongBuffer)
-    late-at b f a k = load-late (c .form) b file f a 0 (ap (λ (v : Verdict). report v (load (c .form) b file .events)) k)
-
-    refused-right : (u v : Verdict) → load (c .form) (c .old) file .answer ≡ u → load (c .form) (c .new) file .answer ≡ v
-        → RefusedMove file c fault offset side m m′ p′ s′
-    unfolding outcomeOf
-    refused-right (refused f a) v eu ev =
-        refused-by f a 0 (ruled (refused f a) v eu ev) (late-at (c .old) f a eu) (λ n. eu) (λ n. absurd (omega (arith, n))) (omega arith)
-    refused-right (accepted ps start) (refused f a) eu ev =
-        refused-by f a 1 (ruled (accepted ps start) (refused f a) eu ev) (late-at (c .new) f a ev) (λ n. absurd (omega (arith, n))) (λ n. ev)
-        (omega arith)
-    refused-right (accepted ps start) (accepted qs start′) eu ev =
-        let o = load (c .form) (c .new) file in
-        absurd
-        (false≢true
-        (sym (ap isRefused
-        (sym e ∙ w .outcome ∙ ap (outcomeBy o) (ruled (accepted ps start) (accepted qs start′) eu ev)
-        ∙ ap (λ (v : Verdict). report v (o .events)) ev))))
-
--- what document 01 says of a call that is refused
-pub call-refused : RefusedClaim
-call-refused file c m r m′ p′ s′ w fault offset side e = by (sized c m) refl
-  where
-    by : (t : Bool) → sized c m ≡ t → RefusedMove file c fault offset side m m′ p′ s′
-    by true h = refused-right file c m r m′ p′ s′ w fault offset side e h _ _ refl refl
-    by false h = refused-wrong file c m r m′ p′ s′ w fault offset side e h
+-- "refused exactly if a load at the old bases, then one at the new, would be": else accepted, and what document 01 says is left
+pub call-exactly : Claim
+call-exactly file c m r m′ p′ s′ w b y =
+    record { only = leaves file c m r m′ p′ s′ w b y; all = accepts file c m r m′ p′ s′ w }

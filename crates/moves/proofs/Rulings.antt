@@ -7,8 +7,9 @@ use Prim.Native.Nat.{ℕ, _≤_}
 use native.Mathlib.Omega.{arith}
 use borrow.Author.Tests.{eq-eqb}
 use lib.ListN.{length}
-use Rattle.acx.proofs.Calling.{range-bounds, Follows, load-follows}
+use Rattle.acx.proofs.Calling.{range-bounds}
 use Rattle.acx.proofs.Demand2.{well-placed-of}
+use Rattle.acx.proofs.Rules.{load-judged, by-rules}
 use Rattle.acx.proofs.WellPlaced.{fits-memory, placed-well}
 use Rattle.pieces.proofs.Loads.{laid, play-laid}
 use Rattle.acx.proofs.Same.{Bare, bare, same-pieces}
@@ -19,8 +20,9 @@ use Rattle.acx.specs.Walk.{Verdict, accepted, refused, judged, report as outcom
 use Rattle.pieces.specs.declared.Bases.{Bases}
 use Rattle.answer.proofs.Outcomes.{isRefused}
 use Rattle.answer.specs.Checks.{need, pick}
+use Rattle.answer.specs.declared.Fault.{Fault}
 use Rattle.answer.specs.declared.Fault.the-variants.{WrongBuffer}
-use Rattle.answer.specs.declared.Outcome.the-variants.{Accepted}
+use Rattle.answer.specs.declared.Outcome.the-variants.{Accepted, Refused}
 use Rattle.answer.specs.declared.Start.{Start}
 use Rattle.events.proofs.Lists.{each-map}
 use Rattle.events.specs.Events.{Event, play, blank, Ran}
@@ -28,29 +30,32 @@ use Rattle.events.specs.Lists.{Each}
 use Rattle.words.proofs.Runs.{bytes-part}
 use Rattle.words.specs.Runs.{Bytes}
 use Rattle.moves.specs.Call.{Call, Ruling, allows, refuses, sides, rulingOf, sized, beforehand, ruling, Allows, piecesOf, outcomeBy, mapBy, memoryBy, outcomeOf, memoryAfter, mapAfter}
-use Rattle.moves.specs.Demand3.{Report, report, AcceptedAt, loadInto, OneMove}
+use Rattle.moves.specs.Demand3.{Report, reportOf, AcceptedAt, loadInto, OneMove}
 use Rattle.moves.specs.Move.{moved}
 
 -- ---- a load that accepts
 
 module _ (file : List ℕ) (form : ℕ) (ps : List Piece) (b : Bases) (h : AcceptedAt file form ps b) where
-  -- the file follows the rules
-  pub follows : Follows form b file
-  follows = load-follows form b file ps (h .0) (h .1)
+  -- the load's definition accepts
+  pub load-at : load form b file .answer ≡ accepted ps (h .0)
+  load-at = by-rules form b file .accepts ps (h .0) (h .1)
 
-  -- and its records come to what the load comes to
+  -- by its records
+  judged-at : load form b file ≡ judged (formOf form) file b
+  judged-at = load-judged form b file (h .1 .settings) (h .1 .fits)
+
   pub verdict : judged (formOf form) file b .answer ≡ accepted ps (h .0)
-  verdict = ap (λ (o : Ran Verdict). o .answer) (sym (follows .by-rules)) ∙ h .1
+  verdict = ap (λ (o : Ran Verdict). o .answer) (sym judged-at) ∙ load-at
 
   -- both bases are addresses
   in-range : (b .main ≤ 65535) × (b .zero ≤ 65535)
   in-range =
-      let k = range-bounds form b (follows .range) in
+      let k = range-bounds form b (h .1 .settings) in
       (k .0, omega (arith, k .1))
 
   -- its outcome is no refusal
   pub reported-accepted : isRefused (reported (load form b file) .answer) ≡ false
-  reported-accepted = ap (λ (v : Verdict). isRefused (outcomeReported v (load form b file .events))) (h .1)
+  reported-accepted = ap (λ (v : Verdict). isRefused (outcomeReported v (load form b file .events))) load-at
 
   -- its pieces make a handler
   pub well-placed-at : WellPlaced file b ps
@@ -66,12 +71,12 @@ module _ (file : List ℕ) (form : ℕ) (ps : List Piece) (b : Bases) (h : Accep
 
   -- its events are those of the pieces
   pub events-at : load form b file .events ≡ events b ps
-  events-at = ap (λ (o : Ran Verdict). o .events) (follows .by-rules) ∙ placed-well file b (formOf form) ps (h .0) verdict .events
+  events-at = ap (λ (o : Ran Verdict). o .events) judged-at ∙ placed-well file b (formOf form) ps (h .0) verdict .events
 
   -- it leaves the pieces in memory
   pub load-laid : (r : List ℕ) → length r ≡ 65536 → loadInto file form b r ≡ laid b ps r
   load-laid r n =
-      ap (λ (v : Verdict). playedBy v (load form b file .events) r) (h .1)
+      ap (λ (v : Verdict). playedBy v (load form b file .events) r) load-at
       ∙ ap (λ (t : List Event). play t r) events-at
       ∙ play-laid b ps r (fits-memory b (length r) ps n (well-placed-at .fits)) (well-placed-at .inside)
 
@@ -99,9 +104,9 @@ pub both : (form : ℕ) (old new : Bases) (file : List ℕ) (ps : List Piece) �
     → AcceptedAt file form ps old × AcceptedAt file form ps new
 both form old new file ps e =
     let x = sides-both (load form old file .answer) (load form new file .answer) ps e in
-    let h : AcceptedAt file form (x .0 .0) old = (x .0 .1, x .0 .2) in
-    let s : x .0 .0 ≡ ps = same-at file form (x .0 .0) ps old new h (x .1) in
-    (subst (λ (qs : List Piece). AcceptedAt file form qs old) s h, x .1)
+    let h : AcceptedAt file form (x .0 .0) old = (x .0 .1, by-rules form old file .accepts-only (x .0 .0) (x .0 .1) (x .0 .2)) in
+    let k : AcceptedAt file form ps new = (x .1 .0, by-rules form new file .accepts-only ps (x .1 .0) (x .1 .1)) in
+    (subst (λ (qs : List Piece). AcceptedAt file form qs old) (same-at file form (x .0 .0) ps old new h k) h, k)
 
 -- and all four bases are addresses
 pub ranges : (form : ℕ) (old new : Bases) (file : List ℕ) → Allows (rulingOf form old new file)
@@ -153,8 +158,8 @@ pub allows-ruling : (file : List ℕ) (c : Call) (m : List ℕ) (ps : List Piece
 unfolding ruling need
 allows-ruling file c m ps x =
     ap (λ (t : Bool). need beforehand t WrongBuffer (rulingOf (c .form) (c .old) (c .new) file)) (x .buffers)
-    ∙ ap (λ (v : Verdict). sides v (load (c .form) (c .new) file .answer)) (x .old .1)
-    ∙ ap (λ (v : Verdict). sides (accepted ps (x .old .0)) v) (x .new .1)
+    ∙ ap (λ (v : Verdict). sides v (load (c .form) (c .new) file .answer)) (load-at file (c .form) ps (c .old) (x .old))
+    ∙ ap (λ (v : Verdict). sides (accepted ps (x .old .0)) v) (load-at file (c .form) ps (c .new) (x .new))
 
 -- the one move of a handler that is accepted at both bases
 pub one-allowed : (file : List ℕ) (form : ℕ) (ps : List Piece) (a z : Bases) (m : List ℕ) → length m ≡ 65536 → AcceptedAt file form ps a
@@ -179,6 +184,22 @@ module _ (file : List ℕ) (c : Call) (m : List ℕ) (ps : List Piece) (x : Allo
   memory-moved = ap (λ (r : Ruling). memoryBy (c .old) (c .new) r m) (allows-ruling file c m ps x)
 
   -- the report of a load at the new bases
-  pub report-is : report file c m ≡ reportAt file (c .form) (c .new)
+  pub report-is : reportOf file c m ≡ reportAt file (c .form) (c .new)
   unfolding outcomeOf mapAfter pick
   report-is = rw (allows-ruling file c m ps x, x .buffers) refl
+
+-- a call that was accepted may move its pieces
+pub accepted-allowed : (file : List ℕ) (c : Call) (m : List ℕ) {start : Start} {i j k l : ℕ} → outcomeOf file c m ≡ Accepted start i j k l
+    → Allowed file c m (piecesOf (ruling file c m))
+unfolding outcomeOf
+accepted-allowed file c m e =
+    let v = ruling file c m in
+    ruling-allows file c m (piecesOf v) (allows-is v (accepted-allows (load (c .form) (c .new) file) v e))
+
+-- a call that was refused leaves memory, and would leave the map clear
+pub refused-call : (file : List ℕ) (c : Call) (m : List ℕ) {fault : Fault} {at side : ℕ} → outcomeOf file c m ≡ Refused fault at side
+    → (memoryAfter file c m ≡ m) × (mapBy (load (c .form) (c .new) file) (ruling file c m) ≡ blank)
+unfolding outcomeOf memoryAfter
+refused-call file c m e =
+    refused-leaves (load (c .form) (c .new) file) (c .old) (c .new) m (ruling file c m)
+    (λ ps h. reported-accepted file (c .form) ps (c .new) (ruling-allows file c m ps h .new)) (ap isRefused e)

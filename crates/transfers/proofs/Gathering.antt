@@ -39,7 +39,7 @@ use Rattle.records.specs.declared.Record.the-variants.{Code, Fixups, End, Fault
 use Rattle.words.proofs.Lent.{lent-is, back-is}
 use Rattle.words.proofs.Runs.{length-part, length-put, part-put, put-put}
 use Rattle.words.specs.Runs.{part, put}
-use Rattle.moves.proofs.Rulings.{follows, verdict, allows-is, both}
+use Rattle.moves.proofs.Rulings.{verdict, allows-is, both}
 use Rattle.moves.specs.Call.{rulingOf, Allows, piecesOf}
 use Rattle.moves.specs.Move.{shift, carried, transfer}
 use Rattle.transfers.specs.Scratch.{scratchWith, Sound}
@@ -67,7 +67,7 @@ walkable form old new file first e h =
     let v = judged-opens (formOf form) file new ps (x .1 .0) yes-new in
     rw e
     (record {
-      fits = follows file form ps old (x .0) .fits;
+      fits = x .0 .1 .fits;
       opens = opening-fits (formOf form) file (u .0);
       start = x .0 .0;
       start′ = x .1 .0;

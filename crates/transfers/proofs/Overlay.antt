@@ -21,7 +21,7 @@ use Rattle.events.proofs.Lists.{each-zip3}
 use Rattle.events.specs.Events.{Event, marks, blank}
 use Rattle.events.specs.Lists.{Each}
 use Rattle.words.proofs.Runs.{within?, part-agree-at}
-use Rattle.moves.proofs.Rulings.{well-placed-at, events-at, allows-is, both}
+use Rattle.moves.proofs.Rulings.{load-at, well-placed-at, events-at, allows-is, both}
 use Rattle.moves.proofs.Transfers.{length-transfer, transfer-outside, transfer-parts}
 use Rattle.moves.specs.Call.{rulingOf, Allows, piecesOf, mapBy}
 use Rattle.moves.specs.Demand3.{AcceptedAt}
@@ -140,7 +140,7 @@ module _ (form : ℕ) (old new : Bases) (file : List ℕ) (h : Allows (rulingOf 
       let is = allows-is (rulingOf form old new file) h in
       let x = both form old new file ps is .1 in
       e ∙ ap (mapBy (load form new file)) is
-      ∙ ap (λ (v : Verdict). loadedMap v (load form new file .events)) (x .1)
+      ∙ ap (λ (v : Verdict). loadedMap v (load form new file .events)) (load-at file form ps new x)
       ∙ ap (λ (es : List Event). marks es blank) (events-at file form ps new x)
 
   -- it is as long as memory
