@@ -2,12 +2,10 @@
 -- Assumes nothing.
 use mathlib.Core.List.{List}
 use mathlib.Core.Path.{_≡_, refl, sym, ap, _∙_, subst}
-use Prim.Native.Nat.{ℕ, _+_, _*_, _^_, _<_}
-use native.Mathlib.Decide.{decLt}
+use Prim.Native.Nat.{ℕ, _*_, _^_, _<_}
 use native.Mathlib.Omega.{arith}
-use lib.ListN.{length, getD, take}
-use lib.Seq.{take-length}
-use Rattle.words.proofs.Numbers.{length-encoded, decoded-encoded}
+use lib.ListN.{length, getD}
+use Rattle.words.proofs.Numbers.{length-encoded, reads-back}
 use Rattle.words.specs.Numbers.{encoded, decoded}
 use Rattle.answer.specs.Report.{numbersOf, numbersIn, answerLength, answerBytes, Written}
 use Rattle.answer.specs.declared.Outcome.{Outcome}
@@ -21,25 +19,14 @@ pub length-answer : (outcome : Outcome) → length (answerBytes outcome) ≡ ans
 unfolding answerBytes
 length-answer outcome = length-encoded 4 (numbersOf outcome) ∙ ap (λ n. 4 * n) (length-numbers outcome)
 
--- what holds below i and of i holds below i + 1
-pub below-more : (P : ℕ → Type 0) (i : ℕ) → ((j : ℕ) → j < i → P j) → P i → (j : ℕ) → j < i + 1 → P j
-below-more P i h p j lt = by (decLt j i)
-  where
-    by : Dec (j < i) → P j
-    by (yes l) = h j l
-    by (no n) = let e : i ≡ j = omega arith in subst P e p
-
 -- an answer that holds all nine numbers, none of them too large
-pub written : (o : Outcome) (ns answer : List ℕ) → ns ≡ numbersOf o → answer ≡ encoded 4 ns → ((j : ℕ) → j < length ns → getD ns j 0 < 256 ^ 4)
+pub written : (o : Outcome) (ns answer : List ℕ) → ns ≡ numbersOf o → answer ≡ encoded 4 ns → ((j : ℕ) → j < 9 → getD ns j 0 < 256 ^ 4)
     → Written o answer
 unfolding answerBytes
 written o ns answer en ea f =
     let nine : length ns ≡ 9 = ap length en ∙ length-numbers o in
     record {
       bytes = ea ∙ ap (encoded 4) en;
-      reads-back = ap (decoded 4 9) ea
-          ∙ decoded-encoded 4 ns f 9 (omega arith)
-          ∙ ap (λ (n : ℕ). take n ns) (sym nine)
-          ∙ take-length ns
-          ∙ en;
+      reads-back = ap (λ (n : ℕ). decoded 4 n answer) (sym nine) ∙ reads-back 4 ns answer ea (λ j h. f j (omega arith)) ∙ en;
+      below = λ j h. subst (λ (l : List ℕ). getD l j 0 < 256 ^ 4) en (f j h);
     }

@@ -2,7 +2,7 @@
 -- Assumes nothing.
 use mathlib.Core.List.{List, [], _∷_}
 use mathlib.Core.Path.{_≡_}
-use Prim.Native.Nat.{ℕ}
+use Prim.Native.Nat.{ℕ, _^_, _<_}
 use lib.ListN.{getD}
 use Rattle.words.specs.Numbers.{encoded, decoded}
 use Rattle.answer.specs.declared.Fault.{Fault}
@@ -52,6 +52,11 @@ numbersOf (Accepted start placed adjusted names low) =
     0 ∷ 0 ∷ 0 ∷ present start ∷ address start ∷ placed ∷ adjusted ∷ names ∷ low ∷ []
 numbersOf (Refused fault offset side) = numberOf fault ∷ offset ∷ side ∷ 0 ∷ 0 ∷ 0 ∷ 0 ∷ 0 ∷ 0 ∷ []
 
+-- the call was accepted
+abbrev pub IsAccepted : Outcome → Type 0
+IsAccepted (Accepted start placed adjusted names low) = Unit {0}
+IsAccepted (Refused fault offset side) = ⊥
+
 -- the counts of an outcome, "an absent number is zero"
 abbrev pub placedOf : Outcome → ℕ
 placedOf (Accepted start placed adjusted names low) = placed
@@ -77,8 +82,9 @@ answerBytes outcome = encoded 4 (numbersOf outcome)
 abbrev pub numbersIn : List ℕ → List ℕ
 numbersIn answer = decoded 4 9 answer
 
--- What an answer is that was written for an outcome: its bytes are the outcome's, and they read back as its numbers, so that none was too large
--- for its four bytes.
+-- What an answer is that was written for an outcome: its bytes are the outcome's.
 pub record Written (outcome : Outcome) (answer : List ℕ) : Type 0 where
   pub bytes : answer ≡ answerBytes outcome
+  -- they read back as its numbers, each of which has room in four bytes
   pub reads-back : numbersIn answer ≡ numbersOf outcome
+  pub below : (i : ℕ) → i < 9 → getD (numbersOf outcome) i 0 < 256 ^ 4

@@ -19,9 +19,9 @@ use Rattle.events.specs.Events.{Ran}
 use Rattle.passes.specs.Buffers.{Buffers}
 use Rattle.passes.specs.Walk.{Inputs, inputs, Verdict, finished, refused}
 use Rattle.sdx.specs.Call.{sized, call, report, addressesAfter, Loaded}
-use Rattle.words.proofs.Numbers.{length-decoded}
+use Rattle.words.proofs.Numbers.{length-encoded, length-decoded}
 use Rattle.words.proofs.Runs.{front-holds}
-use Rattle.words.specs.Numbers.{encoded}
+use Rattle.words.specs.Numbers.{encoded, decoded}
 use Rattle.words.specs.Runs.{part, put}
 use Rattle.answer.proofs.Checks.{and-false}
 use Rattle.pairs.specs.Pairs.{paired, addressesIn, asWords, withAddresses, inWords, bothPaired, pairsAfter, Loads}
@@ -68,7 +68,6 @@ module _ {file : List ℕ} {g : Inputs} {b : Buffers} {o : Outcome} (e : o ≡ R
   loads-wrong answered h =
       rw e
       (record {
-        new = addressesIn (b .addresses);
         loaded = rw h
             (record {
               outcome = refl;
@@ -122,11 +121,11 @@ module _ (file : List ℕ) (g : Inputs) (b b′ : Buffers) (o : Outcome) (known 
   abbrev ran : Ran Verdict
   ran = call file (asWords g) (sized (asWords g) (withAddresses b newWords))
 
-  loads : (w : List ℕ) → w ≡ addressesAfter (ran .answer) (addressesIn (b .addresses)) → b′ .addresses ≡ pairsAfter o w (b .addresses)
+  loads : addressesIn (b′ .addresses) ≡ addressesAfter (ran .answer) (addressesIn (b .addresses))
+      → b′ .addresses ≡ pairsAfter o (addressesIn (b′ .addresses)) (b .addresses)
       → Loads file g true b o b′
-  loads w e f =
+  loads e f =
       record {
-        new = w;
         loaded = rw (same-lengths g b even n)
             (record {
               outcome = d .outcome;
@@ -140,17 +139,23 @@ module _ (file : List ℕ) (g : Inputs) (b b′ : Buffers) (o : Outcome) (known 
         addresses = f;
       }
 
-  -- an acceptance puts the new addresses into pairs
+  -- an acceptance puts the new addresses into pairs, in which they are read
   pub loads-accepted : (start : Start) (i j k l : ℕ) → o ≡ Accepted start i j k l → b′ .addresses ≡ encoded 2 new
+      → decoded 2 (length new) (b′ .addresses) ≡ new
       → Loads file g true b o b′
-  loads-accepted start i j k l e f = by (ran .answer) refl
+  loads-accepted start i j k l e f back = by (ran .answer) refl
     where
+      words-in : addressesIn (b′ .addresses) ≡ new
+      words-in =
+          let half : length (b′ .addresses) / 2 ≡ length new = omega (arith, ap length f, length-encoded 2 new) in
+          ap (λ (c : ℕ). decoded 2 c (b′ .addresses)) half ∙ back
+
       by : (v : Verdict) → ran .answer ≡ v → Loads file g true b o b′
       by (finished z) h =
-          loads new
-          (d .addresses ∙ ap (λ (v : Verdict). addressesAfter v newWords) h
+          loads
+          (words-in ∙ d .addresses ∙ ap (λ (v : Verdict). addressesAfter v newWords) h
           ∙ sym (ap (λ (v : Verdict). addressesAfter v (addressesIn (b .addresses))) h))
-          (rw e f)
+          (rw (e, words-in) f)
       by (refused fault z) h =
           absurd (false≢true (ap isRefused (sym e ∙ d .outcome ∙ ap (λ (v : Verdict). report (b .memory) v (ran .events)) h)))
 
@@ -163,4 +168,4 @@ module _ (file : List ℕ) (g : Inputs) (b b′ : Buffers) (o : Outcome) (known 
       by (finished z) h =
           absurd (false≢true (sym (ap isRefused (sym e ∙ d .outcome ∙ ap (λ (v : Verdict). report (b .memory) v (ran .events)) h))))
       by (refused k z) h =
-          loads (addressesIn (b .addresses)) (sym (ap (λ (v : Verdict). addressesAfter v (addressesIn (b .addresses))) h)) (rw e f)
+          loads (ap addressesIn f ∙ sym (ap (λ (v : Verdict). addressesAfter v (addressesIn (b .addresses))) h)) (rw e f)

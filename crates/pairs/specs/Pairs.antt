@@ -38,14 +38,13 @@ inWords b = withAddresses b (addressesIn (b .addresses))
 abbrev pub bothPaired : Inputs → Buffers → Bool
 bothPaired g b = paired (g .addresses) && paired (b .addresses)
 
--- the buffer for new addresses after a load that left these words: pairs on an acceptance, and "as they were" on a refusal
+-- the buffer for new addresses after a load over words that left these: pairs on an acceptance, and "as they were" on a refusal
 abbrev pub pairsAfter : Outcome → List ℕ → List ℕ → List ℕ
 pairsAfter (Accepted start placed adjusted named low) new bytes = encoded 2 new
 pairsAfter (Refused fault offset side) new bytes = bytes
 
--- What a load over pairs does: it found the buffers b, comes to the outcome o, and leaves b′, as the loader does over the words. `right` says
--- whether all else that is lent has its length (the answer, in a call from C).
+-- What a load over pairs does: it found the buffers b, comes to the outcome o, and leaves b′, as the loader does over the words in them. `right`
+-- says whether all else that is lent has its length (the answer, in a call from C).
 pub record Loads (file : List ℕ) (g : Inputs) (right : Bool) (b : Buffers) (o : Outcome) (b′ : Buffers) : Type 0 where
-  pub new : List ℕ
-  pub loaded : Loaded file (asWords g) ((right && bothPaired g b) && sized (asWords g) (inWords b)) (inWords b) o (withAddresses b′ new)
-  pub addresses : b′ .addresses ≡ pairsAfter o new (b .addresses)
+  pub loaded : Loaded file (asWords g) ((right && bothPaired g b) && sized (asWords g) (inWords b)) (inWords b) o (inWords b′)
+  pub addresses : b′ .addresses ≡ pairsAfter o (addressesIn (b′ .addresses)) (b .addresses)

@@ -8,7 +8,7 @@ use native.Mathlib.Nat.{mod-lt, mod-eq-of-lt, mod-mod, mod-add-mod, add-mod-mod,
 use native.Mathlib.Numerals.{add-one}
 use native.Mathlib.Omega.{arith}
 use lib.ListN.{length, getD, take, drop, drop-of-length-le, length-append, List·getD-eq-default}
-use lib.Seq.{drop-cons, take-nil, take-at, take-suc, drop-append-add}
+use lib.Seq.{drop-cons, take-nil, take-at, take-suc, take-length, drop-append-add}
 use Rattle.words.specs.Numbers.{number, digits, value, on, off, encoded, decoded}
 use Rattle.words.specs.Runs.{Bytes, part}
 
@@ -147,7 +147,7 @@ value-encoded k (v ∷ vs) (suc n) h f =
     ∙ value-encoded k vs n (le-of-suc-le-suc h) f
 
 -- the first n of some that all have
-pub decoded-encoded : (k : ℕ) (vs : List ℕ) → ((j : ℕ) → j < length vs → getD vs j 0 < 256 ^ k) → (n : ℕ) → n ≤ length vs
+decoded-encoded : (k : ℕ) (vs : List ℕ) → ((j : ℕ) → j < length vs → getD vs j 0 < 256 ^ k) → (n : ℕ) → n ≤ length vs
     → decoded k n (encoded k vs) ≡ take n vs
 unfolding decoded
 decoded-encoded k vs f zero h = refl
@@ -155,3 +155,7 @@ decoded-encoded k vs f (suc n) h =
     ap (λ (l : List ℕ). l ++ (value k (encoded k vs) (k * n) ∷ [])) (decoded-encoded k vs f n (omega arith))
     ∙ ap (λ (v : ℕ). take n vs ++ (v ∷ [])) (value-encoded k vs n h (f n h))
     ∙ sym (take-suc vs n 0 h)
+
+-- and all of them
+pub reads-back : (k : ℕ) (vs l : List ℕ) → l ≡ encoded k vs → ((j : ℕ) → j < length vs → getD vs j 0 < 256 ^ k) → decoded k (length vs) l ≡ vs
+reads-back k vs l e f = ap (decoded k (length vs)) e ∙ decoded-encoded k vs f (length vs) (omega arith) ∙ take-length vs

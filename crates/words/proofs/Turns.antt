@@ -2,8 +2,9 @@
 -- Assumes nothing.
 use mathlib.Core.Bool.{true, false}
 use mathlib.Core.List.{List, [], _∷_, _++_, append-nil, append-assoc}
-use mathlib.Core.Path.{_≡_, refl, ap, _∙_}
+use mathlib.Core.Path.{_≡_, refl, ap, _∙_, subst}
 use Prim.Native.Nat.{ℕ, zero, suc, _+_, _*_, _≤_, _<_}
+use native.Mathlib.Decide.{decLt}
 use native.Mathlib.Nat.{le-of-suc-le-suc, not-suc-le-zero, mul-suc}
 use native.Mathlib.Numerals.{add-one}
 use native.Mathlib.Omega.{arith}
@@ -56,6 +57,16 @@ unfolding contains
 contains-found v l i h e = rw (drop-cons l i 0 h, eq-eqb _ v e)
 
 -- ---- writing numbers of k bytes in a row
+
+-- what holds of all below i and of i holds of all below i + 1
+pub below-more : (P : ℕ → Type 0) (i : ℕ) → ((j : ℕ) → j < i → P j) → P i → (j : ℕ) → j < i + 1 → P j
+below-more P i h p j lt = by (decLt j i)
+  where
+    by : Dec (j < i) → P j
+    by (yes l) = h j l
+    by (no n) =
+        let e : i ≡ j = omega arith in
+        subst P e p
 
 encoded-snoc : (k : ℕ) (vs : List ℕ) (v : ℕ) → encoded k (vs ++ (v ∷ [])) ≡ encoded k vs ++ digits k v
 unfolding encoded

@@ -52,10 +52,10 @@ pub fn contains(bytes: &[u8], byte: u8) -> bool
     false
 }
 
-// Puts the word into the two bytes at `at`.
+// Puts the word into the two bytes at `at`, in which it has room.
 pub fn put_word(bytes: &mut [u8], at: usize, word: u16)
     requires { ⌜ at + 2 ≤ length (now bytes) ⌝ }
-    ensures { λ _. ⌜ now (bytes .exit) ≡ store 2 (now (bytes .entry)) at word ⌝ }
+    ensures { λ _. ⌜ (now (bytes .exit) ≡ store 2 (now (bytes .entry)) at word) × (word < 256 ^ 2) ⌝ }
 {
     bytes[at] = (word % 256) as u8;
     bytes[at + 1] = (word / 256 % 256) as u8;
@@ -85,10 +85,10 @@ pub fn decode_words(words: &mut [u16], bytes: &[u8])
     }
 }
 
-// Puts all words into a list of byte pairs.
+// Puts all words into a list of byte pairs, from which they read back.
 pub fn encode_words(bytes: &mut [u8], words: &[u16])
     requires { ⌜ length (now bytes) ≡ 2 * length (now words) ⌝ }
-    ensures { λ _. ⌜ now (bytes .exit) ≡ encoded 2 (now (words .entry)) ⌝ }
+    ensures { λ _. ⌜ (now (bytes .exit) ≡ encoded 2 (now (words .entry))) × (decoded 2 (length (now (words .entry))) (now (bytes .exit)) ≡ now (words .entry)) ⌝ }
 {
     let mut i = 0;
     while i < words.len() {

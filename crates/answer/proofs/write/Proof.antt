@@ -7,10 +7,10 @@ use Prim.Native.Nat.{ℕ, _+_, _≤_, _<_, _-_, _*_, _^_}
 use native.Mathlib.Omega.{arith}
 use borrow.Author.Needs.{needs}
 use lib.ListN.{getD, length, take, drop}
-use Rattle.answer.proofs.Lengths.{length-numbers, below-more, written}
+use Rattle.answer.proofs.Lengths.{length-numbers, written}
 use Rattle.answer.proofs.write.Statement.{statement}
 use Rattle.answer.proofs.write.Tie as tie
-use Rattle.words.proofs.Turns.{encode-all, encode-more}
+use Rattle.words.proofs.Turns.{below-more, encode-all, encode-more}
 use Rattle.words.specs.Numbers.{store, encoded}
 
 abbrev Inv-loop : tie.InvT-loop

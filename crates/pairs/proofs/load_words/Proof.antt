@@ -81,7 +81,7 @@ returns-2 c =
     loads-accepted (a .file .now) (inputs (a .known-names .now) (a .known-addresses .now) (a .low) (a .high))
     (buffers (a .memory .now) (a .map .now) (a .new-names .now) (a .new-addresses .now)) _ _ _ _ (s .pre .0) (s .pre .2)
     (known-front (a .known-addresses .now) (k .last .0) _ (k .ensures) (omega (arith, s .pre .1))) (l .load .ensures)
-    _ _ _ _ _ (c .before .before .before .before .before .enum-told .given .1) (c .before .before .encode-words .ensures)
+    _ _ _ _ _ (c .before .before .before .before .before .enum-told .given .1) (c .before .before .encode-words .ensures .0) (c .before .before .encode-words .ensures .1)
 
 pub load-words-spec : {M : Type 1} → statement M
 load-words-spec =

@@ -22,7 +22,7 @@ returns : tie.Need-returns
 unfolding on
 returns c =
     let w = c .before .before .before in
-    read-and-stored 2 (on 2 _) _ _ _ _ _ (w .before .before .word-at .ensures) (w .wrapping-add-u16 .ensures) (c .before .before .put-word .ensures)
+    read-and-stored 2 (on 2 _) _ _ _ _ _ (w .before .before .word-at .ensures) (w .wrapping-add-u16 .ensures) (c .before .before .put-word .ensures .0)
 
 pub add-to-word-spec : {M : Type 1} → statement M
 add-to-word-spec =

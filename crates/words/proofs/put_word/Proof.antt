@@ -29,7 +29,7 @@ same-length c = search needs
 
 returns : tie.Need-returns
 unfolding store digits put
-returns c = rw add-one
+returns c = (rw add-one, omega arith)
 
 pub put-word-spec : {M : Type 1} → statement M
 put-word-spec =

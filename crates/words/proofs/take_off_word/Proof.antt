@@ -25,7 +25,7 @@ returns c =
     let w = c .before .before .before in
     let r = w .wrapping-sub-u16 in
     let less : r .result ≡ off 2 _ _ = off-is 2 _ _ (r .result) (search needs) (r .ensures) in
-    read-and-stored 2 (off 2 _) _ _ _ _ _ (w .before .before .word-at .ensures) less (c .before .before .put-word .ensures)
+    read-and-stored 2 (off 2 _) _ _ _ _ _ (w .before .before .word-at .ensures) less (c .before .before .put-word .ensures .0)
 
 pub take-off-word-spec : {M : Type 1} → statement M
 take-off-word-spec =
