@@ -1,8 +1,8 @@
 -- A call with an answer to write does what the loader or the mover does, and writes the answer; one without does nothing, and is refused with 1.
 -- Assumes nothing.
-use mathlib.Core.Bool.{true, false, _&&_}
+use mathlib.Core.Bool.{true, false, _&&_, false≢true}
 use mathlib.Core.List.{List}
-use mathlib.Core.Path.{_≡_, refl}
+use mathlib.Core.Path.{_≡_, refl, sym, _∙_}
 use Prim.Native.Nat.{ℕ}
 use native.Mathlib.Omega.{arith}
 use borrow.Author.Tests.{eq-eqb, ne-eqb}
@@ -11,7 +11,7 @@ use lib.ListN.{length}
 use Rattle.acx.specs.Call.{sized, call as acxCall, Loaded}
 use Rattle.answer.proofs.Checks.{and-false}
 use Rattle.answer.specs.Checks.{need, pick}
-use Rattle.answer.specs.Report.{numberOf, numberReturned, answerBytes}
+use Rattle.answer.specs.Report.{numberOf, numberReturned, Written}
 use Rattle.answer.specs.declared.Fault.the-variants.{WrongBuffer}
 use Rattle.answer.specs.declared.Outcome.{Outcome}
 use Rattle.answer.specs.declared.Outcome.the-variants.{Refused}
@@ -29,13 +29,13 @@ use Rattle.calls.specs.Sdx.{Called as SdxCalled}
 -- ---- the answer
 
 -- an answer of 36 bytes holds the nine numbers, and the first of them is returned
-pub answers : (o : Outcome) (a : List ℕ) (r : ℕ) (a′ : List ℕ) → length a ≡ 36 → r ≡ numberReturned o → a′ ≡ answerBytes o → Answered o a r a′
-unfolding pick
-answers o a r a′ h er ea = record { returned = er; answer = rw (eq-eqb _ _ h) ea }
+pub answers : (o : Outcome) (a : List ℕ) (r : ℕ) (a′ : List ℕ) → length a ≡ 36 → r ≡ numberReturned o → Written o a′ → Answered o a r a′
+answers o a r a′ h er w =
+    record { returned = er; written = λ z. w; unwritten = λ z. absurd (false≢true (sym z ∙ eq-eqb _ _ h)) }
 
 unanswered : (a : List ℕ) (r : ℕ) → (length a ≡ 36 → ⊥) → r ≡ numberOf WrongBuffer → Answered (Refused WrongBuffer 0 0) a r a
-unfolding pick
-unanswered a r h er = record { returned = er; answer = rw (ne-eqb _ _ h) refl }
+unanswered a r h er =
+    record { returned = er; written = λ z. absurd (false≢true (sym (ne-eqb _ _ h) ∙ z)); unwritten = λ z. (refl, refl) }
 
 -- ---- the ACX loader
 
@@ -65,6 +65,7 @@ module _ {file : List ℕ} {form : ℕ} {old new : Bases} {m p s a : List ℕ} {
       let z : moveSized (callOf form old new p s (answerSized a)) m ≡ false =
       and-false (eqb (length m) 65536 && eqb (length p) 65536 && eqb (length s) 65536) (answerSized a) (ne-eqb _ _ h) in
       record {
+        lent = refl;
         outcome = Refused WrongBuffer 0 0;
         moved = record {
           outcome = rw z refl;
@@ -79,7 +80,7 @@ module _ {file : List ℕ} {form : ℕ} {old new : Bases} {m p s a : List ℕ} {
 
   pub move-answered : {o : Outcome} {m′ p′ s′ a′ : List ℕ} → length a ≡ 36 → Moved file (callOf form old new p s true) m o m′ p′ s′ → Answered o a r a′
       → MoveCalled file (callOf form old new p s (answerSized a)) m a r m′ p′ s′ a′
-  move-answered {o} h d t = record { outcome = o; moved = rw (eq-eqb _ _ h) d; answered = t }
+  move-answered {o} h d t = record { lent = refl; outcome = o; moved = rw (eq-eqb _ _ h) d; answered = t }
 
 -- ---- the SDX loader
 
