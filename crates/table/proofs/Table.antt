@@ -25,4 +25,4 @@ use Rattle.table.specs.Table.{TableHolds}
 
 pub table-holds : TableHolds
 unfolding number value digits store on off change part put allZero contains need pick play marks blank placedIn adjustedIn fieldsOf readCode readItems readFixups readEnd read amountOf edited adjustments events placing adjusting ending applied checked turnRecord recordsFrom walk from opening judged load call carried transfer moved ruling outcomeOf memoryAfter mapAfter scratchAfter same newestOf newest lookUp setting settingToBlock readItem adjustingWord turnItem items readPlain readRoom readRelocatable readUpdate readNames readAddress readNewName readBlock appliedAt turn blocksFrom openingSdx judgedSdx admitting loadSdx callSdx startIn
-table-holds = refl
+table-holds = record { ten = refl; rows = refl }

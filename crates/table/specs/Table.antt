@@ -1,5 +1,5 @@
 -- The bench table of document 01, P1 to P10, about the definitions that the loaders and the mover are proved to keep.
--- A row is a call and all that it gives: its outcome, and every byte of every buffer that it may write. Each holds zeros before the call; only
+-- A row is a call and all that it gives: the nine numbers of its answer, and every byte of every buffer that it may write. Each holds zeros before the call; only
 -- before a move memory is as a load at the old bases left it.
 -- `TableHolds` is the statement, proved in proofs/Table.antt.
 -- Assumes nothing.
@@ -11,10 +11,7 @@ use lib.ListN.{length, take, replicate}
 use Rattle.acx.specs.Call as acx
 use Rattle.acx.specs.Walk.{reported}
 use Rattle.answer.specs.Checks.{pick}
-use Rattle.answer.specs.declared.Fault.the-variants.{CutShort, FieldNotLoaded, AdjustedTwice}
-use Rattle.answer.specs.declared.Outcome.{Outcome}
-use Rattle.answer.specs.declared.Outcome.the-variants.{Accepted, Refused}
-use Rattle.answer.specs.declared.Start.the-variants.{Absent, At}
+use Rattle.answer.specs.Report.{numbersOf}
 use Rattle.events.specs.Events.{blank}
 use Rattle.moves.specs.Call as moves
 use Rattle.passes.specs.Buffers.{Buffers, buffers, newNamesLength, newAddressesLength}
@@ -40,11 +37,10 @@ pub record Region : Type 0 where
   pub from : ℕ
   pub bytes : List ℕ
 
--- a call; its outcome, accepted with start, placed, adjusted, new names and low, or refused with fault, offset and side; and what memory and the
--- map hold after it beside zeros
+-- a call; its nine numbers; and what memory and the map hold after it beside zeros
 pub record Row : Type 0 where
   pub case : Case
-  pub outcome : Outcome
+  pub numbers : List ℕ
   pub memory : List Region
   pub map : List Region
 
@@ -61,6 +57,14 @@ at main = basesAt main 128
 abbrev pub holds : ℕ → List ℕ → Region
 holds from bytes = record { from = from; bytes = bytes }
 
+-- the nine numbers of an acceptance: whether there is a start (1 or 0), its address, placed, adjusted, new names, low
+abbrev pub accepts : ℕ → ℕ → ℕ → ℕ → ℕ → ℕ → List ℕ
+accepts present start placed adjusted names low = 0 ∷ 0 ∷ 0 ∷ present ∷ start ∷ placed ∷ adjusted ∷ names ∷ low ∷ []
+
+-- and of a refusal: its number and its offset
+abbrev pub refuses : ℕ → ℕ → List ℕ
+refuses number offset = number ∷ offset ∷ 0 ∷ 0 ∷ 0 ∷ 0 ∷ 0 ∷ 0 ∷ 0 ∷ []
+
 -- "device file `00 05 00 00 4C 03 00 06 01 01 0B 02 00 00`", or with another fixup record than `06 01 01`
 abbrev pub P1FileWith : List ℕ → List ℕ
 P1FileWith fixups = 0x00 ∷ 0x05 ∷ 0x00 ∷ 0x00 ∷ 0x4C ∷ 0x03 ∷ 0x00 ∷ (fixups ++ (0x0B ∷ 0x02 ∷ 0x00 ∷ 0x00 ∷ []))
@@ -73,7 +77,7 @@ abbrev pub P1 : Row
 P1 =
     record {
       case = loadAcx device P1File (at 8192);
-      outcome = Accepted (At 8192) 3 1 0 0;
+      numbers = accepts 1 8192 3 1 0 0;
       memory = holds 8192 (0x4C ∷ 0x03 ∷ 0x20 ∷ []) ∷ [];
       map = holds 8192 (1 ∷ 3 ∷ 3 ∷ []) ∷ [];
     }
@@ -83,7 +87,7 @@ abbrev pub P2 : Row
 P2 =
     record {
       case = moveAcx device P1File (at 8192) (at 12416);
-      outcome = Accepted (At 12416) 3 1 0 0;
+      numbers = accepts 1 12416 3 1 0 0;
       memory = holds 8192 (0x4C ∷ 0x03 ∷ 0x20 ∷ []) ∷ holds 12416 (0x4C ∷ 0x83 ∷ 0x30 ∷ []) ∷ [];
       map = holds 12416 (1 ∷ 3 ∷ 3 ∷ []) ∷ [];
     }
@@ -97,7 +101,7 @@ abbrev pub P3 : Row
 P3 =
     record {
       case = loadAcx device P3File (at 8192);
-      outcome = Accepted Absent 2 1 0 0;
+      numbers = accepts 0 0 2 1 0 0;
       memory = holds 8192 (0xA2 ∷ 0x20 ∷ []) ∷ [];
       map = holds 8192 (1 ∷ 3 ∷ []) ∷ [];
     }
@@ -107,7 +111,7 @@ abbrev pub P4 : Row
 P4 =
     record {
       case = loadAcx device P3File (at 8208);
-      outcome = Accepted Absent 2 1 0 0;
+      numbers = accepts 0 0 2 1 0 0;
       memory = holds 8208 (0xA2 ∷ 0x21 ∷ []) ∷ [];
       map = holds 8208 (1 ∷ 3 ∷ []) ∷ [];
     }
@@ -117,7 +121,7 @@ abbrev pub P5 : Row
 P5 =
     record {
       case = moveAcx device P3File (at 8208) (at 8192);
-      outcome = Accepted Absent 2 1 0 0;
+      numbers = accepts 0 0 2 1 0 0;
       memory = holds 8208 (0xA2 ∷ 0x21 ∷ []) ∷ holds 8192 (0xA2 ∷ 0x20 ∷ []) ∷ [];
       map = holds 8192 (1 ∷ 3 ∷ []) ∷ [];
     }
@@ -133,41 +137,41 @@ abbrev pub P6 : Row
 P6 =
     record {
       case = loadSdx P6File 7936 39936;
-      outcome = Accepted Absent 3 1 0 7939;
+      numbers = accepts 0 0 3 1 0 7939;
       memory = holds 7936 (0x4C ∷ 0x00 ∷ 0x1F ∷ []) ∷ [];
       map = holds 7936 (1 ∷ 3 ∷ 3 ∷ []) ∷ [];
     }
 
--- "P6 without its last byte: 5 at offset 11." (5 is "cut short")
+-- "P6 without its last byte: 5 at offset 11."
 abbrev pub P7 : Row
 P7 =
     record {
       case = loadSdx (take (length P6File - 1) P6File) 7936 39936;
-      outcome = Refused CutShort 11 0;
+      numbers = refuses 5 11;
       memory = [];
       map = [];
     }
 
 -- "empty SDX file: 5 at offset 0."
 abbrev pub P8 : Row
-P8 = record { case = loadSdx [] 7936 39936; outcome = Refused CutShort 0 0; memory = []; map = [] }
+P8 = record { case = loadSdx [] 7936 39936; numbers = refuses 5 0; memory = []; map = [] }
 
--- "P1's file and bases with the fixup record `06 01 02`: 12 at offset 7." (12 is "field not loaded")
+-- "P1's file and bases with the fixup record `06 01 02`: 12 at offset 7."
 abbrev pub P9 : Row
 P9 =
     record {
       case = loadAcx device (P1FileWith (0x06 ∷ 0x01 ∷ 0x02 ∷ [])) (at 8192);
-      outcome = Refused FieldNotLoaded 7 0;
+      numbers = refuses 12 7;
       memory = [];
       map = [];
     }
 
--- "with `06 02 01 01`: 13 at offset 7." (13 is "byte adjusted twice")
+-- "with `06 02 01 01`: 13 at offset 7."
 abbrev pub P10 : Row
 P10 =
     record {
       case = loadAcx device (P1FileWith (0x06 ∷ 0x02 ∷ 0x01 ∷ 0x01 ∷ [])) (at 8192);
-      outcome = Refused AdjustedTwice 7 0;
+      numbers = refuses 13 7;
       memory = [];
       map = [];
     }
@@ -178,10 +182,10 @@ table = P1 ∷ P2 ∷ P3 ∷ P4 ∷ P5 ∷ P6 ∷ P7 ∷ P8 ∷ P9 ∷ P10 ∷ [
 
 -- ---- what the definitions give: the same terms as in the promises of `sdx::load`, `acx::load` and `mover::move_handler`
 
--- the outcome of a call, and every buffer that it may write, whole: memory, the map, and the others (the new names and their addresses of an SDX
+-- the numbers of a call, and every buffer that it may write, whole: memory, the map, and the others (the new names and their addresses of an SDX
 -- load; the scratch of a move)
 pub record Result : Type 0 where
-  pub outcome : Outcome
+  pub numbers : List ℕ
   pub memory : List ℕ
   pub map : List ℕ
   pub others : List (List ℕ)
@@ -195,7 +199,7 @@ sdxLoaded file low high =
     let g = inputs [] [] low high in
     let o = sdx.call file g (sdx.sized g clear) in
     record {
-      outcome = sdx.report (clear .memory) (o .answer) (o .events);
+      numbers = numbersOf (sdx.report (clear .memory) (o .answer) (o .events));
       memory = sdx.memoryAfter (o .answer) (o .events) (clear .memory);
       map = pick (sdx.sized g clear) (sdx.mapAfter (o .answer) (o .events)) (clear .map);
       others = sdx.namesAfter (o .answer) (clear .names) ∷ sdx.addressesAfter (o .answer) (clear .addresses) ∷ [];
@@ -205,7 +209,7 @@ abbrev pub acxLoaded : ℕ → List ℕ → Bases → Result
 acxLoaded form file b =
     let o = acx.call form b file (acx.sized blank blank) in
     record {
-      outcome = reported o .answer;
+      numbers = numbersOf (reported o .answer);
       memory = acx.memoryAfter (o .answer) (o .events) blank;
       map = pick (acx.sized blank blank) (acx.mapAfter (o .answer) (o .events)) blank;
       others = [];
@@ -216,7 +220,7 @@ acxMoved form file old new =
     let c = moves.callOf form old new blank blank true in
     let m = acxLoaded form file old .memory in
     record {
-      outcome = moves.outcomeOf file c m;
+      numbers = numbersOf (moves.outcomeOf file c m);
       memory = moves.memoryAfter file c m;
       map = moves.mapAfter file c m;
       others = moves.scratchAfter c m ∷ [];
@@ -244,8 +248,9 @@ abbrev pub got : Row → Result
 got row = resultOf (row .case)
 
 abbrev pub wanted : Row → Result
-wanted row = record { outcome = row .outcome; memory = holding (row .memory); map = holding (row .map); others = cleared (row .case) }
+wanted row = record { numbers = row .numbers; memory = holding (row .memory); map = holding (row .map); others = cleared (row .case) }
 
--- the statement: every call of the table gives what its row says
-abbrev pub TableHolds : Type 0
-TableHolds = map got table ≡ map wanted table
+-- the statement: the table has ten rows, and every call of it gives what its row says
+pub record TableHolds : Type 0 where
+  pub ten : length table ≡ 10
+  pub rows : map got table ≡ map wanted table
