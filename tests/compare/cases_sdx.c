@@ -118,6 +118,8 @@ static const struct directed cases[] = {
     {"names header cut", SDX_DEFAULT, BLOCK_1 "FB FF 'GRAPHICS' 00", REFUSED(5, 11), .known_names = "'GRAPHICS'", "34 12"},
     {"names body cut", SDX_DEFAULT, BLOCK_1 "FB FF 'GRAPHICS' 00 00", REFUSED(5, 11), .known_names = "'GRAPHICS'", "34 12"},
     {"256 known names", SDX_DEFAULT, BLOCK_1 "FB FF 'GRAPHICS' 00 00 FE 01 01 FC", SDX_LOADED(3, 1, 0, 7939), "1F00: 4C 34 22", NULL, "", "", "'GRAPHICS' 'SCREENED'*255", "34 12 (00 00)*255"},
+    {"the 256th known name", SDX_DEFAULT, BLOCK_1 "FB FF 'GRAPHICS' 00 00 FE 01 01 FC", SDX_LOADED(3, 1, 0, 7939), "1F00: 4C 34 22", NULL, "", "", "'SCREENED'*255 'GRAPHICS'", "(00 00)*255 34 12"},
+    {"a name known first and 256th", SDX_DEFAULT, BLOCK_1 "FB FF 'GRAPHICS' 00 00 FE 01 01 FC", SDX_LOADED(3, 1, 0, 7939), "1F00: 4C 78 66", NULL, "", "", "'GRAPHICS' 'SCREENED'*254 'GRAPHICS'", "34 12 (00 00)*254 78 56"},
     {"257 known names", SDX_DEFAULT, BLOCK_1, REFUSED(1, 0), .known_names = "'GRAPHICS'*257", "(34 12)*257"},
     {"a name at its block's first byte", SDX_DEFAULT, BLOCK_1 NEW_NAME("00 10", "FIRST   "), SDX_LOADED(3, 0, 1, 7939), .names = "'FIRST   '", "00 1F"},
     {"a name at its block's last byte", SDX_DEFAULT, BLOCK_1 NEW_NAME("02 10", "LAST    "), SDX_LOADED(3, 0, 1, 7939), .names = "'LAST    '", "02 1F"},
