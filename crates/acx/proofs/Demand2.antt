@@ -18,6 +18,7 @@ use Rattle.answer.specs.declared.Outcome.{Outcome}
 use Rattle.answer.specs.declared.Outcome.the-variants.{Accepted, Refused}
 use Rattle.answer.specs.declared.Start.{Start}
 use Rattle.answer.specs.declared.Start.the-variants.{Absent}
+use Rattle.events.proofs.Checks.{failed-passed}
 use Rattle.events.proofs.Events.{placed-append, adjusted-append, length-blank, blank-at}
 use Rattle.events.specs.Events.{Event, place, play, marks, blank, placedIn, adjustedIn, Ran}
 use Rattle.acx.proofs.Calling.{load-follows, loaded-right}
@@ -31,9 +32,10 @@ use Rattle.acx.specs.Call.{formOf, sized, load, call, memoryAfter, mapAf
 use Rattle.acx.specs.Demand2.{total, WellPlaced, Demand2, Asked, AcceptedCall, Claim}
 use Rattle.acx.specs.Rules.{Follows, Accepts}
 use Rattle.pieces.specs.Pieces.{Piece, size, placeOf, adjustments, events}
-use Rattle.acx.specs.Walk.{Verdict, accepted, refused, atOnce, judged, report, reported}
+use Rattle.acx.specs.Walk.{Verdict, accepted, refused, atOnce, opening, judged, report, reported}
 use Rattle.pieces.specs.declared.Bases.{Bases}
 use Rattle.acx.specs.declared.Form.{Form}
+use Rattle.acx.specs.declared.Form.the-variants.{Disk}
 
 -- the pieces of an accepted file are well placed
 pub well-placed-of : (form : Form) (file : List ℕ) (b : Bases) (ps : List Piece) (start : Start) → judged form file b .answer ≡ accepted ps start
@@ -173,3 +175,8 @@ module _ (form : ℕ) (b : Bases) (file : List ℕ) (x : Bool) (m p : List ℕ) 
 pub accepted-exactly : Claim
 accepted-exactly form b file x m p r m′ p′ d =
     record { only = call-demand2 form b file x m p r m′ p′ d; all = call-accepts form b file x m p r m′ p′ d }
+
+-- it says something of each file: that it has no pieces, and that nothing was loaded, is not to be had of all (an empty file has no opening)
+pub not-of-all : (b : Bases) (start : Start) (m : List ℕ) → ¬ ((file : List ℕ) → Demand2 Disk file b [] start m m blank 0 0)
+unfolding opening need
+not-of-all b start m h = failed-passed (h [] .follows .opens)

@@ -7,7 +7,7 @@ use native.Mathlib.Omega.{arith}
 use lib.ListN.{length, getD}
 use Rattle.words.proofs.Numbers.{length-encoded, reads-back}
 use Rattle.words.specs.Numbers.{encoded, decoded}
-use Rattle.answer.specs.Report.{numbersOf, numbersIn, answerLength, answerBytes, Written}
+use Rattle.answer.specs.Report.{numbersOf, answerLength, answerBytes, Written}
 use Rattle.answer.specs.declared.Outcome.{Outcome}
 use Rattle.answer.specs.declared.Outcome.the-variants.{Accepted, Refused}
 

@@ -8,7 +8,7 @@ use Rattle.answer.specs.Report.{IsAccepted}
 use Rattle.answer.specs.declared.Outcome.{Outcome}
 use Rattle.answer.specs.declared.Outcome.the-variants.{Accepted, Refused}
 use Rattle.moves.specs.Call.{callOf}
-use Rattle.moves.specs.Demand3.{Made, last, ifAccepted, onto, Linked, Chained, none, next, Memory, AcceptedAt, PlainKept, Demand3}
+use Rattle.moves.specs.Demand3.{Made, last, ifAccepted, Linked, none, next, Memory, AcceptedAt, PlainKept}
 use Rattle.pieces.specs.Pieces.{Piece}
 use Rattle.pieces.specs.declared.Bases.{Bases}
 use Rattle.words.specs.Runs.{Bytes}

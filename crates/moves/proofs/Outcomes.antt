@@ -9,7 +9,6 @@ use lib.Dec.{eqb}
 use lib.ListN.{length, getD}
 use Rattle.acx.proofs.Calling.{loaded-right}
 use Rattle.acx.proofs.Demand2.{load-reports}
-use Rattle.acx.specs.Call.{Loaded}
 use Rattle.acx.specs.Demand2.{total}
 use Rattle.acx.specs.Rules.{Accepts}
 use Rattle.answer.proofs.Checks.{and-true}
@@ -25,7 +24,7 @@ use Rattle.moves.proofs.Demand3.{demand3}
 use Rattle.moves.proofs.Rulings.{same-at, Allowed, accepted-allowed, memory-moved, report-is}
 use Rattle.moves.proofs.Transfers.{stays}
 use Rattle.moves.specs.Call.{Call, piecesOf, sized, ruling, outcomeOf, memoryAfter, scratchAfter, Moved}
-use Rattle.moves.specs.Demand3.{Report, Made, ifAccepted, last, onto, Linked, Chained, Run, none, next, Memory, AcceptedAt, Demand3, reportOf, Defined}
+use Rattle.moves.specs.Demand3.{Report, Made, ifAccepted, last, Linked, Chained, Run, none, next, Memory, AcceptedAt, Demand3, reportOf, Defined}
 use Rattle.moves.specs.Outcomes.{AcceptedMove, Claim}
 
 module _ (file : List ℕ) (c : Call) (m : List ℕ) where

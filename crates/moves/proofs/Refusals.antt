@@ -20,14 +20,11 @@ use Rattle.answer.specs.declared.Fault.{Fault}
 use Rattle.answer.specs.declared.Fault.the-variants.{WrongBuffer, SettingOutOfRange, FileTooLong}
 use Rattle.answer.specs.declared.Outcome.{Outcome}
 use Rattle.answer.specs.declared.Outcome.the-variants.{Refused}
-use Rattle.events.specs.Events.{blank, Ran}
+use Rattle.events.specs.Events.{Ran}
 use Rattle.events.specs.Sizes.{fileLimit}
-use Rattle.pieces.specs.Pieces.{Piece}
-use Rattle.pieces.specs.declared.Bases.{Bases}
 use Rattle.moves.proofs.Rulings.{load-at, refused-call}
-use Rattle.moves.specs.Call.{Call, Ruling, allows, refuses, sides, beforehand, rulingOf, sized, ruling, outcomeBy, mapBy, outcomeOf, memoryAfter, mapAfter, scratchAfter, Moved}
-use Rattle.moves.specs.Demand3.{AcceptedAt}
-use Rattle.moves.specs.Outcomes.{RefusedMove, RefusesMove, at-old, at-new, OutOfRange, old, new, Refusals, RefusalsClaim}
+use Rattle.moves.specs.Call.{Call, refuses, sides, rulingOf, sized, ruling, outcomeBy, outcomeOf, mapAfter, scratchAfter, Moved}
+use Rattle.moves.specs.Outcomes.{RefusedMove, RefusesMove, at-old, at-new, OutOfRange, old, new, RefusalsClaim}
 
 -- two refusals that are one have the same parts
 same-parts : {f g : Fault} {i j k l : ℕ} (P : Fault → ℕ → ℕ → Type 0) → P f i j → Refused f i j ≡ Refused g k l → P g k l

@@ -1,7 +1,7 @@
 -- Demand 2 for SDX files, as specs/Demand2.antt states it.
 -- Assumes nothing.
 use mathlib.Core.Bool.{Bool, true, false, _&&_, false≢true}
-use mathlib.Core.List.{List, _∷_, _++_}
+use mathlib.Core.List.{List, [], _∷_, _++_}
 use mathlib.Core.Path.{_≡_, refl, sym, ap, _∙_}
 use Prim.Native.Nat.{ℕ, _≤_}
 use native.Mathlib.Omega.{arith}
@@ -16,6 +16,7 @@ use Rattle.answer.specs.declared.Outcome.{Outcome}
 use Rattle.answer.specs.declared.Outcome.the-variants.{Accepted, Refused}
 use Rattle.answer.specs.declared.Start.{Start}
 use Rattle.answer.specs.declared.Start.the-variants.{Absent}
+use Rattle.events.proofs.Checks.{failed-passed}
 use Rattle.events.proofs.Events.{length-blank, blank-at}
 use Rattle.events.proofs.Lists.{each-map}
 use Rattle.events.specs.Events.{Event, adjust, play, marks, blank, placedIn, adjustedIn, Ran}
@@ -24,11 +25,11 @@ use Rattle.events.specs.declared.Check.the-variants.{Passed, Failed}
 use Rattle.words.specs.Runs.{Bytes}
 use Rattle.passes.proofs.Turning.{refused-finished}
 use Rattle.passes.specs.Buffers.{newNamesLength, newAddressesLength, startIn, filledUp, Buffers}
-use Rattle.passes.specs.Walk.{Inputs, Progress, Verdict, finished, refused, blocksOf}
+use Rattle.passes.specs.Walk.{Inputs, Progress, Verdict, finished, refused, begun, blocksOf}
 use Rattle.sdx.proofs.Calling.{admitted, range-bounds, right-sizes}
 use Rattle.sdx.proofs.Keeping.{Keeps, judged-keeps}
 use Rattle.sdx.proofs.Lawful.{Lawful, marks-untouched, marks-last, play-others, put-held, play-fields}
-use Rattle.sdx.specs.Call.{atOnce, opened, admitting, load, call, report, memoryAfter, mapAfter, namesAfter, addressesAfter, sized, Loaded, judged}
+use Rattle.sdx.specs.Call.{atOnce, opening, opened, admitting, load, call, report, memoryAfter, mapAfter, namesAfter, addressesAfter, sized, Loaded, judged}
 use Rattle.sdx.proofs.Rules.{follows-judged, followed}
 use Rattle.sdx.specs.Demand2.{Among, Demand2, Asked, AcceptedCall, Claim}
 use Rattle.sdx.specs.Rules.{Follows}
@@ -191,3 +192,8 @@ call-accepts file g x b b′ r d a z es f =
 -- Demand 2, of every call
 pub call-demand2 : Claim
 call-demand2 file bytes g x b b′ r d = record { only = call-accepted file g x b b′ r d bytes; all = call-accepts file g x b b′ r d }
+
+-- it says something of each file: that it has no block, and that nothing was loaded, is not to be had of all (an empty file has no first word)
+pub not-of-all : (g : Inputs) (m : List ℕ) → ¬ ((file : List ℕ) → Demand2 file g (begun g) [] m m blank 0 0)
+unfolding opening need
+not-of-all g m h = failed-passed (h [] .follows .opens)
