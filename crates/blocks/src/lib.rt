@@ -188,8 +188,8 @@ fn read_update(file: &[u8], cursor: Cursor) -> Block
         return Block::Faulty(Fault::NotKnown);
     }
     let table = cursor.table;
-    let slot = table[number];
-    if !slot.taken {
+    let block = table[number];
+    if !block.taken {
         return Block::Faulty(Fault::BlockMissing);
     }
     Block::Update {
