@@ -19,7 +19,7 @@ use Rattle.answer.specs.declared.Outcome.the-variants.{Accepted, Refused}
 use Rattle.answer.specs.declared.Start.{Start}
 use Rattle.answer.specs.declared.Start.the-variants.{Absent}
 use Rattle.events.proofs.Checks.{failed-passed}
-use Rattle.events.proofs.Events.{placed-append, adjusted-append, length-blank, blank-at}
+use Rattle.events.proofs.Events.{placed-append, adjusted-append, length-play, length-marks, length-blank, blank-at}
 use Rattle.events.specs.Events.{Event, place, play, marks, blank, placedIn, adjustedIn, Ran}
 use Rattle.acx.proofs.Calling.{load-follows, loaded-right}
 use Rattle.acx.proofs.WellPlaced.{fits-memory, placed-well}
@@ -71,6 +71,7 @@ loads form file b ps start at m f h l s n =
       loaded = rw e (laid-plain b ps m fits (h .apart));
       fields = rw e (laid-fields b ps m fits (h .apart) (h .inside) (h .distinct));
       others = λ x w. ap (λ (t : List ℕ). getD t x 0) e ∙ laid-outside b ps m x w;
+      lengths = (length-play (events b ps) m, length-marks (events b ps) blank ∙ length-blank);
       untouched-marks = λ x w. marks-outside b ps blank (h .inside) x w ∙ blank-at x;
       placed-marks = marks-plain b ps blank (h .inside) clear (h .apart);
       adjusted-marks = marks-fields b ps blank (h .inside) clear (h .apart);
@@ -176,7 +177,7 @@ pub accepted-exactly : Claim
 accepted-exactly form b file x m p r m′ p′ d =
     record { only = call-demand2 form b file x m p r m′ p′ d; all = call-accepts form b file x m p r m′ p′ d }
 
--- it says something of each file: that it has no pieces, and that nothing was loaded, is not to be had of all (an empty file has no opening)
+-- that a file has no pieces and nothing was loaded does not hold of all: in disk form an empty one has no opening
 pub not-of-all : (b : Bases) (start : Start) (m : List ℕ) → ¬ ((file : List ℕ) → Demand2 Disk file b [] start m m blank 0 0)
 unfolding opening need
 not-of-all b start m h = failed-passed (h [] .follows .opens)

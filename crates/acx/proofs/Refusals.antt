@@ -1,6 +1,6 @@
 -- Which calls are refused, and what a refused call leaves: specs/Refusals.antt, of every call that keeps the contract.
 -- Assumes nothing.
-use mathlib.Core.Bool.{Bool, true, false, false≢true}
+use mathlib.Core.Bool.{Bool, true, false, _&&_, false≢true}
 use mathlib.Core.List.{List}
 use mathlib.Core.Path.{_≡_, refl, sym, ap, _∙_, subst}
 use Prim.Native.Nat.{ℕ}
@@ -18,8 +18,8 @@ use Rattle.pieces.specs.declared.Bases.{Bases}
 use Rattle.acx.proofs.Calling.{refused-memory, refused-map, loaded-right}
 use Rattle.acx.proofs.Faults.{call-causes, load-causes, load-late}
 use Rattle.acx.proofs.Rules.{by-rules}
-use Rattle.acx.specs.Call.{inRange, load, call, Loaded}
-use Rattle.acx.specs.Refusals.{RefusedCall, RefusalsClaim}
+use Rattle.acx.specs.Call.{inRange, sized, load, call, Loaded}
+use Rattle.acx.specs.Refusals.{RefusedCall, Refusals, RefusalsClaim}
 use Rattle.acx.specs.Rules.{Refuses}
 use Rattle.acx.specs.Walk.{Verdict, accepted, refused, report, reported}
 
@@ -72,9 +72,10 @@ reported-refused (refused f a) es fault at side e =
     let s : 0 ≡ side = cc in
     (ap (λ (g : Fault). refused g a) k ∙ ap (refused fault) l, sym s)
 
--- every call
-pub call-refusals : RefusalsClaim
-call-refusals form b file right m p r m′ p′ d =
+-- every call, where the lengths are right or not
+refusals : (form : ℕ) (b : Bases) (file : List ℕ) (right : Bool) (m p : List ℕ) (r : Outcome) (m′ p′ : List ℕ) → Loaded form b file right m p r m′ p′
+    → Refusals form b file right m p r m′ p′
+refusals form b file right m p r m′ p′ d =
     record {
       causes = rw (d .outcome) (call-causes form b file right);
       only = λ h fault at side e.
@@ -88,3 +89,6 @@ call-refusals form b file right m p r m′ p′ d =
     by : (fault : Fault) (at side : ℕ) → r ≡ Refused fault at side → (t : Bool) → right ≡ t → RefusedCall fault m p m′ p′
     by fault at side e true h = refused-right form b file m p r m′ p′ fault at side e (subst (λ (t : Bool). Loaded form b file t m p r m′ p′) h d)
     by fault at side e false h = refused-wrong form b file m p r m′ p′ fault at side e (subst (λ (t : Bool). Loaded form b file t m p r m′ p′) h d)
+
+pub call-refusals : RefusalsClaim
+call-refusals form b file answerSized m p r m′ p′ d = refusals form b file (answerSized && sized m p) m p r m′ p′ d

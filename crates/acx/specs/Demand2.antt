@@ -50,6 +50,8 @@ pub record Demand2 (form : Form) (file : List ℕ) (b : Bases) (ps : List Piece)
   pub fields : Each (λ p. Each (λ f. value (width f) m′ (placeOf b p + f .index) ≡ on (width f) (amountOf b f) (value (width f) (p .code) (f .index))) (p .fields)) ps
   -- "and every other byte as before"
   pub others : (x : ℕ) → Each (λ p. ¬ Placed b x p) ps → getD m′ x 0 ≡ getD m x 0
+  -- (memory and the map have as many bytes after it as before)
+  pub lengths : (length m′ ≡ length m) × (length p′ ≡ memorySize)
   -- "0 untouched, 1 placed, .. 3 adjusted"
   pub untouched-marks : (x : ℕ) → Each (λ p. ¬ Placed b x p) ps → getD p′ x 0 ≡ 0
   pub placed-marks : Each (λ p. (j : ℕ) → j < size p → Each (λ f. ¬ In j f) (p .fields) → getD p′ (placeOf b p + j) 0 ≡ 1) ps

@@ -1,7 +1,7 @@
 -- Demand 1 for ACX files: which calls are refused, with which fault, and what a refused call leaves. Proved in proofs/Refusals.antt
 -- (`call-refusals : RefusalsClaim`).
 -- Assumes nothing.
-use mathlib.Core.Bool.{Bool, true}
+use mathlib.Core.Bool.{Bool, true, _&&_}
 use mathlib.Core.List.{List}
 use mathlib.Core.Path.{_≡_}
 use Prim.Native.Nat.{ℕ}
@@ -15,7 +15,7 @@ use Rattle.answer.specs.declared.Outcome.the-variants.{Refused}
 use Rattle.events.specs.Events.{blank}
 use Rattle.events.specs.Sizes.{fileLimit}
 use Rattle.pieces.specs.declared.Bases.{Bases}
-use Rattle.acx.specs.Call.{inRange, Loaded}
+use Rattle.acx.specs.Call.{inRange, sized, Loaded}
 use Rattle.acx.specs.Rules.{Refuses}
 
 -- "A refusal leaves program memory untouched, and the other buffers hold what document 01 names": a call that was refused found memory m
@@ -39,6 +39,6 @@ pub record Refusals (form : ℕ) (b : Bases) (file : List ℕ) (right : Bool) (m
 -- The claim: of every file, all settings, whatever is lent, and every call that keeps the loader's contract.
 abbrev pub RefusalsClaim : Type 0
 RefusalsClaim =
-    (form : ℕ) (b : Bases) (file : List ℕ) (right : Bool) (m p : List ℕ) (r : Outcome) (m′ p′ : List ℕ)
-    → Loaded form b file right m p r m′ p′
-    → Refusals form b file right m p r m′ p′
+    (form : ℕ) (b : Bases) (file : List ℕ) (answerSized : Bool) (m p : List ℕ) (r : Outcome) (m′ p′ : List ℕ)
+    → Loaded form b file (answerSized && sized m p) m p r m′ p′
+    → Refusals form b file (answerSized && sized m p) m p r m′ p′

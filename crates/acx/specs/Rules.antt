@@ -1,5 +1,5 @@
--- The rules for a file in plain steps: one record after another, each by what the document says of a single record (`recordAt`, `checked` and
--- `stepped` in Walk.antt). No walk is in it; that the loader's walk comes to this, both ways, is the claim at the end, proved in
+-- The rules for a file in plain steps: one record after another, each by what the document says of a single record (`opening`, `begun`, `recordAt`,
+-- `checked` and `stepped` in Walk.antt). No walk is in it; that the loader's walk comes to this, both ways, is the claim at the end, proved in
 -- proofs/Rules.antt (`by-rules : RulesClaim`).
 -- Assumes nothing.
 use mathlib.Core.Bool.{true, false}

@@ -35,6 +35,18 @@ pub data Verdict : Type 0 where
   accepted : List Piece → Start → Verdict
   refused : Fault → ℕ → Verdict
 
+-- ---- the opening
+
+-- "Disk form opens F0 FF (under two bytes 5, else 4); device form has no opening." (F0 FF, low byte first, is the word FFF0)
+unfoldable pub opening : Form → List ℕ → Check
+opening Disk file = need Failed (leb 2 (length file)) CutShort (need Failed (eqb (value 2 file 0) 0xFFF0) WrongOpening Passed)
+opening Device file = Passed
+
+-- where the records begin
+abbrev pub openingSize : Form → ℕ
+openingSize Disk = 2
+openingSize Device = 0
+
 -- ---- one record
 
 -- where a walk stands: the next record's offset, and the pieces so far, latest first
@@ -104,16 +116,6 @@ recordsFrom file b s map = from (turn file b) (λ z. refused CutShort (z .at)) (
 -- all records from an offset on, over a clear map
 abbrev pub recordsOf : List ℕ → Bases → ℕ → Ran Verdict
 recordsOf file b at = recordsFrom file b (begun at) blank
-
--- "Disk form opens F0 FF (under two bytes 5, else 4); device form has no opening." (F0 FF, low byte first, is the word FFF0)
-unfoldable pub opening : Form → List ℕ → Check
-opening Disk file = need Failed (leb 2 (length file)) CutShort (need Failed (eqb (value 2 file 0) 0xFFF0) WrongOpening Passed)
-opening Device file = Passed
-
--- where the records begin
-abbrev pub openingSize : Form → ℕ
-openingSize Disk = 2
-openingSize Device = 0
 
 -- a refusal before the first record: "0 for 1 to 4 and a cut opening"
 abbrev pub atOnce : Fault → Ran Verdict

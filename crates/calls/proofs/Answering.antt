@@ -65,7 +65,6 @@ module _ {file : List ℕ} {form : ℕ} {old new : Bases} {m p s a : List ℕ} {
       let z : moveSized (callOf form old new p s (answerSized a)) m ≡ false =
       and-false (eqb (length m) 65536 && eqb (length p) 65536 && eqb (length s) 65536) (answerSized a) (ne-eqb _ _ h) in
       record {
-        lent = refl;
         outcome = Refused WrongBuffer 0 0;
         moved = record {
           outcome = rw z refl;
@@ -80,7 +79,7 @@ module _ {file : List ℕ} {form : ℕ} {old new : Bases} {m p s a : List ℕ} {
 
   pub move-answered : {o : Outcome} {m′ p′ s′ a′ : List ℕ} → length a ≡ 36 → Moved file (callOf form old new p s true) m o m′ p′ s′ → Answered o a r a′
       → MoveCalled file (callOf form old new p s (answerSized a)) m a r m′ p′ s′ a′
-  move-answered {o} h d t = record { lent = refl; outcome = o; moved = rw (eq-eqb _ _ h) d; answered = t }
+  move-answered {o} h d t = record { outcome = o; moved = rw (eq-eqb _ _ h) d; answered = t }
 
 -- ---- the SDX loader
 

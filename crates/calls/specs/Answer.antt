@@ -33,6 +33,8 @@ pub record Told (o : Outcome) (a : List ℕ) (r : ℕ) (a′ : List ℕ) : Type 
   pub accepted-only : r ≡ 0 → IsAccepted o
   -- and 1 to 20 on a refusal
   pub refused : ¬ IsAccepted o → (1 ≤ r) × (r ≤ 20)
+  -- what it lent with another length it finds as it was
+  pub unchanged : answerSized a ≡ false → a′ ≡ a
 
 -- of every call: each has an outcome that is answered (`answered` in the three records `Called`)
 abbrev pub ToldClaim : Type 0

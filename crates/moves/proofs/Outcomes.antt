@@ -74,6 +74,7 @@ module _ (file : List ℕ) (c : Call) (m : List ℕ) (r : Outcome) (m′ p′ s�
         at-new = x .new;
         plain = rw (w .memory) (d .plain);
         fields = rw (w .memory) (d .fields);
+        memory = rw (w .memory) (d .memory);
         kept = λ a h. ap (λ (t : List ℕ). getD t a 0) (w .memory ∙ memory-moved file c m ps x)
             ∙ stays file (c .form) ps (c .old) (c .new) (x .old) (x .new) m n a h;
         as-load = λ k q t k′ q′ f.

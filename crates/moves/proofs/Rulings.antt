@@ -7,7 +7,7 @@ use Prim.Native.Nat.{ℕ, _≤_}
 use native.Mathlib.Omega.{arith}
 use borrow.Author.Tests.{eq-eqb}
 use lib.ListN.{length}
-use Rattle.acx.proofs.Calling.{range-bounds}
+use Rattle.acx.proofs.Calling.{range-bounds, loaded-right}
 use Rattle.acx.proofs.Demand2.{well-placed-of}
 use Rattle.acx.proofs.Rules.{load-judged, by-rules}
 use Rattle.acx.proofs.WellPlaced.{fits-memory, placed-well}
@@ -30,10 +30,18 @@ use Rattle.events.specs.Lists.{Each}
 use Rattle.words.proofs.Runs.{bytes-part}
 use Rattle.words.specs.Runs.{Bytes}
 use Rattle.moves.specs.Call.{Call, Ruling, allows, refuses, sides, rulingOf, sized, beforehand, ruling, Allows, piecesOf, outcomeBy, mapBy, memoryBy, outcomeOf, memoryAfter, mapAfter}
-use Rattle.moves.specs.Demand3.{Report, reportOf, AcceptedAt, loadInto, OneMove}
+use Rattle.moves.specs.Demand3.{Report, reportOf, AcceptedAt, Loads, OneMove}
 use Rattle.moves.specs.Move.{moved}
 
 -- ---- a load that accepts
+
+-- memory after a load of the handler into r
+abbrev pub loadInto : List ℕ → ℕ → Bases → List ℕ → List ℕ
+loadInto file form b r = playedBy (load form b file .answer) (load form b file .events) r
+
+-- a call of the loader leaves it
+pub loads-into : (file : List ℕ) (form : ℕ) (b : Bases) (k k′ : List ℕ) → Loads file form b k k′ → k′ ≡ loadInto file form b k
+loads-into file form b k k′ h = loaded-right refl (h .loaded) .1
 
 module _ (file : List ℕ) (form : ℕ) (ps : List Piece) (b : Bases) (h : AcceptedAt file form ps b) where
   -- the load's definition accepts

@@ -24,7 +24,7 @@ use Rattle.records.specs.declared.Kind.{Kind}
 use Rattle.records.specs.declared.Kind.the-variants.{Main, ZeroPage, Absolute}
 use Rattle.words.specs.Runs.{Bytes}
 use Rattle.moves.specs.Call.{Call, sized, Moved}
-use Rattle.moves.specs.Demand3.{AcceptedAt, PlainKept, FieldsShifted}
+use Rattle.moves.specs.Demand3.{Memory, AcceptedAt, PlainKept, FieldsShifted}
 
 -- ---- accepted
 
@@ -46,6 +46,7 @@ pub record AcceptedMove (file : List ℕ) (c : Call) (m : List ℕ) (r : Outcome
   -- "Fields are adjusted from current contents: the old amount off, the new amount on, by the formulas above."
   pub fields : FieldsShifted (c .old) (c .new) pieces m m′
   -- "Absolute pieces, vacated and all other bytes keep their contents."
+  pub memory : Memory m′
   pub kept : (x : ℕ) → Each (λ p. Relocatable (p .kind) → ¬ Placed (c .new) x p) pieces → getD m′ x 0 ≡ getD m x 0
   -- "The answer and map are those of a load at the new bases": of any call of the loader there that is lent buffers of the right lengths
   pub as-load : (k q : List ℕ) (t : Outcome) (k′ q′ : List ℕ) → Loaded (c .form) (c .new) file true k q t k′ q′ → (r ≡ t) × (p′ ≡ q′)

@@ -43,8 +43,8 @@ abbrev pub pairsAfter : Outcome → List ℕ → List ℕ → List ℕ
 pairsAfter (Accepted start placed adjusted named low) new bytes = encoded 2 new
 pairsAfter (Refused fault offset side) new bytes = bytes
 
--- What a load over pairs does: it found the buffers b, comes to the outcome o, and leaves b′, as the loader does over the words in them. `right`
+-- What a load over pairs does: it found the buffers b, comes to the outcome o, and leaves b′, as the loader does over the words in them. `others`
 -- says whether all else that is lent has its length (the answer, in a call from C).
-pub record Loads (file : List ℕ) (g : Inputs) (right : Bool) (b : Buffers) (o : Outcome) (b′ : Buffers) : Type 0 where
-  pub loaded : Loaded file (asWords g) ((right && bothPaired g b) && sized (asWords g) (inWords b)) (inWords b) o (inWords b′)
+pub record Loads (file : List ℕ) (g : Inputs) (others : Bool) (b : Buffers) (o : Outcome) (b′ : Buffers) : Type 0 where
+  pub loaded : Loaded file (asWords g) ((others && bothPaired g b) && sized (asWords g) (inWords b)) (inWords b) o (inWords b′)
   pub addresses : b′ .addresses ≡ pairsAfter o (addressesIn (b′ .addresses)) (b .addresses)

@@ -34,7 +34,11 @@ use Rattle.passes.specs.Walk.{Inputs, inputs, Progress, Verdict, finished, refu
 use Rattle.passes.specs.declared.Totals.{Totals}
 use Rattle.passes.specs.declared.WalkEnd.{WalkEnd}
 use Rattle.passes.specs.declared.WalkEnd.the-variants.{Stopped, Finished}
-use Rattle.sdx.specs.Call.{inRange, listed, sized, atOnce, opening, opened, judged, admitting, load, call, report, memoryAfter, mapAfter, namesAfter, addressesAfter, Loaded}
+use Rattle.sdx.specs.Call.{inRange, listed, sized, atOnce, opening, opened, admitting, load, call, report, memoryAfter, mapAfter, namesAfter, addressesAfter, Loaded}
+
+-- what a file comes to whose settings and length are right: its opening, then its blocks
+unfoldable pub judged : List ℕ → Inputs → Ran Verdict
+judged file g = opened g (opening file) (blocksOf file g)
 
 -- ---- before the first block
 

@@ -17,7 +17,7 @@ use Rattle.answer.specs.declared.Outcome.the-variants.{Accepted, Refused}
 use Rattle.answer.specs.declared.Start.{Start}
 use Rattle.answer.specs.declared.Start.the-variants.{Absent}
 use Rattle.events.proofs.Checks.{failed-passed}
-use Rattle.events.proofs.Events.{length-blank, blank-at}
+use Rattle.events.proofs.Events.{length-play, length-marks, length-blank, blank-at}
 use Rattle.events.proofs.Lists.{each-map}
 use Rattle.events.specs.Events.{Event, adjust, play, marks, blank, placedIn, adjustedIn, Ran}
 use Rattle.events.specs.declared.Check.{Check}
@@ -26,10 +26,10 @@ use Rattle.words.specs.Runs.{Bytes}
 use Rattle.passes.proofs.Turning.{refused-finished}
 use Rattle.passes.specs.Buffers.{newNamesLength, newAddressesLength, startIn, filledUp, Buffers}
 use Rattle.passes.specs.Walk.{Inputs, Progress, Verdict, finished, refused, begun, blocksOf}
-use Rattle.sdx.proofs.Calling.{admitted, range-bounds, right-sizes}
+use Rattle.sdx.proofs.Calling.{judged, admitted, range-bounds, right-sizes}
 use Rattle.sdx.proofs.Keeping.{Keeps, judged-keeps}
 use Rattle.sdx.proofs.Lawful.{Lawful, marks-untouched, marks-last, play-others, put-held, play-fields}
-use Rattle.sdx.specs.Call.{atOnce, opening, opened, admitting, load, call, report, memoryAfter, mapAfter, namesAfter, addressesAfter, sized, Loaded, judged}
+use Rattle.sdx.specs.Call.{atOnce, opening, opened, admitting, load, call, report, memoryAfter, mapAfter, namesAfter, addressesAfter, sized, Loaded}
 use Rattle.sdx.proofs.Rules.{follows-judged, followed}
 use Rattle.sdx.specs.Demand2.{Among, Demand2, Asked, AcceptedCall, Claim}
 use Rattle.sdx.specs.Rules.{Follows}
@@ -50,6 +50,7 @@ kept-demand2 file g z es m f k n =
       loaded = λ x byte h. put-held es blank m x byte n (k .lawful) h;
       fields = λ before after a amount h. rw (h .order) (play-fields before after a amount m n (split before (adjust 2 a amount) after h));
       others = λ x w. play-others es m x (k .lawful) w;
+      lengths = (length-play es m, length-marks es blank ∙ length-blank);
       untouched-marks = λ x w. marks-untouched es blank x w ∙ blank-at x;
       last-marks = λ before after e x h t w. ap (λ (fs : List Event). getD (marks fs blank) x 0) (h .order)
           ∙ marks-last before after e blank x length-blank (split before e after h) t w;
@@ -193,7 +194,8 @@ call-accepts file g x b b′ r d a z es f =
 pub call-demand2 : Claim
 call-demand2 file bytes g x b b′ r d = record { only = call-accepted file g x b b′ r d bytes; all = call-accepts file g x b b′ r d }
 
--- it says something of each file: that it has no block, and that nothing was loaded, is not to be had of all (an empty file has no first word)
-pub not-of-all : (g : Inputs) (m : List ℕ) → ¬ ((file : List ℕ) → Demand2 file g (begun g) [] m m blank 0 0)
+-- that a file has no block and nothing was loaded holds of none: an empty one has no first word, and any other has an end to reach
+pub none-without-block : (g : Inputs) (m file : List ℕ) → ¬ Demand2 file g (begun g) [] m m blank 0 0
 unfolding opening need
-not-of-all g m h = failed-passed (h [] .follows .opens)
+none-without-block g m [] h = failed-passed (h .follows .opens)
+none-without-block g m (x ∷ xs) h = omega (arith, h .follows .ends)

@@ -14,14 +14,14 @@ use Rattle.events.specs.Events.{Event, play, marks, blank, placedIn, adjustedIn
 use Rattle.words.specs.Runs.{Bytes}
 use Rattle.passes.specs.Buffers.{Buffers}
 use Rattle.passes.specs.Walk.{Inputs, Progress, Verdict, finished, refused}
-use Rattle.sdx.proofs.Calling.{call-load}
+use Rattle.sdx.proofs.Calling.{judged, call-load}
 use Rattle.sdx.proofs.Demand2.{finished-asked, asked-judged, asked-memory, asked-top, Left, call-leaves}
 use Rattle.sdx.proofs.Rules.{by-rules}
 use Rattle.sdx.proofs.Keeping.{judged-keeps}
 use Rattle.sdx.proofs.Lawful.{Lawful}
 use Rattle.sdx.proofs.Same.{loaded-same, placed-same, start-same}
 use Rattle.sdx.specs.Determinism.{SameClaim}
-use Rattle.sdx.specs.Call.{load, call, report, mapAfter, sized, Loaded, judged}
+use Rattle.sdx.specs.Call.{load, call, report, mapAfter, sized, Loaded}
 use Rattle.sdx.specs.Demand2.{Places, Among, Asked}
 use Rattle.sdx.specs.Rules.{Accepts}
 

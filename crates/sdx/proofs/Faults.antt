@@ -30,7 +30,8 @@ use Rattle.names.specs.declared.Definition.{Definition}
 use Rattle.names.specs.declared.Definition.the-variants.{Missing, Own, Lent}
 use Rattle.passes.specs.Walk.{Inputs, Progress, Verdict, finished, refused, judge as judge-block, blockAt, appliedAt, turn as turn-block, blocksFrom, blocksOf}
 use Rattle.updates.specs.Bodies.{adjusting, applied as appliedItem, BodyState, Stop, broken, done, judge, turn, items, body}
-use Rattle.sdx.specs.Call.{inRange, opening, opened, judged, admitting, load, call, report}
+use Rattle.sdx.proofs.Calling.{judged}
+use Rattle.sdx.specs.Call.{inRange, opening, opened, admitting, load, call, report}
 
 -- ---- whether an answer is a refusal with 1, 2 or 3
 

@@ -32,10 +32,9 @@ use Rattle.updates.proofs.Turning.{Adjusts, broken-done}
 use Rattle.updates.specs.Bodies.{Stop, done}
 use Rattle.words.proofs.Runs.{length-part}
 use Rattle.words.specs.Runs.{Bytes, part}
-use Rattle.sdx.proofs.Calling.{judged-holds}
+use Rattle.sdx.proofs.Calling.{judged, judged-holds}
 use Rattle.sdx.proofs.Lawful.{Lawful, lawful-append}
 use Rattle.sdx.proofs.Passing.{Granted, read-granted, body-lawful}
-use Rattle.sdx.specs.Call.{judged}
 use Rattle.sdx.specs.Demand2.{AdjustsBy, ByRule, eventsOf, namesOf, addressesOf}
 
 -- ---- progress that only grows

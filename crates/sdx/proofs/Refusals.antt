@@ -1,6 +1,6 @@
 -- Which calls are refused, and what a refused call leaves: specs/Refusals.antt, of every call that keeps the contract.
 -- Assumes nothing.
-use mathlib.Core.Bool.{Bool, true, false, false≢true}
+use mathlib.Core.Bool.{Bool, true, false, false≢true, _&&_}
 use mathlib.Core.List.{List}
 use mathlib.Core.Path.{_≡_, refl, sym, ap, _∙_}
 use Prim.Native.Nat.{ℕ}
@@ -16,8 +16,8 @@ use Rattle.passes.specs.Walk.{Inputs, Progress, Verdict, finished, refused}
 use Rattle.sdx.proofs.Calling.{call-load}
 use Rattle.sdx.proofs.Faults.{call-causes}
 use Rattle.sdx.proofs.Rules.{by-rules}
-use Rattle.sdx.specs.Refusals.{RefusalsClaim}
-use Rattle.sdx.specs.Call.{load, call, report, memoryAfter, mapAfter, namesAfter, addressesAfter, Loaded}
+use Rattle.sdx.specs.Refusals.{Refusals, RefusalsClaim}
+use Rattle.sdx.specs.Call.{load, call, report, memoryAfter, mapAfter, namesAfter, addressesAfter, Loaded, sized}
 
 -- what was refused leaves memory and new names, and a clear map
 record Untouched (v : Verdict) (es : List Event) (m ns ads : List ℕ) : Type 0 where
@@ -73,9 +73,9 @@ reported-refused m (refused f y) es fault offset side e =
     let s : 0 ≡ side = cc in
     ((y, ap (λ (d : Fault). refused d y) k, sym l), sym s)
 
--- every call
-pub call-refusals : RefusalsClaim
-call-refusals file g right b b′ r d =
+-- every call, where the lengths are right or not
+refusals : (file : List ℕ) (g : Inputs) (right : Bool) (b b′ : Buffers) (r : Outcome) → Loaded file g right b r b′ → Refusals file g right b r b′
+refusals file g right b b′ r d =
     let o = load file g in
     let load-is : right ≡ true → r ≡ report (b .memory) (o .answer) (o .events) =
     λ h. d .outcome ∙ ap (λ (c : Ran Verdict). report (b .memory) (c .answer) (c .events)) (call-load file g right h) in
@@ -96,3 +96,6 @@ call-refusals file g right b b′ r d =
             other = map-late file g right b b′ r d fault offset side e right refl;
           };
     }
+
+pub call-refusals : RefusalsClaim
+call-refusals file g others b b′ r d = refusals file g (others && sized g b) b b′ r d

@@ -28,8 +28,8 @@ use Rattle.passes.specs.Walk.{Inputs, Progress, Verdict, finished, refused, jud
 use Rattle.updates.proofs.Rules.{by-rules as body-by-rules}
 use Rattle.updates.proofs.Turning.{broken-done}
 use Rattle.updates.specs.Bodies.{Stop, broken, done}
-use Rattle.sdx.proofs.Calling.{admitted, range-bounds}
-use Rattle.sdx.specs.Call.{inRange, opening, opened, judged, admitting, load}
+use Rattle.sdx.proofs.Calling.{judged, admitted, range-bounds}
+use Rattle.sdx.specs.Call.{inRange, opening, opened, admitting, load}
 use Rattle.sdx.specs.Rules.{Does, Breaks, NextBlock, Follows, Fails, in-opening, in-block, Accepts, Refuses, out-of-range, too-long, by-file, RulesClaim}
 
 -- ---- one block

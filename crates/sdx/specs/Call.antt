@@ -54,10 +54,6 @@ abbrev pub opened : Inputs → Check → Ran Verdict → Ran Verdict
 opened g Passed rest = rest
 opened g (Failed fault) rest = atOnce g fault
 
--- the whole file
-unfoldable pub judged : List ℕ → Inputs → Ran Verdict
-judged file g = opened g (opening file) (blocksOf file g)
-
 -- what a load with the right buffers checks before the first block: 2, then 3, then the opening
 unfoldable pub admitting : List ℕ → Inputs → Check
 admitting file g =

@@ -16,7 +16,7 @@ use Rattle.blocks.specs.declared.Block.the-variants.{Plain, Relocatable, Update
 use Rattle.effects.specs.Effects.{Effect, nameIn, addressIn}
 use Rattle.events.specs.Events.{Event, place, reserve, adjust, placedMark, reservedMark, adjustedMark, placedIn, adjustedIn}
 use Rattle.events.specs.Lists.{Each}
-use Rattle.events.specs.Sizes.{fileLimit}
+use Rattle.events.specs.Sizes.{memorySize, fileLimit}
 use Rattle.items.specs.Items.{slotAt}
 use Rattle.passes.specs.Buffers.{Buffers, newNamesLength, newAddressesLength, filledUp, startIn}
 use Rattle.passes.specs.Walk.{Inputs, Progress}
@@ -129,6 +129,8 @@ pub record Demand2 (file : List ℕ) (g : Inputs) (z : Progress) (es : List Even
   pub fields : (before after : List Event) (a amount : ℕ) → Among es before (adjust 2 a amount) after → Adjusted before after a amount m′
   -- "and every other byte as before" (a field lies in bytes that were placed)
   pub others : (x : ℕ) → Each (λ e. ¬ Places x e) es → getD m′ x 0 ≡ getD m x 0
+  -- (memory and the map have as many bytes after it as before)
+  pub lengths : (length m′ ≡ length m) × (length p′ ≡ memorySize)
   -- "0 untouched, ..": "The last event at an address decides."
   pub untouched-marks : (x : ℕ) → Each (λ e. ¬ Touches x e) es → getD p′ x 0 ≡ 0
   pub last-marks : (before after : List Event) (e : Event) (x : ℕ) → Among es before e after → Touches x e → Each (λ f. ¬ Touches x f) after

@@ -25,7 +25,8 @@ pub record SameProgram (file : List ℕ) (g : Inputs) (r t : Outcome) (b d : Buf
   pub names : (z : Progress) (es : List Event) → Accepts file g z es → b .names ≡ d .names
   pub addresses : (z : Progress) (es : List Event) → Accepts file g z es → b .addresses ≡ d .addresses
 
--- The claim: of every file, whatever the inputs, and of every two calls that keep the loader's contract, with buffers of the right lengths.
+-- The claim: of every file, whatever the inputs, and of every two calls that keep the loader's contract, with buffers of the right lengths (x and y:
+-- all else that is lent too).
 abbrev pub SameClaim : Type 0
 SameClaim =
     (file : List ℕ) → Bytes file → (g : Inputs) (x y : Bool) (b₁ b₂ b d : Buffers) (r t : Outcome) → x && sized g b₁ ≡ true → y && sized g b₂ ≡ true

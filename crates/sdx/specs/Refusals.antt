@@ -1,7 +1,7 @@
 -- Demand 1 for SDX files: which calls are refused, with which fault, and what a refused call leaves. Proved in proofs/Refusals.antt
 -- (`call-refusals : RefusalsClaim`).
 -- Assumes nothing.
-use mathlib.Core.Bool.{Bool, true}
+use mathlib.Core.Bool.{Bool, true, _&&_}
 use mathlib.Core.List.{List}
 use mathlib.Core.Path.{_≡_}
 use Prim.Native.Nat.{ℕ}
@@ -16,7 +16,7 @@ use Rattle.events.specs.Events.{blank}
 use Rattle.events.specs.Sizes.{fileLimit}
 use Rattle.passes.specs.Buffers.{Buffers}
 use Rattle.passes.specs.Walk.{Inputs, Progress}
-use Rattle.sdx.specs.Call.{inRange, Loaded}
+use Rattle.sdx.specs.Call.{inRange, sized, Loaded}
 use Rattle.sdx.specs.Rules.{Refuses}
 
 -- "A refusal leaves program memory untouched, and the other buffers hold what document 01 names": a call that was refused with a fault found
@@ -46,4 +46,5 @@ pub record Refusals (file : List ℕ) (g : Inputs) (right : Bool) (b : Buffers) 
 -- The claim: of every file, whatever the inputs and the buffers, and of every call that keeps the loader's contract.
 abbrev pub RefusalsClaim : Type 0
 RefusalsClaim =
-    (file : List ℕ) (g : Inputs) (right : Bool) (b b′ : Buffers) (r : Outcome) → Loaded file g right b r b′ → Refusals file g right b r b′
+    (file : List ℕ) (g : Inputs) (others : Bool) (b b′ : Buffers) (r : Outcome) → Loaded file g (others && sized g b) b r b′
+    → Refusals file g (others && sized g b) b r b′

@@ -17,12 +17,12 @@ use Rattle.pieces.specs.AtBases.{placing, adjusting, ending, applied}
 use Rattle.pieces.specs.Pieces.{amountOf, edited, adjustments, events}
 use Rattle.fields.specs.Fields.{fieldsOf}
 use Rattle.records.specs.Records.{readCode, readItems, readFixups, readEnd, read}
-use Rattle.sdx.specs.Call.{opening as openingSdx, judged as judgedSdx, admitting, load as loadSdx, call as callSdx}
+use Rattle.sdx.specs.Call.{opening as openingSdx, admitting, load as loadSdx, call as callSdx}
 use Rattle.updates.specs.Bodies.{adjusting as adjustingWord, turn as turnItem, items}
 use Rattle.words.specs.Numbers.{number, value, digits, store, on, off, change}
 use Rattle.words.specs.Runs.{part, put, allZero, contains}
 use Rattle.table.specs.Table.{TableHolds}
 
 pub table-holds : TableHolds
-unfolding number value digits store on off change part put allZero contains need pick play marks blank placedIn adjustedIn fieldsOf readCode readItems readFixups readEnd read amountOf edited adjustments events placing adjusting ending applied checked turnRecord recordsFrom walk from opening judged load call carried transfer moved ruling outcomeOf memoryAfter mapAfter scratchAfter same newestOf newest lookUp setting settingToBlock readItem adjustingWord turnItem items readPlain readRoom readRelocatable readUpdate readNames readAddress readNewName readBlock appliedAt turn blocksFrom openingSdx judgedSdx admitting loadSdx callSdx startIn
+unfolding number value digits store on off change part put allZero contains need pick play marks blank placedIn adjustedIn fieldsOf readCode readItems readFixups readEnd read amountOf edited adjustments events placing adjusting ending applied checked turnRecord recordsFrom walk from opening judged load call carried transfer moved ruling outcomeOf memoryAfter mapAfter scratchAfter same newestOf newest lookUp setting settingToBlock readItem adjustingWord turnItem items readPlain readRoom readRelocatable readUpdate readNames readAddress readNewName readBlock appliedAt turn blocksFrom openingSdx admitting loadSdx callSdx startIn
 table-holds = record { ten = refl; rows = refl }

@@ -37,8 +37,9 @@ pub record Region : Type 0 where
   pub from : ℕ
   pub bytes : List ℕ
 
--- a call; its nine numbers; and what memory and the map hold after it beside zeros
+-- its number in the table; a call; its nine numbers; and what memory and the map hold after it beside zeros
 pub record Row : Type 0 where
+  pub row : ℕ
   pub case : Case
   pub numbers : List ℕ
   pub memory : List Region
@@ -76,6 +77,7 @@ P1File = P1FileWith (0x06 ∷ 0x01 ∷ 0x01 ∷ [])
 abbrev pub P1 : Row
 P1 =
     record {
+      row = 1;
       case = loadAcx device P1File (at 8192);
       numbers = accepts 1 8192 3 1 0 0;
       memory = holds 8192 (0x4C ∷ 0x03 ∷ 0x20 ∷ []) ∷ [];
@@ -86,6 +88,7 @@ P1 =
 abbrev pub P2 : Row
 P2 =
     record {
+      row = 2;
       case = moveAcx device P1File (at 8192) (at 12416);
       numbers = accepts 1 12416 3 1 0 0;
       memory = holds 8192 (0x4C ∷ 0x03 ∷ 0x20 ∷ []) ∷ holds 12416 (0x4C ∷ 0x83 ∷ 0x30 ∷ []) ∷ [];
@@ -100,6 +103,7 @@ P3File = 0x00 ∷ 0x04 ∷ 0x00 ∷ 0x00 ∷ 0xA2 ∷ 0x00 ∷ 0x08 ∷ 0x02 ∷
 abbrev pub P3 : Row
 P3 =
     record {
+      row = 3;
       case = loadAcx device P3File (at 8192);
       numbers = accepts 0 0 2 1 0 0;
       memory = holds 8192 (0xA2 ∷ 0x20 ∷ []) ∷ [];
@@ -110,6 +114,7 @@ P3 =
 abbrev pub P4 : Row
 P4 =
     record {
+      row = 4;
       case = loadAcx device P3File (at 8208);
       numbers = accepts 0 0 2 1 0 0;
       memory = holds 8208 (0xA2 ∷ 0x21 ∷ []) ∷ [];
@@ -120,6 +125,7 @@ P4 =
 abbrev pub P5 : Row
 P5 =
     record {
+      row = 5;
       case = moveAcx device P3File (at 8208) (at 8192);
       numbers = accepts 0 0 2 1 0 0;
       memory = holds 8208 (0xA2 ∷ 0x21 ∷ []) ∷ holds 8192 (0xA2 ∷ 0x20 ∷ []) ∷ [];
@@ -136,6 +142,7 @@ P6File =
 abbrev pub P6 : Row
 P6 =
     record {
+      row = 6;
       case = loadSdx P6File 7936 39936;
       numbers = accepts 0 0 3 1 0 7939;
       memory = holds 7936 (0x4C ∷ 0x00 ∷ 0x1F ∷ []) ∷ [];
@@ -146,6 +153,7 @@ P6 =
 abbrev pub P7 : Row
 P7 =
     record {
+      row = 7;
       case = loadSdx (take (length P6File - 1) P6File) 7936 39936;
       numbers = refuses 5 11;
       memory = [];
@@ -154,12 +162,13 @@ P7 =
 
 -- "empty SDX file: 5 at offset 0."
 abbrev pub P8 : Row
-P8 = record { case = loadSdx [] 7936 39936; numbers = refuses 5 0; memory = []; map = [] }
+P8 = record { row = 8; case = loadSdx [] 7936 39936; numbers = refuses 5 0; memory = []; map = [] }
 
 -- "P1's file and bases with the fixup record `06 01 02`: 12 at offset 7."
 abbrev pub P9 : Row
 P9 =
     record {
+      row = 9;
       case = loadAcx device (P1FileWith (0x06 ∷ 0x01 ∷ 0x02 ∷ [])) (at 8192);
       numbers = refuses 12 7;
       memory = [];
@@ -170,6 +179,7 @@ P9 =
 abbrev pub P10 : Row
 P10 =
     record {
+      row = 10;
       case = loadAcx device (P1FileWith (0x06 ∷ 0x02 ∷ 0x01 ∷ 0x01 ∷ [])) (at 8192);
       numbers = refuses 13 7;
       memory = [];
@@ -250,7 +260,7 @@ got row = resultOf (row .case)
 abbrev pub wanted : Row → Result
 wanted row = record { numbers = row .numbers; memory = holding (row .memory); map = holding (row .map); others = cleared (row .case) }
 
--- the statement: the table has ten rows, and every call of it gives what its row says
+-- the statement: the table has the rows P1 to P10, and every call of it gives what its row says
 pub record TableHolds : Type 0 where
-  pub ten : length table ≡ 10
+  pub ten : map (λ r. r .row) table ≡ 1 ∷ 2 ∷ 3 ∷ 4 ∷ 5 ∷ 6 ∷ 7 ∷ 8 ∷ 9 ∷ 10 ∷ []
   pub rows : map got table ≡ map wanted table
