@@ -31,6 +31,9 @@ DECLARATION = r"^(uint32_t FUNCTION\([^()]*\);)"
 HAS_REQUIRES = "its contract has a `requires`"
 NO_ENSURES = "its contract has no `ensures`"
 PROMISES_LESS = "it does not promise what the call of crate `calls` does"
+NO_CALL = "there is no call of its name in crate `calls`"
+OTHER_WORDS = "its words do not mean what those of crate `calls` do"
+NOT_ALWAYS = "it does not promise one record of a call, or not always"
 NOT_THERE = "there is no public function of this name"
 NOT_DECLARED = f"it is exported, and not declared in {HEADER}"
 
@@ -46,7 +49,9 @@ EDITS = (
     ("the same in the formatter's layout", TKW, "tkw_sdx_load", SIGNATURE + ENSURES + r"\{\n", "\\1 {\n", NO_ENSURES),
     ("an ensures in a comment", TKW, "tkw_acx_move", SIGNATURE + ENSURES, "\\1\n    // \\2\n", NO_ENSURES),
     ("an export that promises nothing", TKW, "tkw_acx_move", SIGNATURE + ENSURES, "\\1\n    ensures { λ r. ⊤ₛ }\n", PROMISES_LESS),
-    ("an export that no call stands behind", CALLS, "tkw_acx_load_default", r"\bpub fn acx_load_default\b", "pub fn acx_load_short", PROMISES_LESS),
+    ("an export that no call stands behind", CALLS, "tkw_acx_load_default", r"\bpub fn acx_load_default\b", "pub fn acx_load_short", NO_CALL),
+    ("an export whose words mean something else", TKW, "tkw_acx_move", r"^ghost use Rattle\.calls\.specs\.Move\b", "ghost use Rattle.tkw.specs.Move", OTHER_WORDS),
+    ("a call that promises something at times", CALLS, "acx_move", SIGNATURE + r" *ensures \{ λ r\. ⌜ ", "\\1\n    ensures { λ r. ⌜ (r ≡ 0) → ", NOT_ALWAYS),
     ("a requires of a call", CALLS, "acx_load_default", SIGNATURE, "\\1\n    requires { ⌜ ⊥ ⌝ }\n", HAS_REQUIRES),
     ("a call without its ensures", CALLS, "sdx_load", SIGNATURE + ENSURES, "\\1\n", NO_ENSURES),
     ("a requires of a loader", SDX, "load", SIGNATURE, "\\1\n    requires { ⌜ ⊥ ⌝ }\n", HAS_REQUIRES),
