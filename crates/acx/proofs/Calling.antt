@@ -86,22 +86,22 @@ module _ (form : ℕ) (b : Bases) (file : List ℕ) (write : Bool) (m : List ℕ
     call-walked f r m′ p′ h ef d = rw (ranged, le-leb _ _ h, ← ef) d
 
 -- what an accepted load comes to: the settings are in range, the file is not too long, and its rules decide
-pub record Follows (form : ℕ) (b : Bases) (file : List ℕ) : Type 0 where
+pub record Admitted (form : ℕ) (b : Bases) (file : List ℕ) : Type 0 where
   pub range : inRange form b ≡ true
   pub fits : length file ≤ 65536
   pub by-rules : load form b file ≡ judged (formOf form) file b
 
--- an accepted load follows so
-pub load-follows : (form : ℕ) (b : Bases) (file : List ℕ) (ps : List Piece) (start : Start) → load form b file .answer ≡ accepted ps start → Follows form b file
+-- an accepted load does
+pub load-admitted : (form : ℕ) (b : Bases) (file : List ℕ) (ps : List Piece) (start : Start) → load form b file .answer ≡ accepted ps start → Admitted form b file
 unfolding load need
-load-follows form b file ps start e = by (inRange form b) (leb (length file) 65536) refl refl e
+load-admitted form b file ps start e = by (inRange form b) (leb (length file) 65536) refl refl e
   where
     o : Ran Verdict
     o = judged (formOf form) file b
 
     by : (c d : Bool) → inRange form b ≡ c → leb (length file) 65536 ≡ d
         → need atOnce c SettingOutOfRange (need atOnce d FileTooLong o) .answer ≡ accepted ps start
-        → Follows form b file
+        → Admitted form b file
     by true true h k e = record { range = h; fits = leb-true _ _ k; by-rules = rw (h, k) refl }
     by true false h k e = absurd (refused-accepted e)
     by false d h k e = absurd (refused-accepted e)

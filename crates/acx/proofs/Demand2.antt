@@ -21,7 +21,7 @@ use Rattle.answer.specs.declared.Start.the-variants.{Absent}
 use Rattle.events.proofs.Checks.{failed-passed}
 use Rattle.events.proofs.Events.{placed-append, adjusted-append, length-play, length-marks, length-blank, blank-at}
 use Rattle.events.specs.Events.{Event, place, play, marks, blank, placedIn, adjustedIn, Ran}
-use Rattle.acx.proofs.Calling.{load-follows, loaded-right}
+use Rattle.acx.proofs.Calling.{load-admitted, loaded-right}
 use Rattle.acx.proofs.WellPlaced.{fits-memory, placed-well}
 use Rattle.pieces.proofs.Loads.{laid, play-laid, laid-outside, laid-plain, laid-fields}
 use Rattle.pieces.proofs.Marks.{marks-outside, marks-plain, marks-fields}
@@ -148,7 +148,7 @@ module _ (form : ℕ) (b : Bases) (file : List ℕ) (x : Bool) (m p : List ℕ) 
       by n em ep eo (refused fault at) f = absurd (false≢true (ap isRefused (eo ∙ ap (λ (v : Verdict). report v (o .events)) f)))
       by n em ep eo (accepted ps begin) f =
           let k = judged (formOf form) file b in
-          let w = load-follows form b file ps begin f in
+          let w = load-admitted form b file ps begin f in
           let g : k .answer ≡ accepted ps begin = ap (λ (q : Ran Verdict). q .answer) (sym (w .by-rules)) ∙ f in
           let em′ : m′ ≡ play (k .events) m = em ∙ ap (λ (v : Verdict). memoryAfter v (o .events) m) f
           ∙ ap (λ (q : Ran Verdict). play (q .events) m) (w .by-rules) in

@@ -12,7 +12,7 @@ use Rattle.pieces.proofs.Loads.{loaded, laid, play-laid, laid-parts}
 use Rattle.pieces.specs.Pieces.{Piece, size, placeOf}
 use Rattle.pieces.specs.declared.Bases.{Bases}
 use Rattle.words.specs.Runs.{part}
-use Rattle.acx.proofs.Calling.{load-follows, loaded-right}
+use Rattle.acx.proofs.Calling.{load-admitted, loaded-right}
 use Rattle.acx.proofs.Demand2.{right-lengths}
 use Rattle.acx.proofs.Rules.{by-rules}
 use Rattle.acx.proofs.WellPlaced.{fits-memory, placed-well}
@@ -28,7 +28,7 @@ placed-parts : (form : ℕ) (b : Bases) (file m m′ : List ℕ) → m′ ≡ me
     → Each (λ x. part m′ (placeOf b x) (size x) ≡ loaded b x) ps
 placed-parts form b file m m′ em n ps start e =
     let o = load form b file in
-    let w = load-follows form b file ps start e in
+    let w = load-admitted form b file ps start e in
     let x = placed-well file b (formOf form) ps start (ap (λ (q : Ran Verdict). q .answer) (sym (w .by-rules)) ∙ e) in
     let h = x .held .0 in
     let fits = fits-memory b (length m) ps n (h .fits) in

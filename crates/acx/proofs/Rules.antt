@@ -24,7 +24,7 @@ use Rattle.records.specs.declared.Record.the-variants.{Code, Fixups, End, Fault
 use Rattle.pieces.specs.AtBases.{applied}
 use Rattle.pieces.specs.Pieces.{Piece}
 use Rattle.pieces.specs.declared.Bases.{Bases}
-use Rattle.acx.proofs.Calling.{load-follows}
+use Rattle.acx.proofs.Calling.{load-admitted}
 use Rattle.acx.proofs.Turning.{refused-accepted, turn-events, turn-is, turn-on, turn-led, turn-accepted, turn-accepts, turn-falls}
 use Rattle.acx.proofs.Walking.{judged-opens}
 use Rattle.acx.specs.Call.{formOf, inRange, load}
@@ -178,7 +178,7 @@ by-rules form b file =
       accepts = λ ps start h. ap (λ (q : Ran Verdict). q .answer) (load-judged form b file (h .settings) (h .fits))
           ∙ follows-judged (formOf form) file b ps start (h .follows);
       accepts-only = λ ps start e.
-          let w = load-follows form b file ps start e in
+          let w = load-admitted form b file ps start e in
           record {
             settings = w .range;
             fits = w .fits;
