@@ -41,12 +41,13 @@ pub record AcceptedMove (file : List ℕ) (c : Call) (m : List ℕ) (r : Outcome
   pub pieces : List Piece
   pub at-old : AcceptedAt file (c .form) pieces (c .old)
   pub at-new : AcceptedAt file (c .form) pieces (c .new)
+  -- (memory is 65,536 bytes as before)
+  pub memory : Memory m′
   -- "each byte of a relocatable piece goes, all at once, from old place to new"
   pub plain : PlainKept (c .old) (c .new) pieces m m′
   -- "Fields are adjusted from current contents: the old amount off, the new amount on, by the formulas above."
   pub fields : FieldsShifted (c .old) (c .new) pieces m m′
   -- "Absolute pieces, vacated and all other bytes keep their contents."
-  pub memory : Memory m′
   pub kept : (x : ℕ) → Each (λ p. Relocatable (p .kind) → ¬ Placed (c .new) x p) pieces → getD m′ x 0 ≡ getD m x 0
   -- "The answer and map are those of a load at the new bases": of any call of the loader there that is lent buffers of the right lengths
   pub as-load : (k q : List ℕ) (t : Outcome) (k′ q′ : List ℕ) → Loaded (c .form) (c .new) file true k q t k′ q′ → (r ≡ t) × (p′ ≡ q′)

@@ -1,6 +1,6 @@
 -- The bench table of document 01, P1 to P10, about the definitions that the loaders and the mover are proved to keep.
--- A row is a call and all that it gives: the nine numbers of its answer, and every byte of every buffer that it may write. Each holds zeros before the call; only
--- before a move memory is as a load at the old bases left it.
+-- A row is a call and all that it gives: the nine numbers of its answer, and every byte of every buffer that it may write. Each
+-- holds zeros before the call; only before a move memory is as a load at the old bases left it.
 -- `TableHolds` is the statement, proved in proofs/Table.antt.
 -- Assumes nothing.
 use mathlib.Core.Bool.{true}
