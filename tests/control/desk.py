@@ -1,0 +1,163 @@
+"""What all tests stand on: the desk that each is given, its checks, and what more than one of them uses."""
+
+import json
+import os
+import stat
+import subprocess
+import sys
+
+ROOT = os.path.dirname(os.path.dirname(os.path.dirname(os.path.abspath(__file__))))
+EXAMPLES = os.path.join(ROOT, "examples")
+BUILD = os.path.abspath(sys.argv[1] if len(sys.argv) > 1 else os.path.join(ROOT, "build"))
+PROGRAM = os.path.join(BUILD, "tekoweapa")
+
+MEMORY = 65536
+ACCEPTED, REFUSED, TROUBLE = 0, 1, 2
+COMMANDS = ("sdx", "acx", "move")
+
+# Document 01, "Numbers a bench can show".
+MEANINGS = {
+    1: "memory, map, scratch, new-name buffers or C answer of another length; known names not eight bytes per address, or over 256",
+    2: "a setting outside its range",
+    3: "file longer than 65,536",
+    4: "wrong opening",
+    5: "cut short",
+    6: "unknown type, flag, block number or memory kind",
+    7: "block number used before, or an eighth relocatable block",
+    8: "block not there yet",
+    9: "end below start, or a record length not allowed",
+    10: "doesn't fit",
+    11: "place not set, or counter too high",
+    12: "field not loaded",
+    13: "byte adjusted twice",
+    14: "name unknown",
+    15: "a 33rd new name",
+    16: "new name outside its block",
+    17: "two ACX pieces share an address",
+    18: "fixup kind doesn't suit the code before it",
+    19: "bytes after the end record",
+    20: "start above 65,535",
+}
+
+# The options with the commands that have them, and a value that suits.
+OPTIONS = {
+    "--form": ({"acx", "move"}, "device"),
+    "--main": ({"acx"}, "1"),
+    "--zero": ({"acx"}, "1"),
+    "--low": ({"sdx"}, "1"),
+    "--high": ({"sdx"}, "1"),
+    "--names": ({"sdx"}, os.path.join(EXAMPLES, "names.txt")),
+    "--from-main": ({"move"}, "1"),
+    "--from-zero": ({"move"}, "1"),
+    "--to-main": ({"move"}, "1"),
+    "--to-zero": ({"move"}, "1"),
+    "--memory": (set(COMMANDS), "/dev/zero"),
+    "--out": (set(COMMANDS), "target"),
+    "--map": (set(COMMANDS), "target"),
+    "--picture": (set(COMMANDS), "target"),
+    "--dump": (set(COMMANDS), None),
+    "--json": (set(COMMANDS), None),
+    "--help": (set(COMMANDS), None),
+}
+
+# The bench table.
+P1 = bytes.fromhex("00 05 00 00 4C 03 00 06 01 01 0B 02 00 00")
+P3 = bytes.fromhex("00 04 00 00 A2 00 08 02 01 F0 0B 00 00 00")
+P6 = bytes.fromhex("FE FF 01 00 00 10 03 00 4C 00 10 FD FF 01 00 00 FE 01 01 FC")
+P9 = bytes.fromhex("00 05 00 00 4C 03 00 06 01 02 0B 02 00 00")
+P10 = bytes.fromhex("00 05 00 00 4C 03 00 06 02 01 01 0B 02 00 00")
+
+
+class Failure(Exception):
+    pass
+
+
+class Skipped(Exception):
+    """A test can't run here; says why."""
+
+
+def same(actual, wanted, what):
+    if actual != wanted:
+        raise Failure(f"{what}: {actual!r}, should be {wanted!r}")
+
+
+def holds(truth, what):
+    if not truth:
+        raise Failure(what)
+
+
+# An image in which no byte is what it should be by chance.
+PATTERN = bytes((7 * address + (address >> 8) + 1) & 0xFF for address in range(MEMORY))
+
+
+def with_bytes(image, *changes):
+    """The image with (address, bytes) put in."""
+    changed = bytearray(image)
+    for address, content in changes:
+        changed[address:address + len(content)] = content
+    return bytes(changed)
+
+
+class Desk:
+    """A folder with files, and the program run in it."""
+
+    def __init__(self, folder):
+        self.folder = folder
+
+    def path(self, name):
+        return os.path.join(self.folder, name)
+
+    def put(self, name, content):
+        with open(self.path(name), "wb") as file:
+            file.write(content)
+        return name
+
+    def get(self, name):
+        with open(self.path(name), "rb") as file:
+            return file.read()
+
+    def listing(self):
+        """Everything in the folder, with contents, so that whatever is left or changed shows."""
+        found = {}
+        for folder, _, names in os.walk(self.folder):
+            for name in names:
+                path = os.path.join(folder, name)
+                kind = os.lstat(path).st_mode
+                found[os.path.relpath(path, self.folder)] = open(path, "rb").read() if stat.S_ISREG(kind) else stat.S_IFMT(kind)
+        return found
+
+    def run(self, *words, **more):
+        more.setdefault("stdout", subprocess.PIPE)
+        return subprocess.run([PROGRAM, *words], cwd=self.folder, stdin=subprocess.DEVNULL, stderr=subprocess.PIPE, timeout=60, **more)
+
+    def text(self, status, *words):
+        """Standard output of a run with this exit status and nothing on standard error."""
+        done = self.run(*words)
+        same((done.returncode, done.stderr), (status, b""), f"exit status and errors of {words}")
+        return done.stdout.decode("ascii")
+
+    def answer(self, status, *words):
+        """The object that --json prints."""
+        text = self.text(status, *words, "--json")
+        holds(text.endswith("}\n") and text.count("\n") == 1, "JSON is not one line")
+        return json.loads(text)
+
+    def trouble(self, *words, mention="", **more):
+        """A run with exit status 2 that says why, prints nothing else, and leaves the folder as it was."""
+        before = self.listing()
+        done = self.run(*words, **more)
+        same(done.returncode, TROUBLE, f"exit status of {words}")
+        same(done.stdout or b"", b"", f"standard output of {words}")
+        error = done.stderr.decode("utf-8", "replace")
+        holds(error.startswith("tekoweapa: "), f"error of {words} is {error!r}")
+        holds(mention in error, f"error of {words} does not mention {mention!r}: {error!r}")
+        same(self.listing(), before, f"the folder after {words}")
+        return error
+
+
+TESTS = []
+
+
+def test(function):
+    TESTS.append(function)
+    return function

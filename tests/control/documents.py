@@ -1,0 +1,45 @@
+"""What the documents show, held to what is there."""
+
+import os
+import re
+import subprocess
+import zlib
+
+from desk import REFUSED, BUILD, EXAMPLES, PROGRAM, ROOT, holds, same, test
+
+
+def readme_blocks(language):
+    """The texts of README.md's fenced blocks in a language, and of its indented ones where that is ''."""
+    text = open(os.path.join(ROOT, "README.md"), encoding="utf-8").read()
+    if language:
+        return re.findall(rf"```{language}\n(.*?)```", text, re.S)
+    return ["".join(line[4:] + "\n" for line in block.splitlines()) for block in re.findall(r"\n\n((?:    [^\n]*\n)+)", text)]
+
+
+@test
+def the_example_in_the_readme_compiles_and_prints_what_it_says(desk):
+    (source,) = readme_blocks("c")
+    (command,) = [block for block in readme_blocks("") if block.startswith("gcc ")]
+    command, printed = re.fullmatch(r"(.*?) *# (.*)\n", command).groups()
+    desk.put("example.c", source.encode())
+    command = command.replace("-Iinclude", f"-I{ROOT}/include").replace("build/", f"{BUILD}/").replace("gcc", "gcc -Wall -Wextra -Werror", 1)
+    done = subprocess.run(["sh", "-c", command], cwd=desk.folder, capture_output=True, timeout=60)
+    same((done.returncode, done.stdout.decode(), done.stderr), (0, printed + "\n", b""), command)
+
+
+@test
+def the_refusal_in_the_readme_is_printed(desk):
+    (shown,) = [block for block in readme_blocks("") if block.startswith("$ build/tekoweapa")]
+    command, printed = shown.split("\n", 1)
+    words = [word.replace("examples", EXAMPLES) for word in command.split()[2:]]
+    same(desk.text(REFUSED, *words), printed, command)
+
+
+@test
+def the_picture_in_the_documents_is_that_of_the_example(desk):
+    subprocess.run(["make", "-s", "-C", ROOT, f"PICTURE={desk.path('map.png')}", f"PROGRAM={PROGRAM}", "picture"], check=True, timeout=60)
+    pixels = lambda png: zlib.decompress(re.search(rb"IDAT(.*)....\0\0\0\0IEND", png, re.S)[1])
+    kept = open(os.path.join(ROOT, "docs", "map.png"), "rb").read()
+    made = desk.get("map.png")
+    same(kept[:33], made[:33], "size")
+    holds(pixels(kept) == pixels(made), "docs/map.png is not what 'make picture' draws")

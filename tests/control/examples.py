@@ -1,0 +1,127 @@
+"""The examples and their demo."""
+
+import json
+import os
+import subprocess
+import sys
+
+from desk import ACCEPTED, REFUSED, EXAMPLES, P1, P10, PATTERN, PROGRAM, holds, same, test, with_bytes
+
+
+@test
+def the_examples_are_what_the_script_makes(desk):
+    script = os.path.join(EXAMPLES, "make_examples.py")
+    subprocess.run([sys.executable, "-B", script, desk.folder], check=True, timeout=60)
+    made = desk.listing()
+    same(sorted(made), ["clock.acx", "jump.acx", "names.txt", "score.sdx", "twice.acx"], "files")
+    for name, content in made.items():
+        same(open(os.path.join(EXAMPLES, name), "rb").read(), content, name)
+    same(made["jump.acx"], P1, "jump.acx is P1")
+    same(made["twice.acx"], P10, "twice.acx is P10")
+
+
+def acx_types(file):
+    """The types of the records of an ACX file in disk form."""
+    types, at = [], 2
+    while file[at] != 0x0B:
+        types.append(file[at])
+        at += 2 + file[at + 1]
+    return types
+
+
+@test
+def the_clock_has_every_kind_of_record(desk):
+    path = os.path.join(EXAMPLES, "clock.acx")
+    same(set(acx_types(open(path, "rb").read())), set(range(0x0B)), "types")
+    answer = desk.answer(ACCEPTED, "acx", path)
+    holds(answer["adjusted"] >= 8, "fields adjusted")
+    same(len({piece["from"] >> 8 for piece in answer["ranges"]}), 4, "pages touched")
+
+
+@test
+def a_moved_clock_is_a_fresh_one_with_its_counters(desk):
+    path = os.path.join(EXAMPLES, "clock.acx")
+    desk.text(ACCEPTED, "acx", path, "--out", "image")
+    live = ((0x80, b"\x09\x01"), (0x2100, b"\x25\x04"))
+    desk.put("image", with_bytes(desk.get("image"), *live))
+    # the second move overlaps the place that it leaves
+    places = [(0x2000, 0x80), (0x30F5, 0xA0), (0x3100, 0xA3), (0xFEEE, 0xEF), (0, 0xC0)]
+    for (main, zero), (to_main, to_zero) in zip(places, places[1:]):
+        desk.text(ACCEPTED, "move", path, "--memory", "image", "--out", "moved", "--from-main", str(main), "--from-zero", str(zero),
+                  "--to-main", str(to_main), "--to-zero", str(to_zero), "--map", "map")
+        desk.text(ACCEPTED, "acx", path, "--memory", "image", "--out", "fresh", "--main", str(to_main), "--zero", str(to_zero))
+        fresh = with_bytes(desk.get("fresh"), (to_zero, b"\x09\x01"), (to_main + 0x100, b"\x25\x04"))
+        same(desk.get("moved") == fresh, True, f"the image after the move to {to_main}")
+        os.replace(desk.path("moved"), desk.path("image"))
+
+
+@test
+def the_score_program_uses_what_sdx_has(desk):
+    path, names = os.path.join(EXAMPLES, "score.sdx"), os.path.join(EXAMPLES, "names.txt")
+    same(desk.answer(REFUSED, "sdx", path)["number"], 14, "without its names")
+    answer = desk.answer(ACCEPTED, "sdx", path, "--names", names)
+    same({piece["mark"] for piece in answer["ranges"]}, {1, 2, 3}, "marks")
+    same([name["name"] for name in answer["new_names"]], ["SCOREADD"], "new names")
+    same(answer["start"], 7936, "start")
+    same(desk.answer(ACCEPTED, "sdx", path, "--names", names, "--low", "8000")["start"], 8000, "start elsewhere")
+    file = open(path, "rb").read()
+    body = file[file.index(b"\xFD\xFF\x01") + 5:]
+    body = body[:body.index(0xFC)]
+    for item in (0xFD, 0xFE, 0xFF):
+        holds(item in body, f"item {item:02X} is not in the first update body")
+
+
+@test
+def every_cut_of_an_example_is_refused(desk):
+    for command, name, more in (("acx", "clock.acx", ()), ("move", "clock.acx", ("--to-main", "9000")),
+                                ("sdx", "score.sdx", ("--names", os.path.join(EXAMPLES, "names.txt")))):
+        file = open(os.path.join(EXAMPLES, name), "rb").read()
+        desk.put("before", PATTERN)
+        for length in range(0, len(file), 1 if command == "acx" else 9):
+            desk.put("f", file[:length])
+            done = desk.run(command, "f", *more, "--json", "--memory", "before", "--out", "after")
+            # an SDX file has no end record: cut between two blocks it is whole
+            holds(done.returncode == REFUSED or (command == "sdx" and done.returncode == ACCEPTED), f"{name} cut to {length}: {done.returncode}")
+            answer = json.loads(done.stdout)
+            if done.returncode == REFUSED:
+                same((answer["number"], answer["offset"] <= length, desk.get("after") == PATTERN), (5, True, True), f"{name} cut to {length}")
+
+
+@test
+def damaged_examples_end_with_an_answer(desk):
+    file = open(os.path.join(EXAMPLES, "clock.acx"), "rb").read()
+    numbers = set()
+    for at in range(len(file)):
+        desk.put("f", file[:at] + bytes([file[at] ^ 0xFF]) + file[at + 1:])
+        done = desk.run("acx", "f", "--json")
+        holds(done.returncode in (ACCEPTED, REFUSED) and done.stderr == b"", f"byte {at} damaged: {done.returncode} {done.stderr}")
+        numbers.add(json.loads(done.stdout)["number"])
+    holds(len(numbers) >= 5, f"only the numbers {numbers}")
+
+
+@test
+def the_demo_passes(desk):
+    demo = os.path.join(EXAMPLES, "demo")
+    more = dict(os.environ, TMPDIR=desk.folder)
+    done = subprocess.run([demo, PROGRAM], capture_output=True, timeout=60, env=more)
+    same((done.returncode, done.stderr), (0, b""), "exit status and errors")
+    for text in (b"accepted", b"refused with 13", b"[06]", b"SCOREADD"):
+        holds(text in done.stdout, f"{text} is not shown")
+    same(desk.listing(), {}, "files left by the demo")
+
+
+@test
+def the_demo_fails_with_a_wrong_program(desk):
+    """A program that does nothing, one that loads where it should move, and one that accepts what it should refuse."""
+    demo = os.path.join(EXAMPLES, "demo")
+    wrong = {
+        "nothing": "exit 0",
+        "reload": '[ "$1" = move ] || exec "$program" "$@"\nshift; file=$1; shift\n'
+                  'set -- "${@/--to-main/--main}"; set -- "${@/--to-zero/--zero}"\nexec "$program" acx "$file" "$@"',
+        "accept": '"$program" "$@" || exit 0',
+    }
+    for name, body in wrong.items():
+        desk.put(name, f"#!/bin/bash\nprogram='{PROGRAM}'\n{body}\n".encode())
+        os.chmod(desk.path(name), 0o755)
+        done = subprocess.run([demo, desk.path(name)], capture_output=True, timeout=60)
+        holds(done.returncode != 0 and b"demo: " in done.stderr, f"{name}: {done.returncode} {done.stderr}")
