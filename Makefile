@@ -40,9 +40,7 @@ bench: build/benchmark
 	build/benchmark
 
 picture: $(PROGRAM)
-	@work=$$(mktemp -d) && trap 'rm -rf "$$work"' EXIT && \
-	$(PROGRAM) sdx examples/score.sdx --names examples/names.txt --picture "$$work/map.ppm" >/dev/null && \
-	python3 examples/enlarge.py "$$work/map.ppm" 0 0x27 4 $(PICTURE)
+	$(PROGRAM) sdx examples/score.sdx --names examples/names.txt --picture $(PICTURE) --quiet
 
 proofs:
 	@rt check

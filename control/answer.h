@@ -1,7 +1,8 @@
-/* The answer of a call by its nine numbers, with the words that go with numbers and marks. */
+/* The answer of a call by its nine numbers, and runs of marks in the map. */
 #ifndef ANSWER_H
 #define ANSWER_H
 
+#include <stdbool.h>
 #include <stddef.h>
 #include <stdint.h>
 
@@ -23,11 +24,11 @@ struct answer read_answer(const uint8_t *bytes);
 /* A word of two bytes, low byte first. */
 uint32_t read_word(const uint8_t *bytes);
 
-/* What a number means, in the words of document 01's table. */
-const char *meaning_of(uint32_t number);
-
 /* What a mark of the map means. */
 const char *mark_of(uint8_t mark);
+
+/* Whether a mark says that its address holds a byte of the file: placed, adjusted or not. */
+bool is_loaded(uint8_t mark);
 
 /* The last address of the run of equal marks that begins at `from`. */
 size_t run_end(const uint8_t *map, size_t from);

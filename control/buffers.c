@@ -1,21 +1,19 @@
 #include "buffers.h"
-
-#include <string.h>
-
 #include "errors.h"
 #include "files.h"
+
+#include <string.h>
 
 /* Reads an image, which must have the length of memory exactly. */
 static bool read_image(const char *path, uint8_t *memory, uint8_t *spare)
 {
     size_t length = 0;
-
     if (!read_file(path, spare, TKW_MEMORY_LENGTH + 1, &length))
         return false;
     if (length > TKW_MEMORY_LENGTH)
-        return complain(path, "is no image: it has more than %d bytes", TKW_MEMORY_LENGTH);
+        return complain(shown_name(path), "is no image: it has more than %d bytes", TKW_MEMORY_LENGTH);
     if (length < TKW_MEMORY_LENGTH)
-        return complain(path, "is no image: it has %zu bytes and should have %d", length, TKW_MEMORY_LENGTH);
+        return complain(shown_name(path), "is no image: it has %zu bytes and should have %d", length, TKW_MEMORY_LENGTH);
     memcpy(memory, spare, TKW_MEMORY_LENGTH);
     return true;
 }
@@ -32,8 +30,8 @@ bool fill_buffers(const struct options *options, struct buffers *buffers)
 
 static void call_sdx(const struct options *options, struct buffers *buffers)
 {
-    tkw_sdx_load(buffers->file, buffers->file_length, options->low, options->high,
-                 buffers->known.names, buffers->known.count * TKW_NAME_LENGTH, buffers->known.addresses, buffers->known.count * 2,
+    tkw_sdx_load(buffers->file, buffers->file_length, options->low.value, options->high.value,
+                 buffers->known.names, buffers->known.lent * TKW_NAME_LENGTH, buffers->known.addresses, buffers->known.lent * 2,
                  buffers->memory, sizeof buffers->memory, buffers->map, sizeof buffers->map,
                  buffers->new_names, sizeof buffers->new_names, buffers->new_addresses, sizeof buffers->new_addresses,
                  buffers->answer, sizeof buffers->answer);
@@ -41,15 +39,15 @@ static void call_sdx(const struct options *options, struct buffers *buffers)
 
 static void call_acx(const struct options *options, struct buffers *buffers)
 {
-    tkw_acx_load(options->form, buffers->file, buffers->file_length, options->main_base, options->zero_base,
+    tkw_acx_load(options->form, buffers->file, buffers->file_length, options->main_base.value, options->zero_base.value,
                  buffers->memory, sizeof buffers->memory, buffers->map, sizeof buffers->map,
                  buffers->answer, sizeof buffers->answer);
 }
 
 static void call_move(const struct options *options, struct buffers *buffers)
 {
-    tkw_acx_move(options->form, buffers->file, buffers->file_length, options->from_main, options->from_zero,
-                 options->to_main, options->to_zero,
+    tkw_acx_move(options->form, buffers->file, buffers->file_length, options->from_main.value, options->from_zero.value,
+                 options->to_main.value, options->to_zero.value,
                  buffers->memory, sizeof buffers->memory, buffers->map, sizeof buffers->map,
                  buffers->scratch, sizeof buffers->scratch, buffers->answer, sizeof buffers->answer);
 }
@@ -69,4 +67,9 @@ struct answer call_loader(const struct options *options, struct buffers *buffers
         break;
     }
     return read_answer(buffers->answer);
+}
+
+bool has_init(const struct options *options, const struct buffers *buffers)
+{
+    return options->command == COMMAND_SDX && is_loaded(buffers->map[INIT_ADDRESS]) && is_loaded(buffers->map[INIT_ADDRESS + 1]);
 }

@@ -2,14 +2,14 @@
 #ifndef BUFFERS_H
 #define BUFFERS_H
 
-#include <stdbool.h>
-#include <stddef.h>
-#include <stdint.h>
-
 #include "answer.h"
 #include "names.h"
 #include "options.h"
 #include "tekoweapa.h"
+
+#include <stdbool.h>
+#include <stddef.h>
+#include <stdint.h>
 
 /* Every buffer is a member of its own, so no two overlap: the promises of the loaders rest on that. */
 struct buffers {
@@ -29,5 +29,11 @@ bool fill_buffers(const struct options *options, struct buffers *buffers);
 
 /* Makes the call that the options ask for. */
 struct answer call_loader(const struct options *options, struct buffers *buffers);
+
+/* Where an SDX program leaves the address of its initialisation, which nothing here runs. */
+enum { INIT_ADDRESS = 0x02E2 };
+
+/* Whether the call has left one: both its bytes are loaded. */
+bool has_init(const struct options *options, const struct buffers *buffers);
 
 #endif

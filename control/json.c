@@ -1,20 +1,46 @@
 #include "json.h"
+#include "text.h"
 
-static void print_json_names(FILE *stream, const struct buffers *buffers, uint32_t count)
+/* A member that is a number, or null where it is absent, and the comma behind it. */
+static void print_member(FILE *stream, const char *name, bool present, uint32_t number)
+{
+    if (present)
+        fprintf(stream, "\"%s\":%u,", name, number);
+    else
+        fprintf(stream, "\"%s\":null,", name);
+}
+
+/* The settings of the call by the names of their options, with '_' for '-'. */
+static void print_settings(FILE *stream, const struct options *options)
+{
+    struct setting settings[SETTINGS_MOST];
+    size_t count = list_settings(options, settings);
+    fputs("\"settings\":{", stream);
+    if (has_form(options))
+        fprintf(stream, "\"form\":\"%s\",", form_name(options->form));
+    for (size_t i = 0; i < count; i++) {
+        fputs(i > 0 ? ",\"" : "\"", stream);
+        for (const char *letter = settings[i].option + 2; *letter != '\0'; letter++)
+            fputc(*letter == '-' ? '_' : *letter, stream);
+        fprintf(stream, "\":%u", settings[i].value);
+    }
+    fputs("},", stream);
+}
+
+static void print_names(FILE *stream, const struct buffers *buffers, uint32_t count)
 {
     fputs("\"new_names\":[", stream);
     for (uint32_t i = 0; i < count; i++) {
         fputs(i > 0 ? ",{\"name\":" : "{\"name\":", stream);
-        print_name(stream, buffers->new_names + i * TKW_NAME_LENGTH, "\\u00");
+        print_name(stream, buffers->new_names + i * TKW_NAME_LENGTH, JSON_ESCAPE);
         fprintf(stream, ",\"address\":%u}", read_word(buffers->new_addresses + 2 * i));
     }
-    fputc(']', stream);
+    fputs("],", stream);
 }
 
-static void print_json_ranges(FILE *stream, const uint8_t *map)
+static void print_ranges(FILE *stream, const uint8_t *map)
 {
     const char *comma = "";
-
     fputs("\"ranges\":[", stream);
     for (size_t from = 0, last; from < TKW_MEMORY_LENGTH; from = last + 1) {
         last = run_end(map, from);
@@ -24,21 +50,27 @@ static void print_json_ranges(FILE *stream, const uint8_t *map)
                 comma, from, last, map[from], mark_of(map[from]), last - from + 1);
         comma = ",";
     }
-    fputc(']', stream);
+    fputs("]", stream);
 }
 
-void print_json(FILE *stream, const struct buffers *buffers, const struct answer *answer)
+void print_json(FILE *stream, const struct options *options, const struct buffers *buffers, const struct answer *answer)
 {
+    bool accepted = answer->number == TKW_ACCEPTED;
+    bool init = accepted && has_init(options, buffers);
+    fprintf(stream, "{\"version\":\"%s\",\"command\":\"%s\",\"file\":", TKW_VERSION, command_name(options->command));
+    print_path(stream, options->file, JSON_ESCAPE);
+    fputc(',', stream);
+    print_settings(stream, options);
     /* The meanings have no character that JSON would want escaped. */
-    fprintf(stream, "{\"number\":%u,\"meaning\":\"%s\",\"offset\":%u,\"side\":%u,",
-            answer->number, meaning_of(answer->number), answer->offset, answer->side);
-    if (answer->start_present != 0)
-        fprintf(stream, "\"start\":%u,", answer->start);
-    else
-        fputs("\"start\":null,", stream);
-    fprintf(stream, "\"placed\":%u,\"adjusted\":%u,", answer->placed, answer->adjusted);
-    print_json_names(stream, buffers, answer->new_names);
-    fprintf(stream, ",\"low\":%u,", answer->low);
-    print_json_ranges(stream, buffers->map);
+    fprintf(stream, "\"number\":%u,\"meaning\":\"%s\",", answer->number, tkw_number_text(answer->number));
+    print_member(stream, "offset", !accepted, answer->offset);
+    print_member(stream, "side", !accepted && options->command == COMMAND_MOVE, answer->side);
+    print_member(stream, "start", answer->start_present != 0, answer->start);
+    print_member(stream, "init", init, read_word(buffers->memory + INIT_ADDRESS));
+    print_member(stream, "placed", accepted, answer->placed);
+    print_member(stream, "adjusted", accepted, answer->adjusted);
+    print_names(stream, buffers, answer->new_names);
+    print_member(stream, "low", accepted && options->command == COMMAND_SDX, answer->low);
+    print_ranges(stream, buffers->map);
     fputs("}\n", stream);
 }

@@ -2,11 +2,11 @@
 #ifndef JSON_H
 #define JSON_H
 
-#include <stdio.h>
-
 #include "buffers.h"
 
-/* Prints the object on one line. Errors stay in the stream. */
-void print_json(FILE *stream, const struct buffers *buffers, const struct answer *answer);
+#include <stdio.h>
+
+/* Prints the object on one line. A number that is absent is null. Errors stay in the stream. */
+void print_json(FILE *stream, const struct options *options, const struct buffers *buffers, const struct answer *answer);
 
 #endif

@@ -1,6 +1,18 @@
 /* tekoweapa, the bench's control program: one load or move of an image of memory, for people at the desk. */
 #define _XOPEN_SOURCE 700
 
+#include "buffers.h"
+#include "errors.h"
+#include "files.h"
+#include "json.h"
+#include "options.h"
+#include "outputs.h"
+#include "picture.h"
+#include "presence.h"
+#include "report.h"
+#include "temporaries.h"
+#include "usage.h"
+
 #include <errno.h>
 #include <signal.h>
 #include <stdbool.h>
@@ -8,23 +20,22 @@
 #include <stdlib.h>
 #include <string.h>
 
-#include "buffers.h"
-#include "errors.h"
-#include "json.h"
-#include "options.h"
-#include "outputs.h"
-#include "picture.h"
-#include "report.h"
-#include "usage.h"
-
 enum { OUT, MAP, PICTURE, OUTPUTS };
 
 /* All that a run works with. */
 struct work {
     struct buffers buffers;
-    uint8_t picture[PICTURE_LENGTH];
+    uint8_t *picture;
     struct output outputs[OUTPUTS];
 };
+
+/* The files that a run writes. The picture has its bytes when it is drawn. */
+static void plan_outputs(const struct options *options, struct work *work)
+{
+    work->outputs[OUT] = (struct output){.path = options->out, .bytes = work->buffers.memory, .length = sizeof work->buffers.memory};
+    work->outputs[MAP] = (struct output){.path = options->map, .bytes = work->buffers.map, .length = sizeof work->buffers.map};
+    work->outputs[PICTURE] = (struct output){.path = options->picture};
+}
 
 /* Makes a closed pipe and a file that may not grow errors of writing, where they would else end the program before it cleans up. */
 static bool watch_writing(void)
@@ -43,58 +54,72 @@ static bool finish_printing(void)
 }
 
 /* No output may replace what is read, but for the image, which may be renewed in place. */
-static bool spare_inputs(const struct options *options)
+static bool spare_inputs(const struct options *options, const struct output *outputs)
 {
-    const char *const outputs[] = {options->out, options->map, options->picture};
-
     for (int i = 0; i < OUTPUTS; i++) {
-        bool image = i != OUT && same_file(outputs[i], options->memory);
-
-        if (image || same_file(outputs[i], options->file) || same_file(outputs[i], options->names))
-            return misused(outputs[i], "would replace a file that is read");
+        const char *path = outputs[i].path;
+        bool image = i != OUT && leads_to_input(path, options->memory);
+        if (image || leads_to_input(path, options->file) || leads_to_input(path, options->names))
+            return complain(path, "would replace a file that is read");
     }
     return true;
 }
 
-static void plan_outputs(const struct options *options, struct work *work)
+/* An image that is there is not begun anew unless that is asked for. A pipe or a device holds none. */
+static bool spare_image(const struct options *options, const struct output *out)
 {
-    work->outputs[OUT] = (struct output){.path = options->out, .bytes = work->buffers.memory, .length = sizeof work->buffers.memory};
-    work->outputs[MAP] = (struct output){.path = options->map, .bytes = work->buffers.map, .length = sizeof work->buffers.map};
-    work->outputs[PICTURE] = (struct output){.path = options->picture, .bytes = work->picture, .length = sizeof work->picture};
+    bool image = out->present && out->target != NULL;
+    return !image || options->memory != NULL || options->fresh
+        || complain(out->path, "is there already; give it with --memory to load into it, or --fresh to begin with zeros");
+}
+
+static bool draw(const struct options *options, struct work *work)
+{
+    struct output *picture = &work->outputs[PICTURE];
+    if (options->picture == NULL)
+        return true;
+    if (!draw_picture(work->buffers.map, picture_format_of(options->picture), options->scale.value, &work->picture, &picture->length))
+        return complain(options->picture, "there is not enough memory to draw it");
+    picture->bytes = work->picture;
+    return true;
 }
 
 /* The run from files to files. Targets are renamed last: by then nothing else can go wrong. */
 static int run(const struct options *options, struct work *work)
 {
-    struct answer answer;
-
+    struct presence presence = {0};
     plan_outputs(options, work);
-    if (!spare_inputs(options) || !find_targets(work->outputs, OUTPUTS) || !fill_buffers(options, &work->buffers))
+    if (!spare_inputs(options, work->outputs) || !find_targets(work->outputs, OUTPUTS) || !spare_image(options, &work->outputs[OUT])
+        || !fill_buffers(options, &work->buffers))
         return EXIT_TROUBLE;
-    answer = call_loader(options, &work->buffers);
-    draw_picture(work->buffers.map, work->picture);
-    if (!write_outputs(work->outputs, OUTPUTS))
+    if (options->command == COMMAND_MOVE)
+        presence = compare_with_load(options, &work->buffers);
+    struct answer answer = call_loader(options, &work->buffers);
+    if (!draw(options, work) || !write_outputs(work->outputs, OUTPUTS))
         return EXIT_TROUBLE;
     if (options->json)
-        print_json(stdout, &work->buffers, &answer);
+        print_json(stdout, options, &work->buffers, &answer);
     else
         print_report(stdout, options, &work->buffers, &answer);
     if (!finish_printing() || !rename_outputs(work->outputs, OUTPUTS))
         return EXIT_TROUBLE;
-    return answer.number == TKW_ACCEPTED ? EXIT_ACCEPTED : EXIT_REFUSED;
+    if (answer.number != TKW_ACCEPTED)
+        return EXIT_REFUSED;
+    warn_if_absent(options, &presence);
+    return EXIT_ACCEPTED;
 }
 
 static int run_with_room(const struct options *options)
 {
     struct work *work = calloc(1, sizeof *work);
     int status = EXIT_TROUBLE;
-
     if (work == NULL) {
         complain("memory", "there is not enough");
-    } else {
-        status = run(options, work);
-        clean_outputs(work->outputs, OUTPUTS);
+        return status;
     }
+    status = run(options, work);
+    clean_outputs(work->outputs, OUTPUTS);
+    free(work->picture);
     free(work);
     return status;
 }
@@ -102,8 +127,7 @@ static int run_with_room(const struct options *options)
 int main(int count, char **words)
 {
     struct options options;
-
-    if (!watch_writing())
+    if (!watch_writing() || !watch_signals())
         return EXIT_TROUBLE;
     if (count < 2) {
         print_usage(stderr);
@@ -111,9 +135,11 @@ int main(int count, char **words)
     }
     if (!parse_options(count, words, &options))
         return EXIT_TROUBLE;
-    if (options.help) {
+    if (!options.help && !options.version)
+        return run_with_room(&options);
+    if (options.help)
         print_usage(stdout);
-        return finish_printing() ? EXIT_ACCEPTED : EXIT_TROUBLE;
-    }
-    return run_with_room(&options);
+    else
+        print_version(stdout);
+    return finish_printing() ? EXIT_ACCEPTED : EXIT_TROUBLE;
 }

@@ -1,17 +1,21 @@
 #include "names.h"
-
-#include <stdlib.h>
-#include <string.h>
-
 #include "errors.h"
 #include "files.h"
 #include "number.h"
 
+#include <stdlib.h>
+#include <string.h>
+
 /* The longest list that is read: room for every name with a long comment. */
 enum { TEXT_MOST = 1 << 20 };
 
-/* What is left of a line. */
+/* Some editors begin a text in UTF-8 with this mark. */
+static const char BYTE_ORDER_MARK[] = "\xEF\xBB\xBF";
+
+/* What is left of a line, and which line it is. */
 struct line {
+    const char *path;
+    size_t number;
     const char *at;
     const char *end;
 };
@@ -21,22 +25,24 @@ static bool is_blank(char character)
     return character == ' ' || character == '\t' || character == '\r';
 }
 
-static void trim(struct line *line)
+static void skip_blanks(struct line *line)
 {
-    while (line->at < line->end && is_blank(line->at[0]))
+    while (line->at < line->end && is_blank(*line->at))
         line->at++;
-    while (line->at < line->end && is_blank(line->end[-1]))
-        line->end--;
+}
+
+/* Whether nothing is left of the line, or a comment alone. */
+static bool is_over(const struct line *line)
+{
+    return line->at == line->end || *line->at == '#';
 }
 
 /* Takes one byte of a name: itself, or an escape. */
 static bool take_byte(struct line *line, uint8_t *byte)
 {
     char character = *line->at++;
-
     if (character == '\\') {
         size_t left = (size_t)(line->end - line->at);
-
         if (left >= 3 && line->at[0] == 'x' && digit_value(line->at[1], 16) >= 0 && digit_value(line->at[2], 16) >= 0) {
             *byte = (uint8_t)(digit_value(line->at[1], 16) * 16 + digit_value(line->at[2], 16));
             line->at += 3;
@@ -50,70 +56,88 @@ static bool take_byte(struct line *line, uint8_t *byte)
     return true;
 }
 
-/* Takes a name in quotes. NULL, or what is wrong. */
-static const char *take_name(struct line *line, uint8_t *name)
+/* Takes a name in quotes. False after a complaint. */
+static bool take_name(struct line *line, uint8_t name[TKW_NAME_LENGTH])
 {
     size_t count = 0;
-
-    if (*line->at != '"')
-        return "a name in double quotes should begin here";
-    line->at++;
+    if (*line->at++ != '"')
+        return complain_of_line(line->path, line->number, "should begin with a name in double quotes");
     while (line->at < line->end && *line->at != '"') {
         uint8_t byte;
-
         if (!take_byte(line, &byte))
-            return "an escape is \\\", \\\\ or \\xHH";
+            return complain_of_line(line->path, line->number, "in a name, a backslash begins one of \\\", \\\\ and \\xHH");
         if (count < TKW_NAME_LENGTH)
             name[count] = byte;
         count++;
     }
     if (line->at == line->end)
-        return "the closing quote is missing";
+        return complain_of_line(line->path, line->number, "the quote behind the name is missing");
     line->at++;
-    return count == TKW_NAME_LENGTH ? NULL : "a name has exactly eight bytes";
+    return count == TKW_NAME_LENGTH
+        || complain_of_line(line->path, line->number, "the name has %zu byte%s; names have %d, a shorter one is filled up with blanks", count,
+                            count == 1 ? "" : "s", TKW_NAME_LENGTH);
 }
 
-/* Takes a line with a name and its address into the list. NULL, or what is wrong. */
-static const char *take_line(struct line *line, struct names *names)
+/* Takes the address behind a name. False after a complaint. */
+static bool take_address(struct line *line, uint32_t *address)
+{
+    const char *behind_name = line->at;
+    skip_blanks(line);
+    if (is_over(line))
+        return complain_of_line(line->path, line->number, "the address behind the name is missing");
+    if (line->at == behind_name)
+        return complain_of_line(line->path, line->number, "a blank should stand between the name and its address");
+    const char *digits = line->at;
+    while (!is_over(line) && !is_blank(*line->at))
+        line->at++;
+    if (!parse_number(digits, (size_t)(line->at - digits), address))
+        return complain_of_line(line->path, line->number, "the address is no number: decimal, 0x hex or $ hex");
+    if (*address > 65535)
+        return complain_of_line(line->path, line->number, "the address is %u; 0 to 65535", *address);
+    skip_blanks(line);
+    return is_over(line) || complain_of_line(line->path, line->number, "behind the address only a comment may stand, which begins with #");
+}
+
+/* Whether the list has the name already. */
+static bool is_listed(const struct names *names, const uint8_t name[TKW_NAME_LENGTH])
+{
+    for (size_t i = 0; i < names->lent; i++)
+        if (memcmp(names->names + i * TKW_NAME_LENGTH, name, TKW_NAME_LENGTH) == 0)
+            return true;
+    return false;
+}
+
+/* Takes a line with a name and its address into the list. False after a complaint. */
+static bool take_line(struct line *line, struct names *names)
 {
     uint8_t name[TKW_NAME_LENGTH];
-    uint32_t address = 0;
-    const char *wrong = take_name(line, name);
-
-    if (wrong != NULL)
-        return wrong;
-    if (line->at < line->end && !is_blank(*line->at))
-        return "a blank should follow the name";
-    trim(line);
-    if (!parse_number(line->at, (size_t)(line->end - line->at), &address) || address > 65535)
-        return "an address is a number of 0 to 65535";
-    if (names->count < NAMES_MOST) {
-        memcpy(names->names + names->count * TKW_NAME_LENGTH, name, TKW_NAME_LENGTH);
-        names->addresses[names->count * 2] = (uint8_t)(address & 0xFF);
-        names->addresses[names->count * 2 + 1] = (uint8_t)(address >> 8);
-        names->count++;
+    uint32_t address;
+    if (!take_name(line, name) || !take_address(line, &address))
+        return false;
+    if (is_listed(names, name))
+        warn(line->path, line->number, "this name has come before; its address here holds");
+    names->listed++;
+    if (names->lent < NAMES_MOST) {
+        memcpy(names->names + names->lent * TKW_NAME_LENGTH, name, TKW_NAME_LENGTH);
+        names->addresses[names->lent * 2] = (uint8_t)(address & 0xFF);
+        names->addresses[names->lent * 2 + 1] = (uint8_t)(address >> 8);
+        names->lent++;
     }
-    return NULL;
+    return true;
 }
 
 static bool take_text(const char *path, const char *text, size_t length, struct names *names)
 {
     const char *const end = text + length;
-    size_t number = 0;
-
-    while (text < end) {
+    if (length >= sizeof BYTE_ORDER_MARK - 1 && memcmp(text, BYTE_ORDER_MARK, sizeof BYTE_ORDER_MARK - 1) == 0)
+        text += sizeof BYTE_ORDER_MARK - 1;
+    for (size_t number = 1; text < end; number++) {
         const char *newline = memchr(text, '\n', (size_t)(end - text));
-        struct line line = {text, newline == NULL ? end : newline};
-
-        number++;
+        struct line line = {path, number, text, newline == NULL ? end : newline};
         text = newline == NULL ? end : newline + 1;
-        trim(&line);
-        if (line.at < line.end && *line.at != '#') {
-            const char *wrong = take_line(&line, names);
-
-            if (wrong != NULL)
-                return complain(path, "line %zu: %s", number, wrong);
-        }
+        skip_blanks(&line);
+        if (!is_over(&line) && !take_line(&line, names))
+            return false;
     }
     return true;
 }
@@ -123,30 +147,15 @@ bool read_names(const char *path, struct names *names)
     uint8_t *text = malloc(TEXT_MOST + 1);
     size_t length = 0;
     bool good = false;
-
     if (text == NULL)
-        return complain(path, "out of memory");
-    names->count = 0;
+        return complain(shown_name(path), "there is not enough memory to read it");
+    *names = (struct names){0};
     if (read_file(path, text, TEXT_MOST + 1, &length)) {
         if (length > TEXT_MOST)
-            complain(path, "is longer than %d bytes", TEXT_MOST);
+            complain(shown_name(path), "is longer than %d bytes", TEXT_MOST);
         else
-            good = take_text(path, (const char *)text, length, names);
+            good = take_text(shown_name(path), (const char *)text, length, names);
     }
     free(text);
     return good;
-}
-
-void print_name(FILE *stream, const uint8_t *name, const char *escape)
-{
-    fputc('"', stream);
-    for (int i = 0; i < TKW_NAME_LENGTH; i++) {
-        if (name[i] < 0x20 || name[i] > 0x7E)
-            fprintf(stream, "%s%02X", escape, name[i]);
-        else if (name[i] == '"' || name[i] == '\\')
-            fprintf(stream, "\\%c", name[i]);
-        else
-            fputc(name[i], stream);
-    }
-    fputc('"', stream);
 }

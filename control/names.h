@@ -2,28 +2,24 @@
 #ifndef NAMES_H
 #define NAMES_H
 
+#include "tekoweapa.h"
+
 #include <stdbool.h>
 #include <stddef.h>
 #include <stdint.h>
-#include <stdio.h>
-
-#include "tekoweapa.h"
 
 /* One more than a load takes: of a list too long that much is handed on, and the loader itself refuses it. */
 enum { NAMES_MOST = TKW_KNOWN_MOST + 1 };
 
-/* Names and addresses as the loader is lent them. */
+/* Names and addresses as the loader is lent them, `lent` of each; `listed` is how many the list has. */
 struct names {
-    size_t count;
+    size_t listed;
+    size_t lent;
     uint8_t names[NAMES_MOST * TKW_NAME_LENGTH];
     uint8_t addresses[NAMES_MOST * 2];
 };
 
 /* Reads a list of names. False after a complaint that names file and line. */
 bool read_names(const char *path, struct names *names);
-
-/* Prints a name in quotes. The escape goes before the two hex digits of a byte that is no ASCII character: \x as in a list of names, or
- * \u00 as in JSON. */
-void print_name(FILE *stream, const uint8_t *name, const char *escape);
 
 #endif

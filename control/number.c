@@ -3,7 +3,6 @@
 int digit_value(char digit, int base)
 {
     int value = -1;
-
     if (digit >= '0' && digit <= '9')
         value = digit - '0';
     else if (digit >= 'a' && digit <= 'f')
@@ -28,12 +27,10 @@ bool parse_number(const char *text, size_t length, uint32_t *number)
     size_t prefix = hex_prefix(text, length);
     int base = prefix > 0 ? 16 : 10;
     uint64_t sum = 0;
-
     if (length == prefix)
         return false;
     for (size_t at = prefix; at < length; at++) {
         int value = digit_value(text[at], base);
-
         if (value < 0)
             return false;
         sum = sum * (uint64_t)base + (uint64_t)value;

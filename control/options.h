@@ -2,31 +2,59 @@
 #ifndef OPTIONS_H
 #define OPTIONS_H
 
+#include "tekoweapa.h"
+
 #include <stdbool.h>
+#include <stddef.h>
 #include <stdint.h>
 
 enum command { COMMAND_SDX, COMMAND_ACX, COMMAND_MOVE };
 
+enum form { FORM_DISK = TKW_DISK, FORM_DEVICE = TKW_DEVICE };
+
+/* A number that may be left out; it then has its default value. */
+struct number {
+    uint32_t value;
+    bool given;
+};
+
 /* What the command line asks for. Paths are the words of the command line themselves; NULL where none is given. */
 struct options {
     enum command command;
-    bool help;
-    bool dump;
-    bool json;
+    bool help, version;
+    bool fresh;
+    bool dump, ranges, quiet, json;
     const char *file;
     const char *names;
     const char *memory;
     const char *out;
     const char *map;
     const char *picture;
-    uint32_t form;
-    uint32_t low, high;
-    uint32_t main_base, zero_base;
-    uint32_t from_main, from_zero;
-    uint32_t to_main, to_zero;
+    struct number scale;
+    enum form form;
+    struct number low, high;
+    struct number main_base, zero_base;
+    struct number from_main, from_zero;
+    struct number to_main, to_zero;
 };
+
+/* A number that the call is given: its option, its value, and the most that it may be. */
+struct setting {
+    const char *option;
+    uint32_t value;
+    uint32_t most;
+};
+
+enum { SETTINGS_MOST = 4 };
 
 /* Reads the command line, with the default settings where none are given. False after a complaint. */
 bool parse_options(int count, char **words, struct options *options);
+
+/* Whether the command has a form; and its number settings, whose count is returned. */
+bool has_form(const struct options *options);
+size_t list_settings(const struct options *options, struct setting settings[SETTINGS_MOST]);
+
+const char *command_name(enum command command);
+const char *form_name(enum form form);
 
 #endif

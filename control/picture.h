@@ -1,16 +1,20 @@
-/* The map as a picture: 256 by 256, a row per page of memory, a colour per mark. */
+/* The map as a picture. */
 #ifndef PICTURE_H
 #define PICTURE_H
 
+#include <stdbool.h>
+#include <stddef.h>
 #include <stdint.h>
 
-#include "tekoweapa.h"
+enum { PICTURE_SCALE_MOST = 4 };
 
-#define PICTURE_HEADER "P6\n256 256\n255\n"
+enum picture_format { PICTURE_PPM, PICTURE_PNG };
 
-enum { PICTURE_LENGTH = sizeof PICTURE_HEADER - 1 + 3 * TKW_MEMORY_LENGTH };
+/* PNG for a name that ends in .png (either case), else PPM. */
+enum picture_format picture_format_of(const char *path);
 
-/* Draws the map as a PPM file. */
-void draw_picture(const uint8_t *map, uint8_t *picture);
+/* Draws the map: a legend, and a row per page that holds something, with the page's number. `scale` (1 to PICTURE_SCALE_MOST) enlarges
+ * all of it. The file's bytes are the caller's to free. False if there is no memory. */
+bool draw_picture(const uint8_t *map, enum picture_format format, uint32_t scale, uint8_t **bytes, size_t *length);
 
 #endif

@@ -2,9 +2,9 @@
 #ifndef REPORT_H
 #define REPORT_H
 
-#include <stdio.h>
-
 #include "buffers.h"
+
+#include <stdio.h>
 
 /* Prints what came of a call. Errors stay in the stream. */
 void print_report(FILE *stream, const struct options *options, const struct buffers *buffers, const struct answer *answer);

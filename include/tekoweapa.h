@@ -19,6 +19,9 @@
 #include <stddef.h>
 #include <stdint.h>
 
+/* The version of this header and of the library behind it: both change together. */
+#define TKW_VERSION "1.0.0"
+
 #ifdef __cplusplus
 extern "C" {
 #endif
@@ -55,34 +58,85 @@ enum tkw_answer {
 static inline uint32_t tkw_answer_number(const uint8_t *answer, enum tkw_answer place)
 {
     const uint8_t *number = answer + 4 * (size_t)place;
-
     return (uint32_t)number[0] | (uint32_t)number[1] << 8 | (uint32_t)number[2] << 16 | (uint32_t)number[3] << 24;
 }
 
-/* What a call returns. */
+/* What a call returns; tkw_number_text has the meanings. */
 enum tkw_number {
     TKW_ACCEPTED = 0,
-    TKW_WRONG_BUFFER = 1,         /* a buffer of another length; known names not eight bytes per address, or over 256 */
-    TKW_SETTING_OUT_OF_RANGE = 2, /* a setting outside its range */
-    TKW_FILE_TOO_LONG = 3,        /* file longer than 65,536 bytes */
-    TKW_WRONG_OPENING = 4,        /* wrong opening */
-    TKW_CUT_SHORT = 5,            /* cut short */
-    TKW_NOT_KNOWN = 6,            /* unknown type, flag, block number or memory kind */
-    TKW_BLOCK_TAKEN = 7,          /* block number used before, or an eighth relocatable block */
-    TKW_BLOCK_MISSING = 8,        /* block not there yet */
-    TKW_LENGTH_NOT_ALLOWED = 9,   /* end below start, or a record length not allowed */
-    TKW_DOES_NOT_FIT = 10,        /* doesn't fit */
-    TKW_COUNTER_UNUSABLE = 11,    /* place not set, or counter too high */
-    TKW_FIELD_NOT_LOADED = 12,    /* field not loaded */
-    TKW_ADJUSTED_TWICE = 13,      /* byte adjusted twice */
-    TKW_NAME_UNKNOWN = 14,        /* name unknown */
-    TKW_TOO_MANY_NAMES = 15,      /* a 33rd new name */
-    TKW_NAME_OUTSIDE_BLOCK = 16,  /* new name outside its block */
-    TKW_PIECES_OVERLAP = 17,      /* two ACX pieces share an address */
-    TKW_FIXUP_UNSUITED = 18,      /* fixup kind doesn't suit the code before it */
-    TKW_BYTES_AFTER_END = 19,     /* bytes after the end record */
-    TKW_START_TOO_HIGH = 20       /* start above 65,535 */
+    TKW_WRONG_BUFFER = 1,
+    TKW_SETTING_OUT_OF_RANGE = 2,
+    TKW_FILE_TOO_LONG = 3,
+    TKW_WRONG_OPENING = 4,
+    TKW_CUT_SHORT = 5,
+    TKW_NOT_KNOWN = 6,
+    TKW_BLOCK_TAKEN = 7,
+    TKW_BLOCK_MISSING = 8,
+    TKW_LENGTH_NOT_ALLOWED = 9,
+    TKW_DOES_NOT_FIT = 10,
+    TKW_COUNTER_UNUSABLE = 11,
+    TKW_FIELD_NOT_LOADED = 12,
+    TKW_ADJUSTED_TWICE = 13,
+    TKW_NAME_UNKNOWN = 14,
+    TKW_TOO_MANY_NAMES = 15,
+    TKW_NAME_OUTSIDE_BLOCK = 16,
+    TKW_PIECES_OVERLAP = 17,
+    TKW_FIXUP_UNSUITED = 18,
+    TKW_BYTES_AFTER_END = 19,
+    TKW_START_TOO_HIGH = 20
 };
+
+/* What a number means, in the words of the league's table. Never NULL: a number that no call returns has a text that says so. */
+static inline const char *tkw_number_text(uint32_t number)
+{
+    switch (number) {
+    case TKW_ACCEPTED:
+        return "accepted";
+    case TKW_WRONG_BUFFER:
+        return "memory, map, scratch, new-name buffers or C answer of another length; "
+               "known names not eight bytes per address, or over 256";
+    case TKW_SETTING_OUT_OF_RANGE:
+        return "a setting outside its range";
+    case TKW_FILE_TOO_LONG:
+        return "file longer than 65,536";
+    case TKW_WRONG_OPENING:
+        return "wrong opening";
+    case TKW_CUT_SHORT:
+        return "cut short";
+    case TKW_NOT_KNOWN:
+        return "unknown type, flag, block number or memory kind";
+    case TKW_BLOCK_TAKEN:
+        return "block number used before, or an eighth relocatable block";
+    case TKW_BLOCK_MISSING:
+        return "block not there yet";
+    case TKW_LENGTH_NOT_ALLOWED:
+        return "end below start, or a record length not allowed";
+    case TKW_DOES_NOT_FIT:
+        return "doesn't fit";
+    case TKW_COUNTER_UNUSABLE:
+        return "place not set, or counter too high";
+    case TKW_FIELD_NOT_LOADED:
+        return "field not loaded";
+    case TKW_ADJUSTED_TWICE:
+        return "byte adjusted twice";
+    case TKW_NAME_UNKNOWN:
+        return "name unknown";
+    case TKW_TOO_MANY_NAMES:
+        return "a 33rd new name";
+    case TKW_NAME_OUTSIDE_BLOCK:
+        return "new name outside its block";
+    case TKW_PIECES_OVERLAP:
+        return "two ACX pieces share an address";
+    case TKW_FIXUP_UNSUITED:
+        return "fixup kind doesn't suit the code before it";
+    case TKW_BYTES_AFTER_END:
+        return "bytes after the end record";
+    case TKW_START_TOO_HIGH:
+        return "start above 65,535";
+    default:
+        return "a number that no call returns";
+    }
+}
 
 /* The forms of an ACX file. */
 enum { TKW_DISK = 0, TKW_DEVICE = 1 };

@@ -21,6 +21,8 @@ import command_line
 import report
 import reading
 import writing
+import targets
+import picture
 import examples
 import documents
 

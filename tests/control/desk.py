@@ -2,6 +2,7 @@
 
 import json
 import os
+import shutil
 import stat
 import subprocess
 import sys
@@ -12,6 +13,7 @@ BUILD = os.path.abspath(sys.argv[1] if len(sys.argv) > 1 else os.path.join(ROOT,
 PROGRAM = os.path.join(BUILD, "tekoweapa")
 
 MEMORY = 65536
+NOBODY = 65534
 ACCEPTED, REFUSED, TROUBLE = 0, 1, 2
 COMMANDS = ("sdx", "acx", "move")
 
@@ -40,6 +42,7 @@ MEANINGS = {
 }
 
 # The options with the commands that have them, and a value that suits.
+LOADS = ("sdx", "acx")
 OPTIONS = {
     "--form": ({"acx", "move"}, "device"),
     "--main": ({"acx"}, "1"),
@@ -51,12 +54,17 @@ OPTIONS = {
     "--from-zero": ({"move"}, "1"),
     "--to-main": ({"move"}, "1"),
     "--to-zero": ({"move"}, "1"),
-    "--memory": (set(COMMANDS), "/dev/zero"),
+    "--memory": (set(COMMANDS), "image"),
+    "--fresh": (set(LOADS), None),
     "--out": (set(COMMANDS), "target"),
     "--map": (set(COMMANDS), "target"),
     "--picture": (set(COMMANDS), "target"),
+    "--scale": (set(COMMANDS), "1"),
     "--dump": (set(COMMANDS), None),
+    "--ranges": (set(COMMANDS), None),
+    "--quiet": (set(COMMANDS), None),
     "--json": (set(COMMANDS), None),
+    "--version": (set(COMMANDS), None),
     "--help": (set(COMMANDS), None),
 }
 
@@ -86,6 +94,18 @@ def holds(truth, what):
         raise Failure(what)
 
 
+def as_nobody(desk):
+    """What makes a run of the program one of a user without rights, for whom the folder's files are as for anybody; a copy of the program goes
+    along, since such a user may not reach it where it was built. Only root can set that up."""
+    if os.geteuid() != 0:
+        raise Skipped("only root can run the program as somebody else")
+    program = desk.path("program")
+    shutil.copy(PROGRAM, program)
+    os.chmod(program, 0o755)
+    os.chmod(desk.folder, 0o755)
+    return {"program": program, "preexec_fn": lambda: (os.setgroups([]), os.setgid(NOBODY), os.setuid(NOBODY))}
+
+
 # An image in which no byte is what it should be by chance.
 PATTERN = bytes((7 * address + (address >> 8) + 1) & 0xFF for address in range(MEMORY))
 
@@ -98,6 +118,10 @@ def with_bytes(image, *changes):
     return bytes(changed)
 
 
+# The same with P1 loaded at the default bases.
+LOADED = with_bytes(PATTERN, (0x2000, b"\x4C\x03\x20"))
+
+
 class Desk:
     """A folder with files, and the program run in it."""
 
@@ -105,7 +129,7 @@ class Desk:
         self.folder = folder
 
     def path(self, name):
-        return os.path.join(self.folder, name)
+        return os.path.join(self.folder, os.fsdecode(name))
 
     def put(self, name, content):
         with open(self.path(name), "wb") as file:
@@ -126,19 +150,26 @@ class Desk:
                 found[os.path.relpath(path, self.folder)] = open(path, "rb").read() if stat.S_ISREG(kind) else stat.S_IFMT(kind)
         return found
 
-    def run(self, *words, **more):
+    def run(self, *words, program=PROGRAM, **more):
         more.setdefault("stdout", subprocess.PIPE)
-        return subprocess.run([PROGRAM, *words], cwd=self.folder, stdin=subprocess.DEVNULL, stderr=subprocess.PIPE, timeout=60, **more)
+        if "input" not in more:
+            more.setdefault("stdin", subprocess.DEVNULL)
+        return subprocess.run([program, *words], cwd=self.folder, stderr=subprocess.PIPE, timeout=60, **more)
 
-    def text(self, status, *words):
-        """Standard output of a run with this exit status and nothing on standard error."""
-        done = self.run(*words)
-        same((done.returncode, done.stderr), (status, b""), f"exit status and errors of {words}")
-        return done.stdout.decode("ascii")
+    def text(self, status, *words, warning=None, **more):
+        """Standard output of a run with this exit status, and on standard error one warning with these words, or nothing."""
+        done = self.run(*words, **more)
+        same(done.returncode, status, f"exit status of {words}, which says {done.stderr}")
+        said = done.stderr.decode("utf-8")
+        if warning is None:
+            same(said, "", f"standard error of {words}")
+        else:
+            holds(": warning: " in said and warning in said and said.count("\n") == 1, f"warning of {words}: {said!r}")
+        return done.stdout.decode("utf-8")
 
-    def answer(self, status, *words):
+    def answer(self, status, *words, **more):
         """The object that --json prints."""
-        text = self.text(status, *words, "--json")
+        text = self.text(status, *words, "--json", **more)
         holds(text.endswith("}\n") and text.count("\n") == 1, "JSON is not one line")
         return json.loads(text)
 

@@ -2,7 +2,7 @@
 
 import os
 
-from desk import ACCEPTED, REFUSED, COMMANDS, MEMORY, P1, P6, holds, same, test
+from desk import ACCEPTED, REFUSED, MEMORY, P1, P6, holds, same, test
 
 
 @test
@@ -14,8 +14,8 @@ def a_file_that_cannot_be_read_is_an_error(desk):
     # /proc/self/mem can be opened, and its first page can't be read
     for name, cause in (("missing", "No such file"), ("folder", "directory"), ("f/f", "Not a directory"), ("link", "No such file"),
                         ("", "No such file"), ("n" * 300, "too long"), ("/proc/self/mem", "can't be read")):
-        for command in COMMANDS:
-            desk.trouble(command, name, "--out", "new", mention=cause)
+        for command, *more in (("sdx",), ("acx",), ("move", "--memory", "image", "--to-main", "1")):
+            desk.trouble(command, name, "--out", "new", *more, mention=cause)
         desk.trouble("acx", "f", "--memory", name, "--out", "new", mention=cause)
         desk.trouble("sdx", "f", "--names", name, "--out", "new", mention=cause)
 
@@ -36,29 +36,41 @@ def an_image_has_exactly_65536_bytes(desk):
     desk.put("f", P1)
     for length in (0, 1, 65535):
         desk.put("image", bytes(length))
-        for command in COMMANDS:
-            desk.trouble(command, "f", "--memory", "image", "--out", "new", mention=f"image: is no image: it has {length} bytes")
+        for command, *more in (("sdx",), ("acx",), ("move", "--to-main", "1")):
+            desk.trouble(command, "f", "--memory", "image", "--out", "new", *more, mention=f"image: is no image: it has {length} bytes")
     desk.put("image", bytes(65537))
     desk.trouble("acx", "f", "--memory", "image", "--out", "new", mention="image: is no image: it has more than 65536 bytes")
     desk.trouble("acx", "f", "--memory", "/dev/zero", "--out", "new", mention="is no image")
 
 
+def adjusted_by(name):
+    """An SDX file with one word, which is the address of this name once it is loaded, at 0600."""
+    return bytes.fromhex("FF FF 00 06 01 06 00 00 FB FF") + name + bytes.fromhex("00 00 FD 00 06 FC")
+
+
 @test
 def names_may_be_written_in_many_ways(desk):
-    desk.put("names", b'# a comment\n\n   \t\r\n"PLAIN   " 1\n\t"TABBED  "\t \t$0203\t\n"DOS LINE" 0x405\r\n'
-                      b'"\\"\\\\\\x00\\xfF\\x41# Z" 65535\n  # one more "comment" \n"RAW\xFF\x80\x01\x00 " 0\n"NO NL   " 7')
+    desk.put("names", b'\xEF\xBB\xBF# a comment\n\n   \t\r\n"PLAIN   " 1\n\t"TABBED  "\t \t$0203\t\n"DOS LINE" 0x405\r\n'
+                      b'"\\"\\\\\\x00\\xfF\\x41# Z" 65535\n  # one more "comment" \n"RAW\xFF\x80\x01\x00 " 0\n'
+                      b'"COMMENT " 8 # behind it\n"CLOSE   " $9#\r\n"NO NL   " 7')
     for name, address in ((b"PLAIN   ", 1), (b"TABBED  ", 0x203), (b"DOS LINE", 0x405), (b'"\\\x00\xFFA# Z', 65535),
-                          (b"RAW\xFF\x80\x01\x00 ", 0), (b"NO NL   ", 7)):
-        desk.put("f", bytes.fromhex("FF FF 00 06 01 06 00 00 FB FF") + name + bytes.fromhex("00 00 FD 00 06 FC"))
-        desk.text(ACCEPTED, "sdx", "f", "--names", "names", "--out", "image")
+                          (b"RAW\xFF\x80\x01\x00 ", 0), (b"COMMENT ", 8), (b"CLOSE   ", 9), (b"NO NL   ", 7)):
+        desk.put("f", adjusted_by(name))
+        desk.text(ACCEPTED, "sdx", "f", "--names", "names", "--out", "image", "--fresh")
         same(int.from_bytes(desk.get("image")[0x600:0x602], "little"), address, f"address of {name}")
+    # a mark that stands alone, and one that is the first name's
+    desk.put("names", b"\xEF\xBB\xBF")
+    desk.text(REFUSED, "sdx", "f", "--names", "names")
+    desk.put("names", b'\xEF\xBB\xBF"NO NL   " 3')
+    desk.text(ACCEPTED, "sdx", "f", "--names", "names", "--out", "image", "--fresh")
+    same(desk.get("image")[0x600], 3, "the word")
 
 
 @test
 def of_equal_names_the_last_holds(desk):
     desk.put("names", b'"TWICE   " 1\n"OTHER   " 2\n"TWICE   " 3\n')
-    desk.put("f", bytes.fromhex("FF FF 00 06 01 06 00 00 FB FF") + b"TWICE   " + bytes.fromhex("00 00 FD 00 06 FC"))
-    desk.text(ACCEPTED, "sdx", "f", "--names", "names", "--out", "image")
+    desk.put("f", adjusted_by(b"TWICE   "))
+    desk.text(ACCEPTED, "sdx", "f", "--names", "names", "--out", "image", warning="names: line 3: warning: this name has come before")
     same(desk.get("image")[0x600], 3, "the word")
 
 
@@ -66,19 +78,27 @@ def of_equal_names_the_last_holds(desk):
 def a_wrong_line_of_names_is_an_error(desk):
     desk.put("f", P6)
     good = b'"GOODNAME" 1\n# comment\n\n'
-    for line, cause in ((b"NONAMES! 1", "double quotes"), (b"'SINGLEQU' 1", "double quotes"), (b"7", "double quotes"),
-                        (b'"SEVENCH" 1', "exactly eight"), (b'"NINECHARS" 1', "exactly eight"), (b'"" 1', "exactly eight"),
-                        (b'"UNCLOSED 1', "closing quote"), (b'"', "closing quote"), (b'"EIGHTCHR', "closing quote"),
-                        (b'"BACK\\SLA" 1', "escape"), (b'"\\x1" 1', "escape"), (b'"\\xGG" 1', "escape"), (b'"\\', "escape"),
-                        (b'"\\x4', "escape"), (b'"EIGHTCHR"', "address"), (b'"EIGHTCHR" ', "address"), (b'"EIGHTCHR" x', "address"),
-                        (b'"EIGHTCHR" 65536', "address"), (b'"EIGHTCHR" -1', "address"), (b'"EIGHTCHR" 1 2', "address"),
-                        (b'"EIGHTCHR" 1 # late', "address"), (b'"EIGHTCHR" 1\x00', "address"), (b'"EIGHTCHR" $10000', "address"),
-                        (b'"EIGHTCHR"1', "blank"), (b'"EIGHTCHR","OTHER" 1', "blank")):
+    quotes, behind = "should begin with a name in double quotes", "behind the address only a comment may stand"
+    length = "the name has {}; names have 8, a shorter one is filled up with blanks"
+    for line, cause in ((b"NONAMES! 1", quotes), (b"'SINGLEQU' 1", quotes), (b"7", quotes), (b"\x00", quotes), (b"\xEF\xBB", quotes),
+                        (b'"SEVENCH" 1', length.format("7 bytes")), (b'"NINECHARS" 1', length.format("9 bytes")),
+                        (b'"" 1', length.format("0 bytes")), (b'"1" 1', length.format("1 byte")), ('"\xC4PFEL   " 1'.encode(), length.format("9 bytes")),
+                        (b'"UNCLOSED 1', "the quote behind the name is missing"), (b'"', "the quote behind the name is missing"),
+                        (b'"EIGHTCHR', "the quote behind the name is missing"), (b'"EIGHTCH\\" 1', "the quote behind the name is missing"),
+                        (b'"BACK\\SLA" 1', "a backslash begins"), (b'"\\x1" 1', "a backslash begins"), (b'"\\xGG" 1', "a backslash begins"),
+                        (b'"\\', "a backslash begins"), (b'"\\x4', "a backslash begins"),
+                        (b'"EIGHTCHR"', "the address behind the name is missing"), (b'"EIGHTCHR" ', "the address behind the name is missing"),
+                        (b'"EIGHTCHR" # 1', "the address behind the name is missing"),
+                        (b'"EIGHTCHR" x', "the address is no number"), (b'"EIGHTCHR" -1', "the address is no number"),
+                        (b'"EIGHTCHR" 1\x00', "the address is no number"), (b'"EIGHTCHR" 4294967296', "the address is no number"),
+                        (b'"EIGHTCHR" 65536', "the address is 65536; 0 to 65535"), (b'"EIGHTCHR" $10000', "the address is 65536; 0 to 65535"),
+                        (b'"EIGHTCHR" 1 2', behind), (b'"EIGHTCHR" 1 "# late', behind),
+                        (b'"EIGHTCHR"1', "a blank should stand between"), (b'"EIGHTCHR","OTHER" 1', "a blank should stand between")):
         desk.put("names", good + line)
-        desk.trouble("sdx", "f", "--names", "names", "--out", "new", mention="names: line 4: ")
+        desk.trouble("sdx", "f", "--names", "names", "--out", "new", mention=f"names: line 4: {cause}" if "begins" not in cause else cause)
         desk.put("names", line + b"\n" + good)
         error = desk.trouble("sdx", "f", "--names", "names", "--out", "new", mention="names: line 1: ")
-        holds(cause in error, f"error of {line}: {error}")
+        holds(cause in error and error.count("\n") == 1, f"error of {line}: {error}")
     desk.put("names", b"#" * (1 << 20) + b"\n")
     desk.trouble("sdx", "f", "--names", "names", mention="names: is longer than")
 
@@ -91,6 +111,6 @@ def at_most_256_names_are_taken(desk):
         same(desk.answer(status, "sdx", "f", "--names", "names")["number"], 0 if status == ACCEPTED else 1, f"{count} names")
     # the 256th counts
     desk.put("names", b"".join(b'"NAME%04d" %d\n' % (i, i) for i in range(256)))
-    desk.put("f", bytes.fromhex("FF FF 00 06 01 06 00 00 FB FF") + b"NAME0255" + bytes.fromhex("00 00 FD 00 06 FC"))
-    desk.text(ACCEPTED, "sdx", "f", "--names", "names", "--out", "image")
+    desk.put("f", adjusted_by(b"NAME0255"))
+    desk.text(ACCEPTED, "sdx", "f", "--names", "names", "--out", "image", "--fresh")
     same(desk.get("image")[0x600], 255, "the word")

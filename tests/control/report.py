@@ -3,7 +3,14 @@
 import os
 import re
 
-from desk import ACCEPTED, REFUSED, EXAMPLES, MEANINGS, MEMORY, P1, P3, P6, P9, P10, holds, same, test
+from desk import ACCEPTED, REFUSED, EXAMPLES, LOADED, MEANINGS, MEMORY, P1, P3, P6, P9, P10, ROOT, holds, same, test
+
+
+def row(address, content, marked=-1):
+    """A row of bytes as it is printed: its address, the bytes, with brackets around a marked one or the end, and what is text."""
+    bytes_shown = "".join(("[" if i == marked else "]" if i == marked + 1 > 0 else " ") + f"{byte:02X}" for i, byte in enumerate(content))
+    bytes_shown += "[end]" if marked == len(content) < 16 else "]" if marked == len(content) - 1 else ""
+    return f"  ${address:04X} {bytes_shown:50}" + "".join(chr(byte) if 0x20 <= byte <= 0x7E else "." for byte in content)
 
 
 @test
@@ -15,8 +22,7 @@ start      $2000 (8192)
 placed     3 bytes
 adjusted   1 field
 map
-  $2000-$2000  placed     1 byte
-  $2001-$2002  adjusted   2 bytes
+  $2000-$2002  loaded     3 bytes, 2 adjusted
 dump
   $2000  4C 03 20                                         L.\x20
 """, "report")
@@ -47,9 +53,8 @@ new names  1
   "A\\"\\\\ \\x00\\x9B~\\x7F"  $1F02
 low        $1F07 (7943)
 map
-  $02E0-$02E1  placed     2 bytes
-  $1F00-$1F00  placed     1 byte
-  $1F01-$1F02  adjusted   2 bytes
+  $02E0-$02E1  loaded     2 bytes
+  $1F00-$1F02  loaded     3 bytes, 2 adjusted
   $1F03-$1F06  reserved   4 bytes
 dump
   $02E0  34 12                                            4.
@@ -81,35 +86,39 @@ def a_new_name_can_be_lent_as_it_is_printed(desk):
 @test
 def a_refusal_shows_the_place(desk):
     desk.put("f", P9)
+    desk.put("image", LOADED)
     same(desk.text(REFUSED, "acx", "f", "--form", "device", "--dump"), """\
 refused with 12: field not loaded
-at offset 7 of 14
-  0000   00 05 00 00 4C 03 00[06]01 02 0B 02 00 00
+at offset 7 ($0007) of 14
+  $0000  00 05 00 00 4C 03 00[06]01 02 0B 02 00 00        ....L.........
 """, "report")
-    same(desk.text(REFUSED, "move", "f", "--form", "device").splitlines()[1], "at offset 7 of 14 (side: old bases)", "side")
+    same(desk.text(REFUSED, "move", "f", "--form", "device", "--memory", "image", "--to-main", "1").splitlines()[1],
+         "at offset 7 ($0007) of 14 (side: old bases)", "side")
 
 
 @test
 def the_side_of_a_refused_move_is_shown(desk):
     desk.put("f", P1)
-    words = ("move", "f", "--form", "device", "--to-main", "65534")
-    same(desk.text(REFUSED, *words).splitlines()[:2], ["refused with 10: doesn't fit", "at offset 0 of 14 (side: new bases)"], "new side")
-    same(desk.answer(REFUSED, *words)["side"], 1, "new side in JSON")
-    words = ("move", "f", "--form", "device", "--from-main", "65534")
-    same(desk.text(REFUSED, *words).splitlines()[1], "at offset 0 of 14 (side: old bases)", "old side")
-    same(desk.answer(REFUSED, *words)["side"], 0, "old side in JSON")
+    desk.put("image", LOADED)
+    for option, other, side, number in (("--to-main", "--from-main", "new", 1), ("--from-main", "--to-main", "old", 0)):
+        words = ("move", "f", "--form", "device", "--memory", "image", option, "65534", other, "8192")
+        same(desk.text(REFUSED, *words).splitlines()[:2],
+             ["refused with 10: doesn't fit", f"at offset 0 ($0000) of 14 (side: {side} bases)"], f"{side} side")
+        same(desk.answer(REFUSED, *words)["side"], number, f"{side} side in JSON")
 
 
 @test
 def the_end_of_a_file_is_a_place(desk):
     desk.put("f", b"")
-    same(desk.text(REFUSED, "sdx", "f"), "refused with 5: cut short\nat offset 0 of 0\n  0000  [end]\n", "empty")
+    same(desk.text(REFUSED, "sdx", "f"), "refused with 5: cut short\nat offset 0 ($0000) of 0\n  $0000 [end]\n", "empty")
     desk.put("f", P1[:10])
     same(desk.text(REFUSED, "acx", "f", "--form", "device").splitlines()[1:],
-         ["at offset 10 of 10", "  0000   00 05 00 00 4C 03 00 06 01 01[end]"], "end in a row")
+         ["at offset 10 ($000A) of 10", row(0, P1[:10], 10)], "end in a row")
+    desk.put("f", bytes.fromhex("00 0D 00 00") + bytes(11))
+    same(desk.text(REFUSED, "acx", "f", "--form", "device").splitlines()[2], row(0, desk.get("f"), 15), "end in the last place of a row")
     desk.put("f", bytes.fromhex("00 0E 00 00") + bytes(12))
     same(desk.text(REFUSED, "acx", "f", "--form", "device").splitlines()[1:],
-         ["at offset 16 of 16", "  0000   00 0E 00 00 00 00 00 00 00 00 00 00 00 00 00 00", "  0010  [end]"], "end after a full row")
+         ["at offset 16 ($0010) of 16", row(0, desk.get("f")), "  $0010 [end]"], "end after a full row")
 
 
 def refused_at(offset, after):
@@ -119,32 +128,47 @@ def refused_at(offset, after):
 
 @test
 def the_place_is_marked_in_its_row(desk):
-    zeros = lambda count: " ".join(["00"] * count)
-    opening = "01 {:02X} 00 20 " + zeros(12)
-    desk.put("f", refused_at(15, 20))
-    same(desk.text(REFUSED, "acx", "f", "--form", "device").splitlines()[1:],
-         ["at offset 15 of 36", "  0000   01 0D 00 20 " + zeros(11) + "[EE]", "  0010   " + zeros(16)], "last in a row")
-    desk.put("f", refused_at(16, 3))
-    same(desk.text(REFUSED, "acx", "f", "--form", "device").splitlines()[1:],
-         ["at offset 16 of 20", "  0000   " + opening.format(14), "  0010  [EE]00 00 00"], "first in a row")
-    desk.put("f", refused_at(40, 40))
-    same(desk.text(REFUSED, "acx", "f", "--form", "device").splitlines()[1:],
-         ["at offset 40 of 81", "  0010   " + zeros(16), "  0020   " + zeros(8) + "[EE]" + zeros(7), "  0030   " + zeros(16)], "amid rows")
-    desk.put("f", refused_at(40, 0))
-    same(desk.text(REFUSED, "acx", "f", "--form", "device").splitlines()[-1], "  0020   " + zeros(8) + "[EE]", "last of all")
+    for offset, after, rows in ((15, 20, (0, 16)), (16, 3, (0, 16)), (40, 40, (16, 32, 48)), (40, 0, (16, 32))):
+        file = refused_at(offset, after)
+        desk.put("f", file)
+        same(desk.text(REFUSED, "acx", "f", "--form", "device").splitlines()[1:],
+             [f"at offset {offset} (${offset:04X}) of {len(file)}"] + [row(at, file[at:at + 16], offset - at) for at in rows],
+             f"offset {offset} of {len(file)}")
 
 
 @test
 def json_has_all_members_in_order(desk):
+    (version,) = re.findall(r'#define TKW_VERSION "([^"]*)"', open(f"{ROOT}/include/tekoweapa.h", encoding="utf-8").read())
+    opening = f'{{"version":"{version}","command":"acx","file":"f","settings":{{"form":"device","main":8192,"zero":128}},'
     desk.put("f", P1)
     same(desk.text(ACCEPTED, "acx", "f", "--form", "device", "--json"),
-         '{"number":0,"meaning":"accepted","offset":0,"side":0,"start":8192,"placed":3,"adjusted":1,"new_names":[],"low":0,"ranges":['
-         '{"from":8192,"to":8192,"mark":1,"meaning":"placed","length":1},{"from":8193,"to":8194,"mark":3,"meaning":"adjusted","length":2}'
-         ']}\n', "acceptance")
+         opening + '"number":0,"meaning":"accepted","offset":null,"side":null,"start":8192,"init":null,"placed":3,"adjusted":1,"new_names":[],'
+         '"low":null,"ranges":[{"from":8192,"to":8192,"mark":1,"meaning":"placed","length":1},'
+         '{"from":8193,"to":8194,"mark":3,"meaning":"adjusted","length":2}]}\n', "acceptance")
     desk.put("f", P9)
     same(desk.text(REFUSED, "acx", "f", "--form", "device", "--json"),
-         '{"number":12,"meaning":"field not loaded","offset":7,"side":0,"start":null,"placed":0,"adjusted":0,"new_names":[],"low":0,'
-         '"ranges":[]}\n', "refusal")
+         opening + '"number":12,"meaning":"field not loaded","offset":7,"side":null,"start":null,"init":null,"placed":null,"adjusted":null,'
+         '"new_names":[],"low":null,"ranges":[]}\n', "refusal")
+
+
+@test
+def json_has_command_file_and_settings(desk):
+    desk.put("f", P1)
+    desk.put("s", P6)
+    desk.put("image", LOADED)
+    answer = desk.answer(ACCEPTED, "sdx", "s", "--low", "$2000", "--high", "$3000")
+    same((answer["command"], answer["file"], answer["settings"]), ("sdx", "s", {"low": 0x2000, "high": 0x3000}), "sdx")
+    answer = desk.answer(ACCEPTED, "move", "f", "--form", "device", "--memory", "image", "--to-zero", "3")
+    same((answer["command"], answer["settings"]),
+         ("move", {"form": "device", "from_main": 8192, "from_zero": 128, "to_main": 8192, "to_zero": 3}), "move")
+    same((answer["offset"], answer["side"], answer["low"]), (None, None, None), "absent numbers of a move")
+    answer = desk.answer(REFUSED, "acx", "f", "--main", "70000")
+    same((answer["settings"], answer["offset"]), ({"form": "disk", "main": 70000, "zero": 128}, 0), "acx")
+    for name in ('a "quoted" \\ one', "\xE4\u20AC\U0001F600", "line\nbreak\x1F\x7F"):
+        desk.put(name, P1)
+        same(desk.answer(ACCEPTED, "acx", name, "--form", "device")["file"], name, "file")
+    desk.put(b"\xFF\xE4x", P1)
+    same(desk.answer(ACCEPTED, "acx", b"\xFF\xE4x", "--form", "device")["file"], "\xFF\xE4x", "a file whose name is no text")
 
 
 @test
@@ -171,7 +195,7 @@ def ranges_cover_the_map(desk):
             laid[piece["from"]:piece["to"] + 1] = bytes([piece["mark"]]) * piece["length"]
             last = (piece["to"], piece["mark"])
         same(bytes(laid), desk.get("map"), "the map")
-        shown = re.findall(r"^  \$(\w+)-\$(\w+)  (\w+) +(\d+) bytes?$", desk.text(ACCEPTED, *words), re.M)
+        shown = re.findall(r"^  \$(\w+)-\$(\w+)  (\w+) +(\d+) bytes?$", desk.text(ACCEPTED, *words, "--ranges"), re.M)
         same([(int(a, 16), int(b, 16), mark, int(n)) for a, b, mark, n in shown],
              [(p["from"], p["to"], p["meaning"], p["length"]) for p in answer["ranges"]], "the ranges in words")
 
@@ -211,12 +235,107 @@ def every_refusal_has_its_number_and_meaning(desk):
     for number, (words, content, offset) in files_for_every_refusal().items():
         desk.put("f", content)
         answer = desk.answer(REFUSED, words[0], "f", *words[1:])
-        same((answer["number"], answer["meaning"], answer["offset"], answer["side"]), (number, MEANINGS[number], offset, 0), f"refusal {number}")
-        same((answer["start"], answer["placed"], answer["adjusted"], answer["new_names"], answer["low"], answer["ranges"]),
-             (None, 0, 0, [], 0, []), f"the rest of refusal {number}")
+        same((answer["number"], answer["meaning"], answer["offset"], answer["side"]), (number, MEANINGS[number], offset, None),
+             f"refusal {number}")
+        same((answer["start"], answer["init"], answer["placed"], answer["adjusted"], answer["new_names"], answer["low"], answer["ranges"]),
+             (None, None, None, None, [], None, []), f"the rest of refusal {number}")
         lines = desk.text(REFUSED, words[0], "f", *words[1:]).splitlines()
         same(lines[0], f"refused with {number}: {MEANINGS[number]}", "first line")
-        length = "more than 65536" if number == 3 else str(len(content))
-        same(lines[1], f"at offset {offset} of {length}", "second line")
+        same(desk.text(REFUSED, words[0], "f", *words[1:], "--quiet"), lines[0] + "\n", "--quiet")
+        rows = "\n".join(line for line in lines if line.startswith("  $"))
+        if number <= 3:
+            same((rows, len(lines)), ("", 2), f"rows of refusal {number}")
+            continue
+        same(lines[1], f"at offset {offset} (${offset:04X}) of {len(content)}", "second line")
         marked = "end" if offset == len(content) else f"{content[offset]:02X}"
-        same(len(re.findall(r"\[" + marked + r"\]", "\n".join(lines[2:]))), 1, f"marks of refusal {number}")
+        same(len(re.findall(r"\[" + marked + r"\]", rows)), 1, f"marks of refusal {number}")
+
+
+@test
+def a_refused_call_says_which_setting_or_list_is_wrong(desk):
+    desk.put("f", P1)
+    desk.put("s", P6)
+    desk.put("image", LOADED)
+    desk.put("long", b"".join(b'"NAME%04d" 1\n' % i for i in range(300)))
+    move = ("move", "f", "--form", "device", "--memory", "image")
+    for words, lines in ((("acx", "f", "--zero", "256"), ["--zero is 256; 0 to 255"]),
+                         (("acx", "f", "--main", "65536"), ["--main is 65536; 0 to 65535"]),
+                         (("acx", "f", "--main", "4294967295", "--zero", "$FFFF"), ["--main is 4294967295; 0 to 65535", "--zero is 65535; 0 to 255"]),
+                         (("sdx", "s", "--high", "65536"), ["--high is 65536; 0 to 65535"]),
+                         (("sdx", "s", "--low", "5", "--high", "4"), ["--low is 5; 0 to 4, which is --high"]),
+                         (("sdx", "s", "--low", "39937"), ["--low is 39937; 0 to 39936, which is --high"]),
+                         (("sdx", "s", "--low", "65536", "--high", "65536"), ["--low is 65536; 0 to 65535", "--high is 65536; 0 to 65535"]),
+                         ((*move, "--from-main", "65536", "--to-main", "1"), ["--from-main is 65536; 0 to 65535"]),
+                         ((*move, "--from-zero", "256", "--to-zero", "1"), ["--from-zero is 256; 0 to 255"]),
+                         ((*move, "--to-main", "65536"), ["--to-main is 65536; 0 to 65535"]),
+                         ((*move, "--to-zero", "256"), ["--to-zero is 256; 0 to 255"])):
+        same(desk.text(REFUSED, *words).splitlines(), [f"refused with 2: {MEANINGS[2]}"] + lines, f"report of {words}")
+        answer = desk.answer(REFUSED, *words)
+        side = None if words[0] != "move" else int(lines[0].startswith("--to"))
+        same((answer["number"], answer["offset"], answer["side"]), (2, 0, side), f"answer of {words}")
+    same(desk.text(REFUSED, "sdx", "s", "--names", "long").splitlines(),
+         [f"refused with 1: {MEANINGS[1]}", "--names: long has 300 names; at most 256"], "a list too long")
+    desk.put("f", bytes(65537))
+    same(desk.text(REFUSED, "acx", "f").splitlines(), [f"refused with 3: {MEANINGS[3]}", "the file has more than 65536 bytes"], "a file too long")
+
+
+@test
+def an_unknown_name_is_shown_as_text(desk):
+    desk.put("f", bytes.fromhex("FF FF 00 06 01 06 00 00 FB FF") + b'A"B\x00 \x9B!!' + bytes.fromhex("00 00 FD 00 06 FC"))
+    desk.put("names", b'"OTHER   " 1\n')
+    same(desk.text(REFUSED, "sdx", "f").splitlines()[2], 'the name is "A\\"B\\x00 \\x9B!!"; --names lends none', "without --names")
+    same(desk.text(REFUSED, "sdx", "f", "--names", "names").splitlines()[2],
+         'the name is "A\\"B\\x00 \\x9B!!"; it is neither in the --names list nor defined before', "with --names")
+
+
+@test
+def a_file_of_another_kind_says_which_command_was_meant(desk):
+    desk.put("disk", b"\xF0\xFF" + P1)
+    desk.put("device", P1)
+    desk.put("image", LOADED)
+    same(desk.text(REFUSED, "sdx", "disk").splitlines()[2], "it opens F0 FF, as an ACX handler does: 'tekoweapa acx' was meant?", "sdx")
+    for command, *more in (("acx",), ("move", "--memory", "image", "--to-main", "1")):
+        for word in range(0xFA, 0x100):
+            desk.put("sdx", bytes([word, 0xFF]) + P6[2:])
+            same(desk.text(REFUSED, command, "sdx", *more).splitlines()[2], "it opens as an SDX program does: 'tekoweapa sdx' was meant?",
+                 f"{command} on {word:02X} FF")
+        same(desk.text(REFUSED, command, "disk", "--form", "device", *more).splitlines()[2],
+             "it opens F0 FF, as disk form does: '--form disk' was meant?", f"{command} on disk form")
+        same(desk.text(REFUSED, command, "device", *more).splitlines()[2], "it opens as device form may: '--form device' was meant?",
+             f"{command} on device form")
+    # no guess where there is nothing to go by
+    desk.put("f", b"\xF9\xFF\x00\x00")
+    for words in (("sdx",), ("acx",), ("acx", "--form", "device")):
+        holds("was meant" not in desk.text(REFUSED, words[0], "f", *words[1:]), f"a guess by {words}")
+
+
+@test
+def a_program_with_many_fields_has_a_short_report(desk):
+    """A byte that is placed after every word that is adjusted: 10,500 of them."""
+    words = 10500
+    body = b"\xFD\x00\x10" + b"\x03" * (words - 1) + b"\xFC"
+    desk.put("f", bytes.fromhex("FF FF 00 10") + (0x1000 + 3 * words - 1).to_bytes(2, "little") + bytes(3 * words)
+             + bytes.fromhex("FE FF 01 80 00 00 01 00 FD FF 01 00 00") + body)
+    lines = desk.text(ACCEPTED, "sdx", "f", "--low", "$F000", "--high", "$FFFF").splitlines()
+    same(lines[lines.index("map"):],
+         ["map", f"  $1000-${0x1000 + 3 * words - 1:04X}  loaded     {3 * words} bytes, {2 * words} adjusted", "  $F000-$F000  reserved   1 byte"],
+         "map")
+    same(len(desk.text(ACCEPTED, "sdx", "f", "--low", "$F000", "--high", "$FFFF", "--ranges").splitlines()), len(lines) - 1 + 2 * words,
+         "lines with --ranges")
+    same(len(desk.answer(ACCEPTED, "sdx", "f", "--low", "$F000", "--high", "$FFFF")["ranges"]), 2 * words + 1, "ranges in JSON")
+    same(desk.text(ACCEPTED, "sdx", "f", "--low", "$F000", "--high", "$FFFF", "--quiet"), "accepted\n", "--quiet")
+
+
+@test
+def an_init_address_is_shown_and_not_run(desk):
+    for start, data, line, init in ((0x02E2, b"\x00\x2E", "init       $2E00 (not run)", 0x2E00), (0x02E0, b"\x00\x06\x07\x00", "init       $0007 (not run)", 7),
+                                    (0x02E2, b"\x00", None, None), (0x02E3, b"\x2E", None, None), (0x02E0, b"\x00\x06", None, None)):
+        desk.put("f", b"\xFF\xFF" + start.to_bytes(2, "little") + (start + len(data) - 1).to_bytes(2, "little") + data)
+        lines = [text for text in desk.text(ACCEPTED, "sdx", "f").splitlines() if text.startswith("init")]
+        same(lines, [] if line is None else [line], f"init with {data} at {start:04X}")
+        same(desk.answer(ACCEPTED, "sdx", "f")["init"], init, f"init in JSON with {data} at {start:04X}")
+    # reserving over it takes it away; a handler has none
+    desk.put("f", b"\xFF\xFF\xE2\x02\xE3\x02\x00\x2E" + bytes.fromhex("FE FF 01 80 00 00 01 00"))
+    same(desk.answer(ACCEPTED, "sdx", "f", "--low", "$02E3", "--high", "$02E4")["init"], None, "init that was reserved over")
+    desk.put("f", bytes.fromhex("01 04 E2 02 00 2E 0B 00 00 00"))
+    same(desk.answer(ACCEPTED, "acx", "f", "--form", "device")["init"], None, "init of a handler")

@@ -1,0 +1,77 @@
+#include "explain.h"
+#include "files.h"
+#include "text.h"
+
+bool is_of_call(uint32_t number)
+{
+    return number == TKW_WRONG_BUFFER || number == TKW_SETTING_OUT_OF_RANGE || number == TKW_FILE_TOO_LONG;
+}
+
+/* All lengths are right but perhaps that of the list of names. */
+static void explain_buffers(FILE *stream, const struct options *options, const struct buffers *buffers)
+{
+    if (buffers->known.listed <= TKW_KNOWN_MOST)
+        return;
+    fputs("--names: ", stream);
+    print_subject(stream, shown_name(options->names));
+    fprintf(stream, " has %zu names; at most %d\n", buffers->known.listed, TKW_KNOWN_MOST);
+}
+
+static void explain_settings(FILE *stream, const struct options *options)
+{
+    struct setting settings[SETTINGS_MOST];
+    size_t count = list_settings(options, settings);
+    for (size_t i = 0; i < count; i++)
+        if (settings[i].value > settings[i].most)
+            fprintf(stream, "%s is %u; 0 to %u\n", settings[i].option, settings[i].value, settings[i].most);
+    if (options->command == COMMAND_SDX && options->low.value <= 65535 && options->low.value > options->high.value)
+        fprintf(stream, "--low is %u; 0 to %u, which is --high\n", options->low.value, options->high.value);
+}
+
+/* A file of the other kind, or of the other form, shows itself by its first word; only where it is refused for its opening. */
+static void explain_opening(FILE *stream, const struct options *options, const struct buffers *buffers)
+{
+    uint32_t word = buffers->file_length < 2 ? 0 : read_word(buffers->file);
+    bool sdx = options->command == COMMAND_SDX;
+    if (word == 0xFFF0 && sdx)
+        fputs("it opens F0 FF, as an ACX handler does: 'tekoweapa acx' was meant?\n", stream);
+    else if (word == 0xFFF0)
+        fputs("it opens F0 FF, as disk form does: '--form disk' was meant?\n", stream);
+    else if (word >= 0xFFFA && !sdx)
+        fputs("it opens as an SDX program does: 'tekoweapa sdx' was meant?\n", stream);
+    else if (!sdx && buffers->file_length >= 2 && buffers->file[0] <= 0x0B)
+        fputs("it opens as device form may: '--form device' was meant?\n", stream);
+}
+
+/* A block of type FFFB has its name behind the type. */
+static void explain_name(FILE *stream, const struct options *options, const struct buffers *buffers, size_t offset)
+{
+    fputs("the name is ", stream);
+    print_name(stream, buffers->file + offset + 2, HEX_ESCAPE);
+    fputs(options->names == NULL ? "; --names lends none\n" : "; it is neither in the --names list nor defined before\n", stream);
+}
+
+void explain_refusal(FILE *stream, const struct options *options, const struct buffers *buffers, const struct answer *answer)
+{
+    switch (answer->number) {
+    case TKW_WRONG_BUFFER:
+        explain_buffers(stream, options, buffers);
+        break;
+    case TKW_SETTING_OUT_OF_RANGE:
+        explain_settings(stream, options);
+        break;
+    case TKW_FILE_TOO_LONG:
+        fprintf(stream, "the file has more than %d bytes\n", TKW_FILE_MOST);
+        break;
+    case TKW_WRONG_OPENING:
+        explain_opening(stream, options, buffers);
+        break;
+    case TKW_NOT_KNOWN:
+        if (answer->offset == 0)
+            explain_opening(stream, options, buffers);
+        break;
+    case TKW_NAME_UNKNOWN:
+        explain_name(stream, options, buffers, answer->offset);
+        break;
+    }
+}

@@ -1,0 +1,15 @@
+/* What is wrong, in the terms of the command line, where a number alone leaves people guessing. */
+#ifndef EXPLAIN_H
+#define EXPLAIN_H
+
+#include "buffers.h"
+
+#include <stdio.h>
+
+/* Whether a refusal is one of a call, before the file is looked at, and not one of a place in the file. */
+bool is_of_call(uint32_t number);
+
+/* Prints a line or more on a refusal, or nothing where there is no more to say. */
+void explain_refusal(FILE *stream, const struct options *options, const struct buffers *buffers, const struct answer *answer);
+
+#endif

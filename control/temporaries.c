@@ -1,0 +1,119 @@
+#define _XOPEN_SOURCE 700
+
+#include "temporaries.h"
+
+#include <errno.h>
+#include <fcntl.h>
+#include <signal.h>
+#include <stddef.h>
+#include <stdio.h>
+#include <stdlib.h>
+#include <string.h>
+#include <unistd.h>
+
+static const int SIGNALS[] = {SIGINT, SIGTERM, SIGHUP};
+
+enum { SIGNAL_COUNT = sizeof SIGNALS / sizeof SIGNALS[0], TEMPORARIES_MOST = 8 };
+
+/* The names of the files that are there. A signal's handler can be told them in no other way. Changed only while the signals are held. */
+static const char *volatile names[TEMPORARIES_MOST];
+
+static sigset_t watched_signals(void)
+{
+    sigset_t set;
+    sigemptyset(&set);
+    for (size_t i = 0; i < SIGNAL_COUNT; i++)
+        sigaddset(&set, SIGNALS[i]);
+    return set;
+}
+
+/* Removes the files, and lets the signal do what it would have done: by now it has its default action again. */
+static void end_by_signal(int number)
+{
+    for (size_t i = 0; i < TEMPORARIES_MOST; i++)
+        if (names[i] != NULL)
+            unlink(names[i]);
+    raise(number);
+}
+
+bool watch_signals(void)
+{
+    struct sigaction action = {.sa_handler = end_by_signal, .sa_mask = watched_signals(), .sa_flags = SA_RESETHAND};
+    for (size_t i = 0; i < SIGNAL_COUNT; i++) {
+        struct sigaction former;
+        if (sigaction(SIGNALS[i], NULL, &former) != 0)
+            return false;
+        if (former.sa_handler != SIG_IGN && sigaction(SIGNALS[i], &action, NULL) != 0)
+            return false;
+    }
+    return true;
+}
+
+void hold_signals(void)
+{
+    sigset_t set = watched_signals();
+    sigprocmask(SIG_BLOCK, &set, NULL);
+}
+
+void release_signals(void)
+{
+    sigset_t set = watched_signals();
+    sigprocmask(SIG_UNBLOCK, &set, NULL);
+}
+
+/* Puts a name in the place of another, or of none. */
+static void replace_name(const char *former, const char *name)
+{
+    size_t i = 0;
+    while (i < TEMPORARIES_MOST && names[i] != former)
+        i++;
+    if (i < TEMPORARIES_MOST)
+        names[i] = name;
+}
+
+void forget_temporary(const char *name)
+{
+    if (name != NULL)
+        replace_name(name, NULL);
+}
+
+char *name_beside(const char *target, unsigned turn)
+{
+    size_t directory = (size_t)(strrchr(target, '/') - target) + 1;
+    size_t room = directory + 64;
+    char *name = malloc(room);
+    if (name != NULL)
+        snprintf(name, room, "%.*s.tekoweapa-%ld-%u", (int)directory, target, (long)getpid(), turn);
+    return name;
+}
+
+/* Makes the file and notes its name, both or none. */
+static int open_new(const char *name)
+{
+    hold_signals();
+    int file = open(name, O_WRONLY | O_CREAT | O_EXCL, 0666);
+    int error = errno;
+    if (file >= 0)
+        replace_name(NULL, name);
+    release_signals();
+    errno = error;
+    return file;
+}
+
+int open_temporary(const char *target, char **name)
+{
+    for (unsigned turn = 0; turn < TURNS_MOST; turn++) {
+        char *candidate = name_beside(target, turn);
+        int file = candidate == NULL ? -1 : open_new(candidate);
+        if (file >= 0) {
+            *name = candidate;
+            return file;
+        }
+        int error = errno;
+        free(candidate);
+        errno = error;
+        if (error != EEXIST)
+            return -1;
+    }
+    return -1;
+}

@@ -1,0 +1,27 @@
+/* Temporary files, which must not be left behind, whatever ends the program: SIGINT, SIGTERM and SIGHUP remove them first. */
+#ifndef TEMPORARIES_H
+#define TEMPORARIES_H
+
+#include <stdbool.h>
+
+/* Takes over these signals, but for those that are ignored already, as SIGHUP is under nohup. */
+bool watch_signals(void);
+
+/* Between these two the signals wait, so that what is done in between is done whole. */
+void hold_signals(void);
+void release_signals(void);
+
+/* Makes a file beside the target, with a name that nobody else has, and opens it. The name is the caller's to remove or to forget, and to free.
+ * -1 with errno set if that can't be done. */
+int open_temporary(const char *target, char **name);
+
+/* The file of this name is no longer there, or no longer temporary. Call it with the signals held. */
+void forget_temporary(const char *name);
+
+/* A name beside the target; another one for each turn. NULL if there is no memory. */
+char *name_beside(const char *target, unsigned turn);
+
+/* How many names are tried where others have them. */
+enum { TURNS_MOST = 1000 };
+
+#endif

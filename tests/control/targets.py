@@ -1,0 +1,375 @@
+"""What becomes of the files that outputs are to go to: replaced whole, or as they were."""
+
+import os
+import resource
+import signal
+import socket
+import stat
+import subprocess
+import threading
+import time
+
+from desk import (ACCEPTED, REFUSED, TROUBLE, LOADED, MEMORY, NOBODY, P1, P6, P10, PATTERN, PROGRAM, Failure, Skipped, as_nobody, holds, same,
+                  test, with_bytes)
+
+
+@test
+def outputs_replace_files_whole(desk):
+    desk.put("f", P1)
+    desk.put("out", b"old and longer than new" * 5000)
+    os.chmod(desk.path("out"), 0o640)
+    os.symlink("out", desk.path("link"))
+    desk.text(ACCEPTED, "acx", "f", "--form", "device", "--out", "link", "--fresh")
+    same(desk.get("out"), with_bytes(bytes(MEMORY), (0x2000, b"\x4C\x03\x20")), "the image")
+    same(stat.S_IMODE(os.stat(desk.path("out")).st_mode), 0o640, "permissions")
+    holds(os.path.islink(desk.path("link")), "the link is gone")
+    desk.text(ACCEPTED, "acx", "f", "--form", "device", "--map", "new")
+    mask = os.umask(0)
+    os.umask(mask)
+    same(stat.S_IMODE(os.stat(desk.path("new")).st_mode), 0o666 & ~mask, "permissions of a new file")
+    same(sorted(desk.listing()), ["f", "link", "new", "out"], "files")
+
+
+@test
+def a_file_keeps_its_owner_and_group(desk):
+    if os.geteuid() != 0:
+        raise Skipped("only root can give files away")
+    desk.put("f", P1)
+    desk.put("map", b"old")
+    os.chown(desk.path("map"), NOBODY, 12345)
+    os.chmod(desk.path("map"), 0o664)
+    desk.text(ACCEPTED, "acx", "f", "--form", "device", "--map", "map")
+    kept = os.stat(desk.path("map"))
+    same((kept.st_uid, kept.st_gid, stat.S_IMODE(kept.st_mode), kept.st_size), (NOBODY, 12345, 0o664, MEMORY), "owner, group, permissions")
+
+
+@test
+def a_group_that_cannot_be_kept_gives_no_rights_to_another(desk):
+    more = as_nobody(desk)
+    desk.put("f", P1)
+    os.mkdir(desk.path("own"))
+    os.chown(desk.path("own"), NOBODY, NOBODY)
+    desk.put("own/map", b"old")
+    os.chown(desk.path("own/map"), NOBODY, 12345)
+    os.chmod(desk.path("own/map"), 0o664)
+    desk.text(ACCEPTED, "acx", "f", "--form", "device", "--map", "own/map", **more)
+    kept = os.stat(desk.path("own/map"))
+    same((kept.st_uid, kept.st_gid, stat.S_IMODE(kept.st_mode)), (NOBODY, NOBODY, 0o604), "owner, group, permissions")
+
+
+@test
+def a_read_only_file_is_refused_before_anything_is_loaded(desk):
+    """For root too: who takes all permissions to write from a file means it."""
+    desk.put("f", P1)
+    desk.put("kept", LOADED)
+    for mode in (0o444, 0o400, 0o555, 0):
+        os.chmod(desk.path("kept"), mode)
+        for words in (("--out", "kept", "--fresh"), ("--map", "kept"), ("--picture", "kept"), ("--map", "new", "--picture", "kept")):
+            # a missing FILE would be complained of once it is read
+            error = read_only(desk, "acx", "missing", *words)
+            same(error, "tekoweapa: kept: can't be written: it is read-only\n", f"error with mode {mode:o} and {words}")
+    os.chmod(desk.path("kept"), 0o444)
+    read_only(desk, "acx", "f", "--form", "device", "--memory", "kept", "--out", "kept")
+    read_only(desk, "move", "f", "--form", "device", "--memory", "kept", "--to-main", "1", "--out", "kept")
+
+
+def read_only(desk, *words):
+    """The error of a run that must leave the folder as it was; files without permissions to read are read by root or not at all."""
+    before = sorted(os.listdir(desk.folder)), os.stat(desk.path("kept"))
+    done = desk.run(*words)
+    same((done.returncode, done.stdout), (TROUBLE, b""), f"exit status and output of {words}")
+    same((sorted(os.listdir(desk.folder)), os.stat(desk.path("kept"))), before, f"the folder after {words}")
+    return done.stderr.decode()
+
+
+@test
+def somebody_elses_file_is_refused_with_the_reason(desk):
+    more = as_nobody(desk)
+    desk.put("f", P1)
+    for folder, mode in (("shut", 0o755), ("open", 0o777)):
+        os.mkdir(desk.path(folder))
+        os.chmod(desk.path(folder), mode)
+        for name, permissions in (("theirs", 0o644), ("shared", 0o666)):
+            desk.put(f"{folder}/{name}", b"old")
+            os.chmod(desk.path(f"{folder}/{name}"), permissions)
+    desk.trouble("acx", "f", "--map", "open/theirs", mention="open/theirs: can't be written: Permission denied", **more)
+    desk.trouble("acx", "f", "--map", "shut/theirs", mention="shut/theirs: can't be written: Permission denied", **more)
+    # a file that may be written, in a directory where none can be put beside it
+    for name in ("shared", "new"):
+        desk.trouble("acx", "f", "--map", f"shut/{name}",
+                     mention=f"shut/{name}: can't be written whole: its directory is not writable (Permission denied)", **more)
+    # a sticky directory, where anybody may put files and replace his own
+    os.chmod(desk.path("open"), 0o1777)
+    desk.trouble("acx", "f", "--map", "open/shared", mention="open/shared: can't be replaced: its directory is sticky", **more)
+    desk.text(REFUSED, "acx", "f", "--map", "open/new", **more)
+    desk.text(REFUSED, "acx", "f", "--map", "open/new", **more)
+    os.chmod(desk.path("open"), 0o777)
+    desk.text(REFUSED, "acx", "f", "--map", "open/shared", **more)
+    same(len(desk.get("open/shared")), MEMORY, "a file that anybody may write")
+
+
+@test
+def a_file_with_other_names_is_refused(desk):
+    desk.put("f", P1)
+    desk.put("one", LOADED)
+    os.link(desk.path("one"), desk.path("two"))
+    for name in ("--out", "--map", "--picture"):
+        desk.trouble("acx", "f", "--form", "device", "--memory", "one", name, "two",
+                     mention="would replace" if name != "--out" else "two: can't be replaced: it has other names (hard links)")
+        desk.trouble("acx", "f", "--form", "device", name, "two", *(["--fresh"] if name == "--out" else []),
+                     mention="two: can't be replaced: it has other names (hard links)")
+    same(os.stat(desk.path("one")).st_nlink, 2, "names of the file")
+
+
+@test
+def signals_leave_nothing_behind(desk):
+    """The map is whole in its temporary file, and the picture waits for a reader, when the signal comes."""
+    desk.put("f", P1)
+    os.mkfifo(desk.path("fifo"))
+    before = desk.listing()
+    for number in (signal.SIGINT, signal.SIGTERM, signal.SIGHUP):
+        process = start(desk, "acx", "f", "--form", "device", "--map", "new", "--picture", "fifo")
+        until(lambda: temporaries(desk), "a temporary file")
+        process.send_signal(number)
+        output, errors = process.communicate(timeout=20)
+        same((process.returncode, output, errors), (-number, b"", b""), f"exit status and output with {number.name}")
+        same(desk.listing(), before, f"the folder after {number.name}")
+
+
+@test
+def a_signal_that_is_ignored_stays_ignored(desk):
+    """As SIGHUP is under nohup."""
+    desk.put("f", P1)
+    os.mkfifo(desk.path("fifo"))
+    process = start(desk, "acx", "f", "--form", "device", "--map", "new", "--picture", "fifo",
+                    preexec_fn=lambda: signal.signal(signal.SIGHUP, signal.SIG_IGN))
+    until(lambda: temporaries(desk), "a temporary file")
+    process.send_signal(signal.SIGHUP)
+    desk.get("fifo")
+    output, errors = process.communicate(timeout=20)
+    same((process.returncode, errors), (ACCEPTED, b""), "exit status and errors")
+    same(sorted(desk.listing()), ["f", "fifo", "new"], "files")
+
+
+def start(desk, *words, **more):
+    """A run that the test goes on beside."""
+    return subprocess.Popen([PROGRAM, *words], cwd=desk.folder, stdin=subprocess.DEVNULL, stdout=subprocess.PIPE, stderr=subprocess.PIPE, **more)
+
+
+def temporaries(desk):
+    return [name for name in os.listdir(desk.folder) if name.startswith(".tekoweapa-")]
+
+
+def until(condition, what):
+    """Waits for it, for ten seconds at most."""
+    for _ in range(1000):
+        if condition():
+            return
+        time.sleep(0.01)
+    raise Failure(f"{what} did not come")
+
+
+@test
+def an_image_may_be_renewed_in_place(desk):
+    desk.put("f", P1)
+    desk.put("image", PATTERN)
+    desk.text(ACCEPTED, "acx", "f", "--form", "device", "--memory", "image", "--out", "image")
+    same(desk.get("image"), with_bytes(PATTERN, (0x2000, b"\x4C\x03\x20")), "the image")
+    same(sorted(desk.listing()), ["f", "image"], "files")
+
+
+@test
+def no_output_replaces_what_is_read(desk):
+    desk.put("f", P6)
+    desk.put("image", PATTERN)
+    desk.put("names", b"")
+    os.link(desk.path("f"), desk.path("other"))
+    for name in ("--out", "--map", "--picture"):
+        desk.trouble("sdx", "f", name, "./f", mention="would replace")
+        desk.trouble("sdx", "f", name, "other", mention="would replace")
+        desk.trouble("sdx", "f", "--names", "names", name, "names", mention="would replace")
+        if name != "--out":
+            desk.trouble("sdx", "f", "--memory", "image", name, "image", mention="would replace")
+
+
+@test
+def two_outputs_may_not_share_a_path(desk):
+    desk.put("f", P1)
+    desk.put("there", b"old")
+    os.symlink("there", desk.path("link"))
+    os.mkdir(desk.path("folder"))
+    os.mkfifo(desk.path("fifo"))
+    os.link(desk.path("fifo"), desk.path("pipe"))
+    for one, other in (("new", "new"), ("new", "./new"), ("folder/../new", "new"), ("there", "link"), (desk.path("new"), "new"),
+                       ("fifo", "fifo"), ("fifo", "./fifo"), ("fifo", "pipe"), ("/dev/null", "/dev/../dev/null")):
+        for first, second in (("--out", "--map"), ("--map", "--picture"), ("--out", "--picture")):
+            desk.trouble("acx", "f", "--form", "device", first, one, second, other, *(["--fresh"] if first == "--out" else []),
+                         mention="is named for two outputs")
+
+
+@test
+def two_names_of_one_device_are_one_target(desk):
+    try:
+        os.mknod(desk.path("null"), stat.S_IFCHR | 0o666, os.makedev(1, 3))
+    except OSError as error:
+        raise Skipped(f"no device can be made: {error.strerror}")
+    desk.put("f", P1)
+    desk.trouble("acx", "f", "--form", "device", "--out", "null", "--map", "/dev/null", mention="is named for two outputs")
+    desk.text(ACCEPTED, "acx", "f", "--form", "device", "--out", "null")
+
+
+@test
+def an_output_that_cannot_be_a_file_is_an_error(desk):
+    desk.put("f", P1)
+    desk.put("there", b"old")
+    os.mkdir(desk.path("folder"))
+    os.symlink("nowhere", desk.path("link"))
+    for target, cause in (("folder", "is a directory"), ("folder/", "names no file"), ("", "names no file"), (".", "is a directory"),
+                          ("missing/new", "No such file"), ("f/new", "Not a directory"), ("link", "leads nowhere"),
+                          ("n" * 300, "too long"), ("/proc/new", "can't be written")):
+        for name in ("--out", "--map", "--picture"):
+            other = "--map" if name == "--out" else "--out"
+            desk.trouble("acx", "f", "--form", "device", name, target, other, "there", "--fresh", mention=cause)
+            desk.trouble("acx", "f", "--form", "device", name, target, other, "new", "--json", mention=target)
+
+
+def limited(length):
+    """For a process whose files can't grow beyond this length: a disk that fills up."""
+    def limit():
+        signal.signal(signal.SIGXFSZ, signal.SIG_IGN)
+        resource.setrlimit(resource.RLIMIT_FSIZE, (length, length))
+    return limit
+
+
+@test
+def a_full_disk_leaves_every_target_as_it_was(desk):
+    desk.put("f", P1)
+    desk.put("old", b"old")
+    words = ("acx", "f", "--form", "device", "--fresh")
+    for length in (0, 1, 4096, 65535):
+        for name in ("--out", "--map", "--picture"):
+            desk.trouble(*words, name, "old", mention="old: can't be written", preexec_fn=limited(length))
+            desk.trouble(*words, name, "new", mention="new: can't be written", preexec_fn=limited(length))
+    # image and map are whole when the picture, which is longer, no longer fits
+    desk.text(ACCEPTED, *words, "--picture", "picture")
+    whole = len(desk.get("picture"))
+    holds(whole > MEMORY, "the picture is not longer than the image")
+    os.remove(desk.path("picture"))
+    for length in (MEMORY, (MEMORY + whole) // 2, whole - 1):
+        desk.trouble(*words, "--out", "old", "--map", "new", "--picture", "picture", mention="picture: can't be written",
+                     preexec_fn=limited(length))
+    done = desk.run(*words, "--out", "old", "--map", "new", "--picture", "picture", preexec_fn=limited(whole))
+    same(done.returncode, ACCEPTED, "exit status where everything just fits")
+    same(sorted(desk.listing()), ["f", "new", "old", "picture"], "files")
+
+
+@test
+def a_full_disk_does_not_end_the_program_by_a_signal(desk):
+    desk.put("f", P1)
+    limit = lambda: (signal.signal(signal.SIGXFSZ, signal.SIG_DFL), resource.setrlimit(resource.RLIMIT_FSIZE, (10, 10)))
+    desk.trouble("acx", "f", "--form", "device", "--out", "new", mention="new: can't be written", preexec_fn=limit)
+
+
+@test
+def a_reader_that_leaves_is_an_error(desk):
+    desk.put("f", P1)
+    desk.put("old", b"old")
+    words = ("acx", "f", "--form", "device")
+    os.mkfifo(desk.path("fifo"))
+    reader = threading.Thread(daemon=True, target=lambda: open(desk.path("fifo"), "rb", buffering=0).close())
+    reader.start()
+    done = desk.run(*words, "--out", "old", "--fresh", "--picture", "fifo")
+    reader.join(20)
+    same((done.returncode, done.stdout), (TROUBLE, b""), "exit status and output with the FIFO")
+    holds(done.stderr.startswith(b"tekoweapa: fifo: can't be written"), f"error with the FIFO: {done.stderr}")
+    same((sorted(desk.listing()), desk.get("old")), (["f", "fifo", "old"], b"old"), "files")
+
+
+@test
+def an_error_of_a_device_is_an_error(desk):
+    """A device like /dev/full, but the test's own."""
+    try:
+        os.mknod(desk.path("full"), stat.S_IFCHR | 0o666, os.makedev(1, 7))
+        open(desk.path("full"), "rb").close()
+    except OSError as error:
+        raise Skipped(f"no device can be made: {error.strerror}")
+    desk.put("f", P1)
+    desk.put("old", b"old")
+    words = ("acx", "f", "--form", "device")
+    for name in ("--out", "--map", "--picture"):
+        other = "--map" if name == "--out" else "--out"
+        for target in ("old", "new"):
+            desk.trouble(*words, name, "full", other, target, "--fresh", mention="full: can't be written: No space")
+
+
+@test
+def what_is_no_regular_file_is_written_directly(desk):
+    desk.put("f", P1)
+    os.mkfifo(desk.path("fifo"))
+    got = []
+    reader = threading.Thread(daemon=True, target=lambda: got.append(desk.get("fifo")))
+    reader.start()
+    desk.text(ACCEPTED, "acx", "f", "--form", "device", "--map", "fifo")
+    reader.join(20)
+    same(got, [with_bytes(bytes(MEMORY), (0x2000, b"\x01\x03\x03"))], "what came through the FIFO")
+    holds(stat.S_ISFIFO(os.stat(desk.path("fifo")).st_mode), "the FIFO is gone")
+    # a device that is no file, a pipe or a character device
+    socket.socket(socket.AF_UNIX).bind(desk.path("socket"))
+    desk.trouble("acx", "f", "--map", "socket", mention="socket: can't be written: is neither a file nor a pipe nor a character device")
+
+
+@test
+def standard_output_is_no_target(desk):
+    """A file, a pipe, or a device: image and report would be mixed."""
+    desk.put("f", P1)
+    with open(desk.path("report"), "wb") as report:
+        for path in ("report", "/proc/self/fd/1"):
+            desk.trouble("acx", "f", "--form", "device", "--out", path, "--fresh", stdout=report,
+                         mention=f"{path}: can't be written: standard output goes there")
+    for name in ("--out", "--map", "--picture"):
+        desk.trouble("acx", "f", "--form", "device", name, "/proc/self/fd/1", mention="standard output goes there")
+        with open("/dev/null", "wb") as device:
+            desk.trouble("acx", "f", "--form", "device", name, "/dev/null", stdout=device, mention="standard output goes there")
+
+
+@test
+def an_error_on_standard_output_is_an_error(desk):
+    desk.put("f", P1)
+    desk.put("g", P10)
+    desk.put("old", b"old")
+    with open("/dev/full", "wb") as full:
+        desk.trouble("--help", mention="standard output", stdout=full)
+        for words in (["f"], ["f", "--json"], ["f", "--dump"], ["g"], ["g", "--json"]):
+            desk.trouble("acx", *words, "--form", "device", "--out", "old", "--fresh", "--map", "new", mention="standard output: can't be written",
+                         stdout=full)
+    desk.trouble("acx", "f", "--form", "device", "--out", "old", "--fresh", "--map", "new", mention="standard output", preexec_fn=lambda: os.close(1))
+
+
+@test
+def a_closed_pipe_is_an_error(desk):
+    desk.put("f", bytes.fromhex("FF FF 00 00 F8 FF") + bytes(65529))
+    desk.put("old", b"old")
+    for words in ([], ["--dump"], ["--json"]):
+        reader, writer = os.pipe()
+        os.close(reader)
+        desk.trouble("sdx", "f", *words, "--out", "old", "--fresh", "--map", "new", mention="standard output", stdout=writer)
+        os.close(writer)
+
+
+@test
+def a_failed_rename_is_taken_back(desk):
+    """The image and the map are whole in their temporary files, and the picture waits for a reader, when a directory takes the map's place."""
+    desk.put("f", P1)
+    for image in ("old", "new"):
+        desk.put("old", b"old")
+        os.mkfifo(desk.path("fifo"))
+        process = start(desk, "acx", "f", "--form", "device", "--out", image, "--fresh", "--map", "map", "--picture", "fifo")
+        until(lambda: len(temporaries(desk)) == 2, "the temporary files")
+        os.mkdir(desk.path("map"))
+        desk.get("fifo")
+        output, errors = process.communicate(timeout=20)
+        # the report is out by then
+        same((process.returncode, errors), (TROUBLE, b"tekoweapa: map: can't be written: Is a directory\n"), f"exit status and error with {image}")
+        same((desk.listing(), os.listdir(desk.path("map"))), ({"f": P1, "fifo": stat.S_IFIFO, "old": b"old"}, []), f"the folder with {image}")
+        os.rmdir(desk.path("map"))
+        os.remove(desk.path("fifo"))
