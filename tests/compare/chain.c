@@ -1,6 +1,7 @@
-/* Chains of moves of one handler. Beside the comparison of every call, a chain is held to document 01's words on lists of moves: what
- * stands at the handler's places after it is what one move from A to Z leaves there, and what a fresh load at Z leaves if the handler was
- * as loaded at A; an address that is a place at none of the bases reached is as before. */
+/* Chains of moves of one handler. Beside the comparison of every call, all that a chain leaves is held to document 01's formulas, which
+ * are kept going from memory before it (formulas.h). A chain without live changes is held to the document's words on lists of moves as
+ * well: what stands at the handler's places after it is what one move from A to Z leaves there, and what a fresh load at Z leaves if the
+ * handler was as loaded at A; an address that is a place at none of the bases reached is as before. */
 #include "random_cases.h"
 
 #include "make.h"
@@ -9,19 +10,21 @@
 #include <stdlib.h>
 #include <string.h>
 
-enum { MOVES_MOST = 6, ADDRESSES = 65536 };
+enum { MOVES_MOST = 6 };
 
 struct chain {
     struct driver *driver;
     struct rng *rng;
     struct making making;
     struct reach reach;
-    uint32_t first_main, first_zero; /* A */
+    struct made made;       /* the handler */
+    struct base_pair first; /* A */
     bool as_loaded;
     bool quiet; /* live data is left alone, so that the chain can be held against one move */
     bool moved;
     uint8_t before[ADDRESSES]; /* memory before the chain */
     uint8_t after[ADDRESSES];  /* memory after its last call */
+    uint8_t expected[ADDRESSES]; /* memory by the formulas, from the one before the chain */
     uint8_t map[ADDRESSES];    /* the map and the answer of the last accepted call */
     uint8_t answer[36];
     uint8_t reached[ADDRESSES]; /* the places at the bases reached */
@@ -33,7 +36,80 @@ static void take_memory(struct chain *chain)
     memcpy(chain->driver->request.buffers[MEMORY].bytes, left_in(chain->driver, MEMORY), ADDRESSES);
 }
 
-/* The handler is loaded at A; false if it is not accepted there, or if the calls differ. */
+/* The bases where the handler is, and those where the next move takes it. */
+static struct base_pair bases_now(const struct chain *chain)
+{
+    const uint32_t *settings = chain->driver->request.settings;
+    return (struct base_pair){settings[MAIN], settings[ZERO]};
+}
+
+static struct base_pair bases_next(const struct chain *chain)
+{
+    const uint32_t *settings = chain->driver->request.settings;
+    return (struct base_pair){settings[NEW_MAIN], settings[NEW_ZERO]};
+}
+
+/* The last call was accepted exactly if the formulas say so. */
+static bool acceptance_by_formulas(const struct chain *chain, bool accepted)
+{
+    if ((answered(chain->driver, AT_NUMBER) == 0) == accepted)
+        return true;
+    complain(chain->driver, accepted ? "refused, against document 01's formulas" : "accepted, against document 01's formulas");
+    return false;
+}
+
+/* The last call was accepted; its answer and map are those of a load at the bases. */
+static bool report_by_formulas(const struct chain *chain, struct base_pair bases)
+{
+    const struct driver *driver = chain->driver;
+    struct made_answer answer = formulas_answer(&chain->made, bases);
+    const uint32_t expected[ANSWER_NUMBERS] = {[AT_START_PRESENT] = answer.start_present, [AT_START] = answer.start,
+                                               [AT_PLACED] = answer.placed, [AT_ADJUSTED] = answer.adjusted};
+    uint8_t map[ADDRESSES];
+    formulas_mark(&chain->made, bases, map);
+    bool good = memcmp(left_in(driver, MAP), map, ADDRESSES) == 0;
+    for (int at = 0; at < ANSWER_NUMBERS; at++)
+        good = good && answered(driver, at) == expected[at];
+    if (!good)
+        complain(driver, "the answer or the map is another by document 01's formulas");
+    return good;
+}
+
+/* Memory after the last call is what the formulas have made, since the list began, of memory before it. */
+static bool memory_by_formulas(const struct chain *chain)
+{
+    const uint8_t *memory = left_in(chain->driver, MEMORY);
+    if (memcmp(memory, chain->expected, ADDRESSES) == 0)
+        return true;
+    uint32_t at = 0;
+    while (memory[at] == chain->expected[at])
+        at++;
+    char what[96];
+    snprintf(what, sizeof what, "memory at %u: the product has %02X, document 01's formulas %02X", at, memory[at], chain->expected[at]);
+    complain(chain->driver, what);
+    return false;
+}
+
+/* The last call was a move from the bases now to the next ones. The formulas make it too, and nothing differs. */
+static bool move_by_formulas(struct chain *chain)
+{
+    struct base_pair old = bases_now(chain), new = bases_next(chain);
+    bool accepted = formulas_accept(&chain->made, old) && formulas_accept(&chain->made, new);
+    if (!acceptance_by_formulas(chain, accepted))
+        return false;
+    if (accepted)
+        formulas_move(&chain->made, old, new, chain->expected);
+    return (!accepted || report_by_formulas(chain, new)) && memory_by_formulas(chain);
+}
+
+/* The last call was the load at A, or at Z. */
+static bool load_by_formulas(const struct chain *chain)
+{
+    bool accepted = chain->driver->request.buffers[FILE_BYTES].length <= 65536 && formulas_accept(&chain->made, bases_now(chain));
+    return acceptance_by_formulas(chain, accepted) && (!accepted || report_by_formulas(chain, bases_now(chain)));
+}
+
+/* The handler is loaded at A; false if it is not accepted there, or if something differs. */
 static bool load_first(struct chain *chain, bool *agreed)
 {
     struct driver *driver = chain->driver;
@@ -41,9 +117,8 @@ static bool load_first(struct chain *chain, bool *agreed)
     prepare(driver, chain->rng, ACX_LOAD);
     chain->reach = make_acx(&chain->making);
     choose_bases(&chain->making, chain->reach, &settings[MAIN], &settings[ZERO]);
-    chain->first_main = settings[MAIN];
-    chain->first_zero = settings[ZERO];
-    *agreed = agree(driver);
+    chain->first = bases_now(chain);
+    *agreed = agree(driver) && load_by_formulas(chain);
     if (!*agreed || answered(driver, AT_NUMBER) != 0)
         return false;
     take_memory(chain);
@@ -52,19 +127,59 @@ static bool load_first(struct chain *chain, bool *agreed)
     if (!chain->as_loaded)
         rng_fill(chain->rng, driver->request.buffers[MEMORY].bytes, ADDRESSES);
     memcpy(chain->before, driver->request.buffers[MEMORY].bytes, ADDRESSES);
+    memcpy(chain->expected, chain->before, ADDRESSES);
     return true;
 }
 
-/* Live data: bytes change, at the handler's places mostly. */
+/* Somebody writes another byte there between two calls. */
+static void change(struct chain *chain, uint32_t address)
+{
+    uint8_t difference = (uint8_t)(1 + rng_below(chain->rng, 255));
+    chain->driver->request.buffers[MEMORY].bytes[address] ^= difference;
+    chain->expected[address] ^= difference;
+}
+
+/* Any byte of a piece of this type, if there is one. */
+static void change_in_piece(struct chain *chain, uint32_t type)
+{
+    const struct made *made = &chain->made;
+    uint32_t first = rng_below(chain->rng, made->piece_count);
+    for (uint32_t i = 0; i < made->piece_count; i++) {
+        const struct made_piece *piece = &made->pieces[(first + i) % made->piece_count];
+        if (piece->type == type && piece->n > 0) {
+            change(chain, formulas_place(piece, bases_now(chain)) + rng_below(chain->rng, piece->n));
+            return;
+        }
+    }
+}
+
+/* A byte of an address field in a piece of this type, if there is one. */
+static void change_in_field(struct chain *chain, uint32_t type)
+{
+    const struct made *made = &chain->made;
+    uint32_t first = rng_below(chain->rng, made->field_count);
+    for (uint32_t i = 0; i < made->field_count; i++) {
+        const struct made_field *field = &made->fields[(first + i) % made->field_count];
+        const struct made_piece *piece = &made->pieces[field->piece];
+        if (piece->type == type) {
+            uint32_t index = field->index + rng_below(chain->rng, formulas_width(field));
+            change(chain, formulas_place(piece, bases_now(chain)) + index);
+            return;
+        }
+    }
+}
+
+/* Live data: bytes change in every kind of piece that the handler has, in its fields too, and now and then anywhere. */
 static void live(struct chain *chain)
 {
-    uint8_t *memory = chain->driver->request.buffers[MEMORY].bytes;
-    for (uint32_t i = rng_below(chain->rng, 20); i > 0; i--) {
-        uint32_t address = chain->driver->request.settings[MAIN] + rng_below(chain->rng, chain->reach.main + 1);
-        if (rng_once_in(chain->rng, 4))
-            address = rng_below(chain->rng, ADDRESSES);
-        memory[address % ADDRESSES] = (uint8_t)rng_below(chain->rng, 256);
+    static const uint32_t types[] = {0x00, 0x0A, 0x01};
+    for (size_t kind = 0; kind < sizeof types / sizeof types[0]; kind++) {
+        change_in_field(chain, types[kind]);
+        for (uint32_t i = 1 + rng_below(chain->rng, 5); i > 0; i--)
+            change_in_piece(chain, types[kind]);
     }
+    if (rng_once_in(chain->rng, 3))
+        change(chain, rng_below(chain->rng, ADDRESSES));
 }
 
 /* A call that is most likely refused: another form, other bases, a wrong length. Memory stays. */
@@ -88,7 +203,7 @@ static bool stray_call(struct chain *chain)
         driver->request.buffers[rng_between(chain->rng, MAP, ANSWER)].length = 35;
         driver->request.settings[NEW_MAIN] = 70000;
     }
-    bool agreed = agree(driver);
+    bool agreed = agree(driver) && memory_by_formulas(chain);
     for (enum buffer buffer = MAP; buffer <= ANSWER; buffer++)
         driver->request.buffers[buffer].length = room_length(buffer);
     memcpy(driver->request.settings, settings, sizeof settings);
@@ -101,7 +216,7 @@ static bool move_on(struct chain *chain)
     struct driver *driver = chain->driver;
     uint32_t *settings = driver->request.settings;
     choose_new_bases(&chain->making, chain->reach);
-    if (!agree(driver))
+    if (!agree(driver) || !move_by_formulas(chain))
         return false;
     take_memory(chain);
     if (answered(driver, AT_NUMBER) != 0)
@@ -143,10 +258,11 @@ static bool one_move_does(struct chain *chain)
     uint32_t *settings = request->settings;
     settings[NEW_MAIN] = settings[MAIN];
     settings[NEW_ZERO] = settings[ZERO];
-    settings[MAIN] = chain->first_main;
-    settings[ZERO] = chain->first_zero;
+    settings[MAIN] = chain->first.main;
+    settings[ZERO] = chain->first.zero;
     memcpy(request->buffers[MEMORY].bytes, chain->before, ADDRESSES);
-    return agree(chain->driver) && chain_equals(chain, "one move from A to Z");
+    memcpy(chain->expected, chain->before, ADDRESSES);
+    return agree(chain->driver) && move_by_formulas(chain) && chain_equals(chain, "one move from A to Z");
 }
 
 /* A fresh load at Z, into any memory. */
@@ -156,7 +272,7 @@ static bool fresh_load_does(struct chain *chain)
     request->call = ACX_LOAD;
     request->settings[MAIN] = request->settings[NEW_MAIN];
     request->settings[ZERO] = request->settings[NEW_ZERO];
-    return agree(chain->driver) && chain_equals(chain, "a fresh load at Z");
+    return agree(chain->driver) && load_by_formulas(chain) && chain_equals(chain, "a fresh load at Z");
 }
 
 /* What document 01 says of a list of moves while nobody else writes memory. */
@@ -200,7 +316,7 @@ bool chain_case(struct driver *driver, struct rng *rng)
     }
     chain->driver = driver;
     chain->rng = rng;
-    chain->making = (struct making){.rng = rng, .request = &driver->request};
+    chain->making = (struct making){.rng = rng, .request = &driver->request, .made = &chain->made};
     chain->quiet = rng_once_in(rng, 2);
     bool good = run_chain(chain);
     free(chain);

@@ -3,12 +3,14 @@
 #define MAKE_H
 
 #include "driver.h"
+#include "formulas.h"
 
 /* Slips come once in so many choices; 0 for none. */
 struct making {
     struct rng *rng;
     struct request *request;
     uint32_t slips_once_in;
+    struct made *made; /* where make_acx takes down what it makes, right where there are no slips; NULL if that is not wanted */
 };
 
 bool slip(const struct making *making);

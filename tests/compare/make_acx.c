@@ -3,11 +3,33 @@
 
 #include <string.h>
 
-enum { PIECES_MOST = 256, CODE_MOST = 253 };
+/* Take down what has been put into the file: a piece, a field of the last piece, the end. */
+static void note_piece(const struct making *making, const struct made_piece *piece)
+{
+    struct made *made = making->made;
+    if (made == NULL)
+        return;
+    made->pieces[made->piece_count] = *piece;
+    made->pieces[made->piece_count++].address %= 65536;
+}
 
-struct made_piece {
-    uint32_t type, address, n;
-};
+static void note_field(const struct making *making, uint32_t type, uint32_t index, uint32_t lsb)
+{
+    struct made *made = making->made;
+    if (made == NULL || made->field_count == FIELDS_MOST)
+        return;
+    struct made_field *field = &made->fields[made->field_count++];
+    *field = (struct made_field){(uint16_t)(made->piece_count - 1), (uint8_t)type, (uint8_t)index, (uint8_t)lsb};
+}
+
+static void note_end(const struct making *making, uint32_t flag, uint32_t address)
+{
+    struct made *made = making->made;
+    if (made == NULL)
+        return;
+    made->start_flag = flag;
+    made->start = address % 65536;
+}
 
 static uint32_t pick(const struct making *making, uint32_t limit)
 {
@@ -70,6 +92,7 @@ static void put_code(const struct making *making, const struct made_piece *piece
     put_byte(making, slip(making) ? pick(making, 256) : piece->n + 2);
     put_word(making, piece->address);
     put_random(making, piece->n);
+    note_piece(making, piece);
 }
 
 static bool is_free(const struct made_piece *piece, const bool used[CODE_MOST + 1], uint32_t index, uint32_t width)
@@ -89,8 +112,10 @@ static void put_item(const struct making *making, const struct made_piece *piece
     else if (!is_free(piece, used, index, width))
         return;
     put_byte(making, index);
+    uint32_t lsb = type >= 8 ? pick(making, 256) : 0;
     if (type >= 8)
-        put_byte(making, pick(making, 256));
+        put_byte(making, lsb);
+    note_field(making, type, index, lsb);
     if (index < CODE_MOST)
         used[index] = used[index + width - 1] = true;
 }
@@ -129,6 +154,7 @@ static void put_end(const struct making *making, struct reach reach)
     put_byte(making, 0x0B);
     put_byte(making, flag);
     put_word(making, address);
+    note_end(making, flag, address);
     if (slip(making))
         put_random(making, 1 + pick(making, 4));
 }
@@ -144,6 +170,8 @@ struct reach make_acx(const struct making *making)
     if (rng_once_in(making->rng, 2))
         shuffle(making, pieces, count);
 
+    if (making->made != NULL)
+        making->made->piece_count = making->made->field_count = 0;
     making->request->buffers[FILE_BYTES].length = 0;
     making->request->settings[FORM] = rng_once_in(making->rng, 2) ? 0 : 1;
     if (making->request->settings[FORM] == 0)
