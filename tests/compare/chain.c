@@ -22,12 +22,12 @@ struct chain {
     bool as_loaded;
     bool quiet; /* live data is left alone, so that the chain can be held against one move */
     bool moved;
-    uint8_t before[ADDRESSES]; /* memory before the chain */
-    uint8_t after[ADDRESSES];  /* memory after its last call */
-    uint8_t expected[ADDRESSES]; /* memory by the formulas, from the one before the chain */
-    uint8_t map[ADDRESSES];    /* the map and the answer of the last accepted call */
+    uint8_t before[ADDRESSES];   /* memory before the chain */
+    uint8_t after[ADDRESSES];    /* memory after its last call */
+    uint8_t expected[ADDRESSES]; /* memory before the chain with the formulas applied for each accepted move, and live changes */
+    uint8_t map[ADDRESSES];      /* the map and the answer of the last accepted call */
     uint8_t answer[36];
-    uint8_t reached[ADDRESSES]; /* the places at the bases reached */
+    uint8_t reached[ADDRESSES];  /* the places at the bases reached */
 };
 
 /* The next call gets memory as the last one left it. */
@@ -102,7 +102,7 @@ static bool move_by_formulas(struct chain *chain)
     return (!accepted || report_by_formulas(chain, new)) && memory_by_formulas(chain);
 }
 
-/* The last call was the load at A, or at Z. */
+/* The last call was the load at A, or at Z. A large handler may make a "file longer than 65,536". */
 static bool load_by_formulas(const struct chain *chain)
 {
     bool accepted = chain->driver->request.buffers[FILE_BYTES].length <= 65536 && formulas_accept(&chain->made, bases_now(chain));

@@ -30,8 +30,8 @@ static uint32_t amount(const struct made_field *field, struct base_pair bases)
 
 static bool share_an_address(const struct made_piece *one, const struct made_piece *other, struct base_pair bases)
 {
-    uint32_t first = formulas_place(one, bases), second = formulas_place(other, bases);
-    return one->n > 0 && other->n > 0 && first < second + other->n && second < first + one->n;
+    uint32_t here = formulas_place(one, bases), there = formulas_place(other, bases);
+    return one->n > 0 && other->n > 0 && here < there + other->n && there < here + one->n;
 }
 
 /* "Place + n <= 65,536, for 0A <= 256 (10); no address already placed (17)." */
