@@ -7,8 +7,8 @@
 
 enum { EXIT_ACCEPTED = 0, EXIT_REFUSED = 1, EXIT_TROUBLE = 2 };
 
-/* Prints `tekoweapa: SUBJECT: what is wrong` on standard error; a subject that can't be shown as it is stands in quotes. Always false, so that
- * a caller can return it. */
+/* Prints `tekoweapa: SUBJECT: what is wrong` on standard error; a subject that can't be shown as it is stands in quotes. Always false, so
+ * that a caller can return it. */
 bool complain(const char *subject, const char *what, ...) __attribute__((format(printf, 2, 3)));
 
 /* The same for a line of a file. */

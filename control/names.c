@@ -74,8 +74,8 @@ static bool take_name(struct line *line, uint8_t name[TKW_NAME_LENGTH])
         return complain_of_line(line->path, line->number, "the quote behind the name is missing");
     line->at++;
     return count == TKW_NAME_LENGTH
-        || complain_of_line(line->path, line->number, "the name has %zu byte%s; names have %d, a shorter one is filled up with blanks", count,
-                            count == 1 ? "" : "s", TKW_NAME_LENGTH);
+        || complain_of_line(line->path, line->number, "the name has %zu byte%s; names have %d, a shorter one is filled up with blanks",
+                            count, count == 1 ? "" : "s", TKW_NAME_LENGTH);
 }
 
 /* Takes the address behind a name. False after a complaint. */

@@ -98,7 +98,7 @@ static bool rename_all(struct output *outputs, size_t count)
     return true;
 }
 
-/* Sends the new name to the disk too. Where the directory can't be opened, or the file system can't be asked for that, there is no way to. */
+/* Sends the new name to the disk too, where that can be asked for: the directory can be opened, and its file system knows how. */
 static bool sync_directory(const struct output *output)
 {
     char *directory = strndup(output->target, (size_t)(strrchr(output->target, '/') - output->target) + 1);

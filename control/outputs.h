@@ -1,7 +1,7 @@
 /* Output files that appear whole or not at all.
  *
- * Each is written to a temporary file beside its target; only when all are whole are they renamed, and if a rename fails, the ones before it
- * are taken back. A pipe or a device is written directly. A file that can't be replaced whole is refused before anything is done. */
+ * Each is written to a temporary file beside its target; only when all are whole are they renamed, and if that fails, the ones renamed are
+ * taken back. A pipe or a device is written directly. A file that can't be replaced whole is refused before anything is done. */
 #ifndef OUTPUTS_H
 #define OUTPUTS_H
 

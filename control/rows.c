@@ -8,8 +8,8 @@ enum { ROW = 16, WIDTH = 3 * ROW + 2 };
 static const char DIGITS[] = "0123456789ABCDEF";
 static const char END[] = "[end]";
 
-/* Prints a row. Brackets around the byte at `marked` stand in the gaps, so that rows stay in line; behind the last byte they mark the end of
- * the file. A place further on is in another row, and is not marked. */
+/* Prints a row. Brackets around the byte at `marked` stand in the gaps, so that rows stay in line; behind the last byte they mark the end
+ * of the file. A place further on is in another row, and is not marked. */
 static void print_row(FILE *stream, size_t address, const uint8_t *bytes, size_t count, size_t marked)
 {
     char row[WIDTH + 1];

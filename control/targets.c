@@ -56,8 +56,8 @@ static char *absolute_path(const char *path)
     return absolute;
 }
 
-/* A file that is there is replaced, so it is asked itself whether it may be written: the rename would ask its directory alone. Who has taken
- * all permissions to write from a file means it, even where root could write it. A replacement would part a file from its other names. */
+/* A file that is there is replaced, so it is asked itself whether it may be written: the rename would ask its directory alone. Who has
+ * taken all permissions to write from a file means it, even where root could write it. A replacement would part it from its other names. */
 static bool check_replaceable(const struct output *output)
 {
     if ((output->former.st_mode & 0222) == 0)
@@ -73,7 +73,8 @@ static bool check_replaceable(const struct output *output)
 static bool is_bound_by_sticky(const struct output *output, const struct stat *directory)
 {
     uid_t user = geteuid();
-    return output->present && (directory->st_mode & S_ISVTX) != 0 && user != 0 && user != directory->st_uid && user != output->former.st_uid;
+    bool owner = user == 0 || user == directory->st_uid || user == output->former.st_uid;
+    return output->present && (directory->st_mode & S_ISVTX) != 0 && !owner;
 }
 
 /* A file is written beside its target first, so that it appears whole; for that its directory has to be writable. */
@@ -86,7 +87,8 @@ static bool check_directory(const struct output *output)
     free(directory);
     if (!writable)
         return complain(output->path, "can't be written whole: its directory is not writable (%s)", strerror(error));
-    return !is_bound_by_sticky(output, &entry) || complain(output->path, "can't be replaced: its directory is sticky, and the file is somebody else's");
+    return !is_bound_by_sticky(output, &entry)
+        || complain(output->path, "can't be replaced: its directory is sticky, and the file is somebody else's");
 }
 
 /* Finds the target of an output that is there: the file itself, should the path be a link to it; none if it is a pipe or a device. */

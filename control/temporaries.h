@@ -11,8 +11,8 @@ bool watch_signals(void);
 void hold_signals(void);
 void release_signals(void);
 
-/* Makes a file beside the target, with a name that nobody else has, and opens it. The name is the caller's to remove or to forget, and to free.
- * -1 with errno set if that can't be done. */
+/* Makes a file beside the target, with a name that nobody else has, and opens it. The name is the caller's to remove or to forget, and to
+ * free. -1 with errno set if that can't be done. */
 int open_temporary(const char *target, char **name);
 
 /* The file of this name is no longer there, or no longer temporary. Call it with the signals held. */

@@ -182,7 +182,7 @@ static void live(struct chain *chain)
         change(chain, rng_below(chain->rng, ADDRESSES));
 }
 
-/* A call that is most likely refused: another form, other bases, a wrong length. Memory stays. */
+/* A call that is refused: another form, other bases, a wrong length. Memory stays. */
 static bool stray_call(struct chain *chain)
 {
     struct driver *driver = chain->driver;

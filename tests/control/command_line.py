@@ -221,13 +221,14 @@ def a_scale_has_a_range_and_a_picture(desk):
 def a_name_that_cannot_be_shown_stands_in_quotes(desk):
     desk.put("f", P1)
     desk.put("\xE4 \u20AC \U0001F600", P1[:3])
-    for name, shown in (("", '""'), ("a\nb", '"a\\x0Ab"'), ("\x1B[2J", '"\\x1B[2J"'), ("tab\t\x7F", '"tab\\x09\\x7F"'), ('\n"\\', '"\\x0A\\"\\\\"'),
+    for name, shown in (("", '""'), ("a\nb", '"a\\x0Ab"'), ("\x1B[2J", '"\\x1B[2J"'), ("tab\t\x7F", '"tab\\x09\\x7F"'),
+                        ('\n"\\', '"\\x0A\\"\\\\"'),
                         ("\xE4 \u20AC \U0001F601", "\xE4 \u20AC \U0001F601"), ("\x85", '"\\xC2\\x85"'), ("a b", "a b"),
                         (b"\xFF\xE4", '"\\xFF\\xE4"'), (b"\xC0\x80", '"\\xC0\\x80"'), (b"\xED\xA0\x80", '"\\xED\\xA0\\x80"'),
                         (b"\xF4\x90\x80\x80", '"\\xF4\\x90\\x80\\x80"'), (b"\xE2\x82", '"\\xE2\\x82"')):
         desk.trouble("acx", name, "--form", "device", mention=f"tekoweapa: {shown}: can't be read: ")
         desk.trouble("acx", "f", "--memory", name, mention=f"tekoweapa: {shown}: can't be read: ")
         if name:
-            holds(b"\n" not in desk.run(name).stderr.split(b": unknown command\n")[0], "an unknown command breaks the line")
+            same(desk.trouble(name, mention=f"tekoweapa: {shown}: unknown command").count("\n"), 1, "lines")
     error = desk.trouble("acx", "f", "--out", "", mention='tekoweapa: "": can\'t be written: names no file')
     same(error.count("\n"), 1, "lines")

@@ -95,8 +95,8 @@ def holds(truth, what):
 
 
 def as_nobody(desk):
-    """What makes a run of the program one of a user without rights, for whom the folder's files are as for anybody; a copy of the program goes
-    along, since such a user may not reach it where it was built. Only root can set that up."""
+    """What makes a run of the program one of a user without rights. A copy of the program goes along, since such a user may not reach it
+    where it was built. Only root can set that up."""
     if os.geteuid() != 0:
         raise Skipped("only root can run the program as somebody else")
     program = desk.path("program")
@@ -104,6 +104,15 @@ def as_nobody(desk):
     os.chmod(program, 0o755)
     os.chmod(desk.folder, 0o755)
     return {"program": program, "preexec_fn": lambda: (os.setgroups([]), os.setgid(NOBODY), os.setuid(NOBODY))}
+
+
+def make_device(desk, name, minor):
+    """Makes a device of the test's own: 3 is like /dev/null, 7 like /dev/full."""
+    try:
+        os.mknod(desk.path(name), stat.S_IFCHR | 0o666, os.makedev(1, minor))
+        open(desk.path(name), "rb").close()
+    except OSError as error:
+        raise Skipped(f"no device can be made: {error.strerror}")
 
 
 # An image in which no byte is what it should be by chance.

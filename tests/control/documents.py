@@ -22,7 +22,8 @@ def the_example_in_the_readme_compiles_and_prints_what_it_says(desk):
     (command,) = [block for block in readme_blocks("") if block.startswith("gcc ")]
     command, printed = re.fullmatch(r"(.*?) *# (.*)\n", command).groups()
     desk.put("example.c", source.encode())
-    command = command.replace("-Iinclude", f"-I{ROOT}/include").replace("build/", f"{BUILD}/").replace("gcc", "gcc -Wall -Wextra -Werror", 1)
+    command = command.replace("-Iinclude", f"-I{ROOT}/include").replace("build/", f"{BUILD}/")
+    command = command.replace("gcc", "gcc -Wall -Wextra -Werror", 1)
     done = subprocess.run(["sh", "-c", command], cwd=desk.folder, capture_output=True, timeout=60)
     same((done.returncode, done.stdout.decode(), done.stderr), (0, printed + "\n", b""), command)
 

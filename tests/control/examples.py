@@ -81,10 +81,11 @@ def every_cut_of_an_example_is_refused(desk):
             desk.put("f", file[:length])
             done = desk.run(command, "f", *more, "--json", "--memory", "before", "--out", "after")
             # an SDX file has no end record: cut between two blocks it is whole
-            holds(done.returncode == REFUSED or (command == "sdx" and done.returncode == ACCEPTED), f"{name} cut to {length}: {done.returncode}")
+            status, cut = done.returncode, f"{name} cut to {length}"
+            holds(status == REFUSED or (command == "sdx" and status == ACCEPTED), f"{cut}: {status}")
             answer = json.loads(done.stdout)
-            if done.returncode == REFUSED:
-                same((answer["number"], answer["offset"] <= length, desk.get("after") == PATTERN), (5, True, True), f"{name} cut to {length}")
+            if status == REFUSED:
+                same((answer["number"], answer["offset"] <= length, desk.get("after") == PATTERN), (5, True, True), cut)
 
 
 @test

@@ -74,31 +74,39 @@ def of_equal_names_the_last_holds(desk):
     same(desk.get("image")[0x600], 3, "the word")
 
 
+BEGINNING = "should begin with a name in double quotes"
+ESCAPE = "in a name, a backslash begins one of"
+LENGTH = "the name has {}; names have 8, a shorter one is filled up with blanks"
+QUOTE = "the quote behind the name is missing"
+BLANK = "a blank should stand between the name and its address"
+ADDRESS = "the address behind the name is missing"
+NUMBER = "the address is no number"
+RANGE = "the address is {}; 0 to 65535"
+BEHIND = "behind the address only a comment may stand"
+
+WRONG_LINES = (
+    (b"NONAMES! 1", BEGINNING), (b"'SINGLEQU' 1", BEGINNING), (b"7", BEGINNING), (b"\x00", BEGINNING), (b"\xEF\xBB", BEGINNING),
+    (b'"BACK\\SLA" 1', ESCAPE), (b'"\\x1" 1', ESCAPE), (b'"\\xGG" 1', ESCAPE), (b'"\\', ESCAPE), (b'"\\x4', ESCAPE),
+    (b'"" 1', LENGTH.format("0 bytes")), (b'"1" 1', LENGTH.format("1 byte")), (b'"SEVENCH" 1', LENGTH.format("7 bytes")),
+    (b'"NINECHARS" 1', LENGTH.format("9 bytes")), ('"\xC4PFEL   " 1'.encode(), LENGTH.format("9 bytes")),
+    (b'"UNCLOSED 1', QUOTE), (b'"', QUOTE), (b'"EIGHTCHR', QUOTE), (b'"EIGHTCH\\" 1', QUOTE),
+    (b'"EIGHTCHR"1', BLANK), (b'"EIGHTCHR","OTHER" 1', BLANK),
+    (b'"EIGHTCHR"', ADDRESS), (b'"EIGHTCHR" ', ADDRESS), (b'"EIGHTCHR" # 1', ADDRESS), (b'"EIGHTCHR"\r', ADDRESS),
+    (b'"EIGHTCHR" x', NUMBER), (b'"EIGHTCHR" -1', NUMBER), (b'"EIGHTCHR" 1\x00', NUMBER), (b'"EIGHTCHR" 4294967296', NUMBER),
+    (b'"EIGHTCHR" 65536', RANGE.format(65536)), (b'"EIGHTCHR" $FFFFFFFF', RANGE.format(4294967295)),
+    (b'"EIGHTCHR" 1 2', BEHIND), (b'"EIGHTCHR" 1 "# late', BEHIND),
+)
+
+
 @test
 def a_wrong_line_of_names_is_an_error(desk):
     desk.put("f", P6)
     good = b'"GOODNAME" 1\n# comment\n\n'
-    quotes, behind = "should begin with a name in double quotes", "behind the address only a comment may stand"
-    length = "the name has {}; names have 8, a shorter one is filled up with blanks"
-    for line, cause in ((b"NONAMES! 1", quotes), (b"'SINGLEQU' 1", quotes), (b"7", quotes), (b"\x00", quotes), (b"\xEF\xBB", quotes),
-                        (b'"SEVENCH" 1', length.format("7 bytes")), (b'"NINECHARS" 1', length.format("9 bytes")),
-                        (b'"" 1', length.format("0 bytes")), (b'"1" 1', length.format("1 byte")), ('"\xC4PFEL   " 1'.encode(), length.format("9 bytes")),
-                        (b'"UNCLOSED 1', "the quote behind the name is missing"), (b'"', "the quote behind the name is missing"),
-                        (b'"EIGHTCHR', "the quote behind the name is missing"), (b'"EIGHTCH\\" 1', "the quote behind the name is missing"),
-                        (b'"BACK\\SLA" 1', "a backslash begins"), (b'"\\x1" 1', "a backslash begins"), (b'"\\xGG" 1', "a backslash begins"),
-                        (b'"\\', "a backslash begins"), (b'"\\x4', "a backslash begins"),
-                        (b'"EIGHTCHR"', "the address behind the name is missing"), (b'"EIGHTCHR" ', "the address behind the name is missing"),
-                        (b'"EIGHTCHR" # 1', "the address behind the name is missing"),
-                        (b'"EIGHTCHR" x', "the address is no number"), (b'"EIGHTCHR" -1', "the address is no number"),
-                        (b'"EIGHTCHR" 1\x00', "the address is no number"), (b'"EIGHTCHR" 4294967296', "the address is no number"),
-                        (b'"EIGHTCHR" 65536', "the address is 65536; 0 to 65535"), (b'"EIGHTCHR" $10000', "the address is 65536; 0 to 65535"),
-                        (b'"EIGHTCHR" 1 2', behind), (b'"EIGHTCHR" 1 "# late', behind),
-                        (b'"EIGHTCHR"1', "a blank should stand between"), (b'"EIGHTCHR","OTHER" 1', "a blank should stand between")):
-        desk.put("names", good + line)
-        desk.trouble("sdx", "f", "--names", "names", "--out", "new", mention=f"names: line 4: {cause}" if "begins" not in cause else cause)
-        desk.put("names", line + b"\n" + good)
-        error = desk.trouble("sdx", "f", "--names", "names", "--out", "new", mention="names: line 1: ")
-        holds(cause in error and error.count("\n") == 1, f"error of {line}: {error}")
+    for line, cause in WRONG_LINES:
+        for number, text in ((4, good + line), (1, line + b"\n" + good)):
+            desk.put("names", text)
+            error = desk.trouble("sdx", "f", "--names", "names", "--out", "new", mention=f"names: line {number}: {cause}")
+            same(error.count("\n"), 1, f"lines of the error of {line}")
     desk.put("names", b"#" * (1 << 20) + b"\n")
     desk.trouble("sdx", "f", "--names", "names", mention="names: is longer than")
 

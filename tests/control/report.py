@@ -142,8 +142,8 @@ def json_has_all_members_in_order(desk):
     opening = f'{{"version":"{version}","command":"acx","file":"f","settings":{{"form":"device","main":8192,"zero":128}},'
     desk.put("f", P1)
     same(desk.text(ACCEPTED, "acx", "f", "--form", "device", "--json"),
-         opening + '"number":0,"meaning":"accepted","offset":null,"side":null,"start":8192,"init":null,"placed":3,"adjusted":1,"new_names":[],'
-         '"low":null,"ranges":[{"from":8192,"to":8192,"mark":1,"meaning":"placed","length":1},'
+         opening + '"number":0,"meaning":"accepted","offset":null,"side":null,"start":8192,"init":null,"placed":3,"adjusted":1,'
+         '"new_names":[],"low":null,"ranges":[{"from":8192,"to":8192,"mark":1,"meaning":"placed","length":1},'
          '{"from":8193,"to":8194,"mark":3,"meaning":"adjusted","length":2}]}\n', "acceptance")
     desk.put("f", P9)
     same(desk.text(REFUSED, "acx", "f", "--form", "device", "--json"),
@@ -251,32 +251,43 @@ def every_refusal_has_its_number_and_meaning(desk):
         same(len(re.findall(r"\[" + marked + r"\]", rows)), 1, f"marks of refusal {number}")
 
 
+MOVE = ("move", "f", "--form", "device", "--memory", "image")
+WRONG_SETTINGS = (
+    (("acx", "f", "--zero", "256"), ["--zero is 256; 0 to 255"]),
+    (("acx", "f", "--main", "65536"), ["--main is 65536; 0 to 65535"]),
+    (("acx", "f", "--main", "4294967295", "--zero", "$FFFF"), ["--main is 4294967295; 0 to 65535", "--zero is 65535; 0 to 255"]),
+    (("sdx", "s", "--high", "65536"), ["--high is 65536; 0 to 65535"]),
+    (("sdx", "s", "--low", "5", "--high", "4"), ["--low is 5; 0 to 4, which is --high"]),
+    (("sdx", "s", "--low", "39937"), ["--low is 39937; 0 to 39936, which is --high"]),
+    (("sdx", "s", "--low", "65536", "--high", "65536"), ["--low is 65536; 0 to 65535", "--high is 65536; 0 to 65535"]),
+    ((*MOVE, "--from-main", "65536", "--to-main", "1"), ["--from-main is 65536; 0 to 65535"]),
+    ((*MOVE, "--from-zero", "256", "--to-zero", "1"), ["--from-zero is 256; 0 to 255"]),
+    ((*MOVE, "--to-main", "65536"), ["--to-main is 65536; 0 to 65535"]),
+    ((*MOVE, "--to-zero", "256"), ["--to-zero is 256; 0 to 255"]),
+)
+
+
 @test
-def a_refused_call_says_which_setting_or_list_is_wrong(desk):
+def a_refused_call_says_which_setting_is_wrong(desk):
     desk.put("f", P1)
     desk.put("s", P6)
     desk.put("image", LOADED)
-    desk.put("long", b"".join(b'"NAME%04d" 1\n' % i for i in range(300)))
-    move = ("move", "f", "--form", "device", "--memory", "image")
-    for words, lines in ((("acx", "f", "--zero", "256"), ["--zero is 256; 0 to 255"]),
-                         (("acx", "f", "--main", "65536"), ["--main is 65536; 0 to 65535"]),
-                         (("acx", "f", "--main", "4294967295", "--zero", "$FFFF"), ["--main is 4294967295; 0 to 65535", "--zero is 65535; 0 to 255"]),
-                         (("sdx", "s", "--high", "65536"), ["--high is 65536; 0 to 65535"]),
-                         (("sdx", "s", "--low", "5", "--high", "4"), ["--low is 5; 0 to 4, which is --high"]),
-                         (("sdx", "s", "--low", "39937"), ["--low is 39937; 0 to 39936, which is --high"]),
-                         (("sdx", "s", "--low", "65536", "--high", "65536"), ["--low is 65536; 0 to 65535", "--high is 65536; 0 to 65535"]),
-                         ((*move, "--from-main", "65536", "--to-main", "1"), ["--from-main is 65536; 0 to 65535"]),
-                         ((*move, "--from-zero", "256", "--to-zero", "1"), ["--from-zero is 256; 0 to 255"]),
-                         ((*move, "--to-main", "65536"), ["--to-main is 65536; 0 to 65535"]),
-                         ((*move, "--to-zero", "256"), ["--to-zero is 256; 0 to 255"])):
+    for words, lines in WRONG_SETTINGS:
         same(desk.text(REFUSED, *words).splitlines(), [f"refused with 2: {MEANINGS[2]}"] + lines, f"report of {words}")
         answer = desk.answer(REFUSED, *words)
         side = None if words[0] != "move" else int(lines[0].startswith("--to"))
         same((answer["number"], answer["offset"], answer["side"]), (2, 0, side), f"answer of {words}")
+
+
+@test
+def a_refused_call_says_what_is_too_long(desk):
+    desk.put("s", P6)
+    desk.put("long", b"".join(b'"NAME%04d" 1\n' % i for i in range(300)))
     same(desk.text(REFUSED, "sdx", "s", "--names", "long").splitlines(),
          [f"refused with 1: {MEANINGS[1]}", "--names: long has 300 names; at most 256"], "a list too long")
     desk.put("f", bytes(65537))
-    same(desk.text(REFUSED, "acx", "f").splitlines(), [f"refused with 3: {MEANINGS[3]}", "the file has more than 65536 bytes"], "a file too long")
+    same(desk.text(REFUSED, "acx", "f").splitlines(), [f"refused with 3: {MEANINGS[3]}", "the file has more than 65536 bytes"],
+         "a file too long")
 
 
 @test
@@ -313,26 +324,26 @@ def a_file_of_another_kind_says_which_command_was_meant(desk):
 def a_program_with_many_fields_has_a_short_report(desk):
     """A byte that is placed after every word that is adjusted: 10,500 of them."""
     words = 10500
+    last = 0x1000 + 3 * words - 1
     body = b"\xFD\x00\x10" + b"\x03" * (words - 1) + b"\xFC"
-    desk.put("f", bytes.fromhex("FF FF 00 10") + (0x1000 + 3 * words - 1).to_bytes(2, "little") + bytes(3 * words)
+    desk.put("f", bytes.fromhex("FF FF 00 10") + last.to_bytes(2, "little") + bytes(3 * words)
              + bytes.fromhex("FE FF 01 80 00 00 01 00 FD FF 01 00 00") + body)
-    lines = desk.text(ACCEPTED, "sdx", "f", "--low", "$F000", "--high", "$FFFF").splitlines()
-    same(lines[lines.index("map"):],
-         ["map", f"  $1000-${0x1000 + 3 * words - 1:04X}  loaded     {3 * words} bytes, {2 * words} adjusted", "  $F000-$F000  reserved   1 byte"],
-         "map")
-    same(len(desk.text(ACCEPTED, "sdx", "f", "--low", "$F000", "--high", "$FFFF", "--ranges").splitlines()), len(lines) - 1 + 2 * words,
-         "lines with --ranges")
-    same(len(desk.answer(ACCEPTED, "sdx", "f", "--low", "$F000", "--high", "$FFFF")["ranges"]), 2 * words + 1, "ranges in JSON")
-    same(desk.text(ACCEPTED, "sdx", "f", "--low", "$F000", "--high", "$FFFF", "--quiet"), "accepted\n", "--quiet")
+    command = ("sdx", "f", "--low", "$F000", "--high", "$FFFF")
+    lines = desk.text(ACCEPTED, *command).splitlines()
+    same(lines[lines.index("map") + 1:],
+         [f"  $1000-${last:04X}  loaded     {3 * words} bytes, {2 * words} adjusted", "  $F000-$F000  reserved   1 byte"], "map")
+    same(len(desk.text(ACCEPTED, *command, "--ranges").splitlines()), len(lines) - 1 + 2 * words, "lines with --ranges")
+    same(len(desk.answer(ACCEPTED, *command)["ranges"]), 2 * words + 1, "ranges in JSON")
+    same(desk.text(ACCEPTED, *command, "--quiet"), "accepted\n", "--quiet")
 
 
 @test
 def an_init_address_is_shown_and_not_run(desk):
-    for start, data, line, init in ((0x02E2, b"\x00\x2E", "init       $2E00 (not run)", 0x2E00), (0x02E0, b"\x00\x06\x07\x00", "init       $0007 (not run)", 7),
-                                    (0x02E2, b"\x00", None, None), (0x02E3, b"\x2E", None, None), (0x02E0, b"\x00\x06", None, None)):
+    for start, data, init in ((0x02E2, b"\x00\x2E", 0x2E00), (0x02E0, b"\x00\x06\x07\x00", 7), (0x02E2, b"\x00", None),
+                              (0x02E3, b"\x2E", None), (0x02E0, b"\x00\x06", None)):
         desk.put("f", b"\xFF\xFF" + start.to_bytes(2, "little") + (start + len(data) - 1).to_bytes(2, "little") + data)
         lines = [text for text in desk.text(ACCEPTED, "sdx", "f").splitlines() if text.startswith("init")]
-        same(lines, [] if line is None else [line], f"init with {data} at {start:04X}")
+        same(lines, [] if init is None else [f"init       ${init:04X} (not run)"], f"init with {data} at {start:04X}")
         same(desk.answer(ACCEPTED, "sdx", "f")["init"], init, f"init in JSON with {data} at {start:04X}")
     # reserving over it takes it away; a handler has none
     desk.put("f", b"\xFF\xFF\xE2\x02\xE3\x02\x00\x2E" + bytes.fromhex("FE FF 01 80 00 00 01 00"))

@@ -1,5 +1,6 @@
 """What becomes of the files that outputs are to go to: replaced whole, or as they were."""
 
+import errno
 import os
 import resource
 import signal
@@ -9,8 +10,27 @@ import subprocess
 import threading
 import time
 
-from desk import (ACCEPTED, REFUSED, TROUBLE, LOADED, MEMORY, NOBODY, P1, P6, P10, PATTERN, PROGRAM, Failure, Skipped, as_nobody, holds, same,
-                  test, with_bytes)
+from desk import (ACCEPTED, REFUSED, TROUBLE, LOADED, MEMORY, NOBODY, P1, P6, P10, PATTERN, PROGRAM, Failure, Skipped, as_nobody, holds,
+                  make_device, same, test, with_bytes)
+
+
+def start(desk, *words, **more):
+    """A run that the test goes on beside."""
+    return subprocess.Popen([PROGRAM, *words], cwd=desk.folder, stdin=subprocess.DEVNULL, stdout=subprocess.PIPE, stderr=subprocess.PIPE,
+                            **more)
+
+
+def temporaries(desk):
+    return [name for name in os.listdir(desk.folder) if name.startswith(".tekoweapa-")]
+
+
+def until(condition, what):
+    """Waits for it, for ten seconds at most."""
+    for _ in range(1000):
+        if condition():
+            return
+        time.sleep(0.01)
+    raise Failure(f"{what} did not come")
 
 
 @test
@@ -62,24 +82,14 @@ def a_read_only_file_is_refused_before_anything_is_loaded(desk):
     """For root too: who takes all permissions to write from a file means it."""
     desk.put("f", P1)
     desk.put("kept", LOADED)
-    for mode in (0o444, 0o400, 0o555, 0):
+    for mode in (0o444, 0o555):
         os.chmod(desk.path("kept"), mode)
         for words in (("--out", "kept", "--fresh"), ("--map", "kept"), ("--picture", "kept"), ("--map", "new", "--picture", "kept")):
-            # a missing FILE would be complained of once it is read
-            error = read_only(desk, "acx", "missing", *words)
-            same(error, "tekoweapa: kept: can't be written: it is read-only\n", f"error with mode {mode:o} and {words}")
-    os.chmod(desk.path("kept"), 0o444)
-    read_only(desk, "acx", "f", "--form", "device", "--memory", "kept", "--out", "kept")
-    read_only(desk, "move", "f", "--form", "device", "--memory", "kept", "--to-main", "1", "--out", "kept")
-
-
-def read_only(desk, *words):
-    """The error of a run that must leave the folder as it was; files without permissions to read are read by root or not at all."""
-    before = sorted(os.listdir(desk.folder)), os.stat(desk.path("kept"))
-    done = desk.run(*words)
-    same((done.returncode, done.stdout), (TROUBLE, b""), f"exit status and output of {words}")
-    same((sorted(os.listdir(desk.folder)), os.stat(desk.path("kept"))), before, f"the folder after {words}")
-    return done.stderr.decode()
+            # FILE is missing, and would be complained of if it was read before
+            desk.trouble("acx", "missing", *words, mention="kept: can't be written: it is read-only")
+        desk.trouble("acx", "f", "--memory", "kept", "--out", "kept", mention="kept: can't be written: it is read-only")
+        desk.trouble("move", "f", "--memory", "kept", "--to-main", "1", "--out", "kept", mention="kept: can't be written: it is read-only")
+        same(stat.S_IMODE(os.stat(desk.path("kept")).st_mode), mode, "permissions")
 
 
 @test
@@ -151,24 +161,6 @@ def a_signal_that_is_ignored_stays_ignored(desk):
     same(sorted(desk.listing()), ["f", "fifo", "new"], "files")
 
 
-def start(desk, *words, **more):
-    """A run that the test goes on beside."""
-    return subprocess.Popen([PROGRAM, *words], cwd=desk.folder, stdin=subprocess.DEVNULL, stdout=subprocess.PIPE, stderr=subprocess.PIPE, **more)
-
-
-def temporaries(desk):
-    return [name for name in os.listdir(desk.folder) if name.startswith(".tekoweapa-")]
-
-
-def until(condition, what):
-    """Waits for it, for ten seconds at most."""
-    for _ in range(1000):
-        if condition():
-            return
-        time.sleep(0.01)
-    raise Failure(f"{what} did not come")
-
-
 @test
 def an_image_may_be_renewed_in_place(desk):
     desk.put("f", P1)
@@ -201,7 +193,7 @@ def two_outputs_may_not_share_a_path(desk):
     os.mkfifo(desk.path("fifo"))
     os.link(desk.path("fifo"), desk.path("pipe"))
     for one, other in (("new", "new"), ("new", "./new"), ("folder/../new", "new"), ("there", "link"), (desk.path("new"), "new"),
-                       ("fifo", "fifo"), ("fifo", "./fifo"), ("fifo", "pipe"), ("/dev/null", "/dev/../dev/null")):
+                       ("fifo", "fifo"), ("fifo", "./fifo"), ("fifo", "pipe")):
         for first, second in (("--out", "--map"), ("--map", "--picture"), ("--out", "--picture")):
             desk.trouble("acx", "f", "--form", "device", first, one, second, other, *(["--fresh"] if first == "--out" else []),
                          mention="is named for two outputs")
@@ -209,13 +201,14 @@ def two_outputs_may_not_share_a_path(desk):
 
 @test
 def two_names_of_one_device_are_one_target(desk):
-    try:
-        os.mknod(desk.path("null"), stat.S_IFCHR | 0o666, os.makedev(1, 3))
-    except OSError as error:
-        raise Skipped(f"no device can be made: {error.strerror}")
+    make_device(desk, "null", 3)
+    make_device(desk, "other", 3)
     desk.put("f", P1)
-    desk.trouble("acx", "f", "--form", "device", "--out", "null", "--map", "/dev/null", mention="is named for two outputs")
+    desk.trouble("acx", "f", "--form", "device", "--out", "null", "--map", "other", mention="is named for two outputs")
     desk.text(ACCEPTED, "acx", "f", "--form", "device", "--out", "null")
+    with open(desk.path("null"), "wb") as report:
+        for name in ("null", "other"):
+            desk.trouble("acx", "f", "--form", "device", "--out", name, stdout=report, mention="standard output goes there")
 
 
 @test
@@ -288,11 +281,7 @@ def a_reader_that_leaves_is_an_error(desk):
 @test
 def an_error_of_a_device_is_an_error(desk):
     """A device like /dev/full, but the test's own."""
-    try:
-        os.mknod(desk.path("full"), stat.S_IFCHR | 0o666, os.makedev(1, 7))
-        open(desk.path("full"), "rb").close()
-    except OSError as error:
-        raise Skipped(f"no device can be made: {error.strerror}")
+    make_device(desk, "full", 7)
     desk.put("f", P1)
     desk.put("old", b"old")
     words = ("acx", "f", "--form", "device")
@@ -320,7 +309,7 @@ def what_is_no_regular_file_is_written_directly(desk):
 
 @test
 def standard_output_is_no_target(desk):
-    """A file, a pipe, or a device: image and report would be mixed."""
+    """A file or a pipe: image and report would be mixed."""
     desk.put("f", P1)
     with open(desk.path("report"), "wb") as report:
         for path in ("report", "/proc/self/fd/1"):
@@ -328,8 +317,6 @@ def standard_output_is_no_target(desk):
                          mention=f"{path}: can't be written: standard output goes there")
     for name in ("--out", "--map", "--picture"):
         desk.trouble("acx", "f", "--form", "device", name, "/proc/self/fd/1", mention="standard output goes there")
-        with open("/dev/null", "wb") as device:
-            desk.trouble("acx", "f", "--form", "device", name, "/dev/null", stdout=device, mention="standard output goes there")
 
 
 @test
@@ -340,9 +327,10 @@ def an_error_on_standard_output_is_an_error(desk):
     with open("/dev/full", "wb") as full:
         desk.trouble("--help", mention="standard output", stdout=full)
         for words in (["f"], ["f", "--json"], ["f", "--dump"], ["g"], ["g", "--json"]):
-            desk.trouble("acx", *words, "--form", "device", "--out", "old", "--fresh", "--map", "new", mention="standard output: can't be written",
-                         stdout=full)
-    desk.trouble("acx", "f", "--form", "device", "--out", "old", "--fresh", "--map", "new", mention="standard output", preexec_fn=lambda: os.close(1))
+            desk.trouble("acx", *words, "--form", "device", "--out", "old", "--fresh", "--map", "new",
+                         mention="standard output: can't be written", stdout=full)
+    desk.trouble("acx", "f", "--form", "device", "--out", "old", "--fresh", "--map", "new", mention="standard output",
+                 preexec_fn=lambda: os.close(1))
 
 
 @test
@@ -358,7 +346,7 @@ def a_closed_pipe_is_an_error(desk):
 
 @test
 def a_failed_rename_is_taken_back(desk):
-    """The image and the map are whole in their temporary files, and the picture waits for a reader, when a directory takes the map's place."""
+    """Image and map are whole in their temporary files, and the picture waits for a reader, when a directory takes the map's place."""
     desk.put("f", P1)
     for image in ("old", "new"):
         desk.put("old", b"old")
@@ -369,7 +357,38 @@ def a_failed_rename_is_taken_back(desk):
         desk.get("fifo")
         output, errors = process.communicate(timeout=20)
         # the report is out by then
-        same((process.returncode, errors), (TROUBLE, b"tekoweapa: map: can't be written: Is a directory\n"), f"exit status and error with {image}")
-        same((desk.listing(), os.listdir(desk.path("map"))), ({"f": P1, "fifo": stat.S_IFIFO, "old": b"old"}, []), f"the folder with {image}")
+        same((process.returncode, errors), (TROUBLE, b"tekoweapa: map: can't be written: Is a directory\n"), f"exit status with {image}")
+        same(desk.listing(), {"f": P1, "fifo": stat.S_IFIFO, "old": b"old"}, f"the folder with {image}")
         os.rmdir(desk.path("map"))
         os.remove(desk.path("fifo"))
+
+
+@test
+def the_directory_is_synced_after_the_renames(desk):
+    """A library that is loaded before the program's own lets the sync of a directory fail: what was renamed by then is taken back."""
+    desk.put("sync.c", b"""
+        #define _XOPEN_SOURCE 700
+        #include <errno.h>
+        #include <stdlib.h>
+        #include <sys/stat.h>
+        int fsync(int file)
+        {
+            struct stat entry;
+            if (fstat(file, &entry) != 0 || !S_ISDIR(entry.st_mode))
+                return 0;
+            errno = atoi(getenv("SYNC_ERROR"));
+            return -1;
+        }
+    """)
+    subprocess.run(["gcc", "-shared", "-fPIC", "-o", "sync.so", "sync.c"], cwd=desk.folder, check=True, timeout=60)
+    desk.put("f", P1)
+    desk.put("old", b"old")
+    words = ("acx", "f", "--form", "device", "--out", "old", "--fresh", "--map", "new")
+    before = desk.listing()
+    failing = lambda error: dict(os.environ, LD_PRELOAD=desk.path("sync.so"), SYNC_ERROR=str(error))
+    done = desk.run(*words, env=failing(errno.EIO))
+    same((done.returncode, done.stderr), (TROUBLE, b"tekoweapa: old: can't be written: Input/output error\n"), "exit status and error")
+    same(desk.listing(), before, "the folder")
+    # a file system that can't be asked for it is none to complain of
+    same(desk.run(*words, env=failing(errno.EINVAL)).returncode, ACCEPTED, "exit status where a directory can't be synced")
+    same((len(desk.get("old")), len(desk.get("new"))), (MEMORY, MEMORY), "lengths")

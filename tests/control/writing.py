@@ -23,9 +23,9 @@ def an_image_that_is_there_is_not_begun_anew(desk):
     clock = f"{EXAMPLES}/clock.acx"
     desk.put("heat.img", LOADED)
     desk.put("s", P6)
-    for words in (("acx", clock), ("acx", clock, "--main", "100"), ("acx", clock, "--main", "65536"), ("sdx", "s"), ("acx", clock, "--json")):
-        desk.trouble(*words, "--out", "heat.img", "--map", "map", mention="heat.img: is there already; give it with --memory to load into it, "
-                     "or --fresh to begin with zeros")
+    sentence = "heat.img: is there already; give it with --memory to load into it, or --fresh to begin with zeros"
+    for words in (("acx", clock), ("acx", clock, "--main", "100"), ("acx", clock, "--zero", "256"), ("acx", clock, "--json"), ("sdx", "s")):
+        desk.trouble(*words, "--out", "heat.img", "--map", "map", mention=sentence)
     desk.text(ACCEPTED, "sdx", "s", "--out", "heat.img", "--fresh")
     same(desk.get("heat.img"), with_bytes(bytes(MEMORY), (0x1F00, b"\x4C\x00\x1F")), "the image with --fresh")
     desk.text(ACCEPTED, "sdx", "s", "--out", "other.img", "--fresh")
