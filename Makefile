@@ -18,6 +18,10 @@ PICTURE := docs/map.png
 LIBRARY := build/libtekoweapa.a
 RATTLE := $(shell find crates -name '*.rt' -o -name '*.antt')
 
+# rt works in one target/ folder, so no two rules that run it may run at the same time.
+.NOTPARALLEL:
+# A library cut short by a full disk must not pass for a new one.
+.DELETE_ON_ERROR:
 .PHONY: demo test lib control c-tests fuzz bench picture proofs sizes times clean
 
 demo: build/tekoweapa
@@ -30,7 +34,7 @@ lib: $(LIBRARY)
 
 control: build/tekoweapa
 
-c-tests:
+c-tests: build/compare build/tekoweapa
 	@bash tests/run
 
 fuzz: build/compare
@@ -56,13 +60,8 @@ times:
 clean:
 	rm -rf build
 
-# Every function behind it is proved before it is built: minutes from nothing, seconds where nothing has changed. (The first command proves
-# crates side by side, the second one after the other.)
 $(LIBRARY): $(RATTLE) crates.txt
-	@mkdir -p build
-	@echo "proving the crates and building $@ (log: build/library.log)"
-	@{ rt check tkw && rt staticlib tkw; } >build/library.log 2>&1 || { tail -n 40 build/library.log; exit 1; }
-	@cp target/staticlib/libtkw.a $@
+	@bash build-library $@
 
 build/tekoweapa: $(wildcard control/*) include/tekoweapa.h $(LIBRARY)
 	$(CC) $(CFLAGS) -Iinclude control/*.c $(LIBRARY) -o $@

@@ -1,4 +1,4 @@
-"""Tests of the control program: python3 tests/control [BUILD_DIR [WORD]]
+"""Tests of the control program, its examples and the build: python3 tests/control [BUILD_DIR [WORD]]
 
 With a WORD, only tests whose names contain it are run. Each test has a folder of its own, and names no target outside it but in /proc, where
 nothing can be replaced: run by root, a faulty program could else replace the machine's own /dev/null. A failed test prints a line, and so does
@@ -23,6 +23,7 @@ import reading
 import writing
 import examples
 import documents
+import build
 
 
 def main():
