@@ -9,6 +9,7 @@
 # make proofs          prove what has changed since the last time, without the must-fail edits
 # make sizes           functions, lines and must-fail edits of each crate: README.md's table, which the gate holds to the sources
 # make times           seconds and memory of each crate's proofs, from nothing
+# make clean           remove build/, and not what is proved
 CC := gcc
 CFLAGS := -std=c11 -O2 -Wall -Wextra -Werror
 SECONDS := 60
@@ -59,6 +60,7 @@ times:
 
 clean:
 	rm -rf build
+	@[ ! -d target ] || echo "target/ stays: what rt has proved and built takes minutes to make again; 'rm -rf target' removes it"
 
 $(LIBRARY): $(RATTLE) crates.txt
 	@bash build-library $@

@@ -29,6 +29,20 @@ def stand_in(desk, name, body):
     os.chmod(desk.path(name), 0o755)
 
 
+@test
+def clean_leaves_what_is_proved_and_says_so(desk):
+    copy(desk, "Makefile")
+    for name in ("build", "target", "crates"):
+        os.mkdir(desk.path(name))
+    desk.put("build/old", b"")
+    desk.put("target/proved", b"")
+    status, text = run(desk.folder, "make", "clean")
+    same((status, os.path.exists(desk.path("build")), os.path.exists(desk.path("target/proved"))), (0, False, True), "exit status and folders")
+    holds("target/ stays" in text and "'rm -rf target'" in text, f"clean says {text!r}")
+    shutil.rmtree(desk.path("target"))
+    same(run(desk.folder, "make", "clean"), (0, "rm -rf build\n"), "what clean says where nothing is left")
+
+
 # What rt prints in place of this, and how each of its calls ends, is for a test to say.
 RT = """echo "$*" >>calls
 case $1 in
