@@ -10,8 +10,13 @@
 # make sizes           functions, lines and must-fail edits of each crate: README.md's table, which the gate holds to the sources
 # make times           seconds and memory of each crate's proofs, from nothing
 # make clean           remove build/, and not what is proved
+#
+# CC and CFLAGS may be given, in the environment too. The gate adds -Werror: what another compiler warns of need not stop a build.
+ifeq ($(origin CC),default)
 CC := gcc
-CFLAGS := -std=c11 -O2 -Wall -Wextra -Werror
+endif
+CFLAGS ?= -O2
+COMPILE = $(CC) -std=c11 -Wall -Wextra $(GATE_FLAGS) $(CFLAGS)
 SECONDS := 60
 PROGRAM := build/tekoweapa
 PICTURE := docs/map.png
@@ -35,7 +40,7 @@ lib: $(LIBRARY)
 
 control: build/tekoweapa
 
-c-tests: build/compare build/tekoweapa
+c-tests: build/compare build/tekoweapa build/benchmark
 	@bash tests/run
 
 fuzz: build/compare
@@ -66,10 +71,10 @@ $(LIBRARY): $(RATTLE) crates.txt
 	@bash build-library $@
 
 build/tekoweapa: $(wildcard control/*) include/tekoweapa.h $(LIBRARY)
-	$(CC) $(CFLAGS) -Iinclude control/*.c $(LIBRARY) -o $@
+	$(COMPILE) -Iinclude control/*.c $(LIBRARY) -o $@
 
 build/compare: $(wildcard tests/compare/* tests/second/*) include/tekoweapa.h $(LIBRARY)
-	$(CC) $(CFLAGS) -Iinclude -Itests/second tests/compare/*.c tests/second/*.c $(LIBRARY) -o $@
+	$(COMPILE) -Iinclude -Itests/second tests/compare/*.c tests/second/*.c $(LIBRARY) -o $@
 
 build/benchmark: $(wildcard benchmark/* tests/second/*) include/tekoweapa.h $(LIBRARY)
-	$(CC) $(CFLAGS) -Iinclude -Itests/second benchmark/*.c tests/second/*.c $(LIBRARY) -o $@
+	$(COMPILE) -Iinclude -Itests/second benchmark/*.c tests/second/*.c $(LIBRARY) -o $@

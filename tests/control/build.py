@@ -1,6 +1,7 @@
 """The build: the Makefile and build-library, in folders of the tests' own, with stand-ins for rt and the compiler, which would take long."""
 
 import os
+import re
 import shutil
 import subprocess
 
@@ -27,6 +28,34 @@ def stand_in(desk, name, body):
     os.makedirs(os.path.dirname(desk.path(name)), exist_ok=True)
     desk.put(name, f"#!/bin/bash\n{body}\n".encode())
     os.chmod(desk.path(name), 0o755)
+
+
+def compile_commands(*words, **variables):
+    """The commands that would build the three programs, by name."""
+    status, text = run(ROOT, "make", "-n", "-B", "build/tekoweapa", "build/compare", "build/benchmark", *words, **variables)
+    commands = {line.split()[-1]: line.split() for line in text.splitlines() if " -o build/" in line}
+    same((status, sorted(commands)), (0, ["build/benchmark", "build/compare", "build/tekoweapa"]), "exit status and programs")
+    for command in commands.values():
+        holds({"-std=c11", "-Wall", "-Wextra"} <= set(command), f"{command} lacks what is always there")
+    return commands.values()
+
+
+@test
+def the_compiler_and_its_flags_may_be_given(desk):
+    for command in compile_commands():
+        same((command[0], "-O2" in command), ("gcc", True), "what is run where nothing is given")
+    for command in (*compile_commands("CC=xyz", "CFLAGS=-O0 -g"), *compile_commands(CC="xyz", CFLAGS="-O0 -g")):
+        same((command[0], {"-O0", "-g"} <= set(command), "-O2" in command), ("xyz", True, False), "what is run")
+
+
+@test
+def only_the_gate_makes_warnings_errors(desk):
+    for command in compile_commands():
+        holds("-Werror" not in command, "-Werror outside the gate")
+    gate = open(os.path.join(ROOT, ".ci", "run"), encoding="utf-8").read()
+    (variable,) = re.findall(r"^export (\w+)=-Werror$", gate, re.M)
+    for command in compile_commands(**{variable: "-Werror"}):
+        holds("-Werror" in command, "no -Werror in the gate")
 
 
 @test
@@ -106,5 +135,5 @@ def everything_is_built_once_and_one_rt_runs_at_a_time(desk):
     status, text = run(desk.folder, "make", "-j2", "proofs", "control", "c-tests", "lib", "times")
     holds(status == 0 and "\n6 passed, 0 failed\n" in text, f"exit status {status} after {text}")
     same(sorted(desk.get("calls").decode().splitlines()),
-         ["build/compare", "build/tekoweapa", "check", "check tkw", "prove", "staticlib tkw"], "what was run")
+         ["build/benchmark", "build/compare", "build/tekoweapa", "check", "check tkw", "prove", "staticlib tkw"], "what was run")
     holds("jobserver" not in text and "warning" not in text, f"make warns: {text}")
