@@ -2,6 +2,7 @@
 
 import os
 import re
+import shlex
 import subprocess
 import zlib
 
@@ -22,7 +23,9 @@ def the_example_in_the_readme_compiles_and_prints_what_it_says(desk):
     (command,) = [block for block in readme_blocks("") if block.startswith("gcc ")]
     command, printed = re.fullmatch(r"(.*?) *# (.*)\n", command).groups()
     desk.put("example.c", source.encode())
-    command = command.replace("-Iinclude", f"-I{ROOT}/include").replace("build/", f"{BUILD}/").replace("gcc", "gcc -Wall -Wextra -Werror", 1)
+    folders = {"include": os.path.join(ROOT, "include"), "build": BUILD}
+    command = re.sub(r"(?<=-I)include\b|\bbuild(?=/)", lambda name: shlex.quote(folders[name[0]]), command)
+    command = command.replace("gcc", "gcc -Wall -Wextra -Werror", 1)
     done = subprocess.run(["sh", "-c", command], cwd=desk.folder, capture_output=True, timeout=60)
     same((done.returncode, done.stdout.decode(), done.stderr), (0, printed + "\n", b""), command)
 
@@ -37,7 +40,9 @@ def the_refusal_in_the_readme_is_printed(desk):
 
 @test
 def the_picture_in_the_documents_is_that_of_the_example(desk):
-    subprocess.run(["make", "-s", "-C", ROOT, f"PICTURE={desk.path('map.png')}", f"PROGRAM={PROGRAM}", "picture"], check=True, timeout=60)
+    # named from the root, since the path to that may have a blank, where make would read two names
+    program = os.path.relpath(PROGRAM, ROOT)
+    subprocess.run(["make", "-s", "-C", ROOT, f"PICTURE={desk.path('map.png')}", f"PROGRAM={program}", "picture"], check=True, timeout=60)
     pixels = lambda png: zlib.decompress(re.search(rb"IDAT(.*)....\0\0\0\0IEND", png, re.S)[1])
     kept = open(os.path.join(ROOT, "docs", "map.png"), "rb").read()
     made = desk.get("map.png")
