@@ -40,8 +40,9 @@ def the_refusal_in_the_readme_is_printed(desk):
 
 @test
 def the_picture_in_the_documents_is_that_of_the_example(desk):
-    # named from the root, since the path to that may have a blank, where make would read two names
-    program = os.path.relpath(PROGRAM, ROOT)
+    # make would read a path with a blank as two names, and build anew a program that it has a rule for
+    program = desk.path("program")
+    os.symlink(PROGRAM, program)
     subprocess.run(["make", "-s", "-C", ROOT, f"PICTURE={desk.path('map.png')}", f"PROGRAM={program}", "picture"], check=True, timeout=60)
     pixels = lambda png: zlib.decompress(re.search(rb"IDAT(.*)....\0\0\0\0IEND", png, re.S)[1])
     kept = open(os.path.join(ROOT, "docs", "map.png"), "rb").read()
