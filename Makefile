@@ -9,8 +9,14 @@
 # make proofs          prove what has changed since the last time, without the must-fail edits
 # make sizes           functions, lines and must-fail edits of each crate: README.md's table, which the gate holds to the sources
 # make times           seconds and memory of each crate's proofs, from nothing
+# make clean           remove build/, and not what is proved
+#
+# CC and CFLAGS may be given, in the environment too. The gate adds -Werror: what another compiler warns of need not stop a build.
+ifeq ($(origin CC),default)
 CC := gcc
-CFLAGS := -std=c11 -O2 -Wall -Wextra -Werror
+endif
+CFLAGS ?= -O2
+COMPILE = $(CC) -std=c11 -Wall -Wextra $(GATE_FLAGS) $(CFLAGS)
 SECONDS := 60
 PROGRAM := build/tekoweapa
 PICTURE := docs/map.png
@@ -18,6 +24,10 @@ PICTURE := docs/map.png
 LIBRARY := build/libtekoweapa.a
 RATTLE := $(shell find crates -name '*.rt' -o -name '*.antt')
 
+# rt works in one target/ folder, so no two rules that run it may run at the same time.
+.NOTPARALLEL:
+# A library cut short by a full disk must not pass for a new one.
+.DELETE_ON_ERROR:
 .PHONY: demo test lib control c-tests fuzz bench picture proofs sizes times clean
 
 demo: build/tekoweapa
@@ -30,7 +40,7 @@ lib: $(LIBRARY)
 
 control: build/tekoweapa
 
-c-tests:
+c-tests: build/compare build/tekoweapa build/benchmark
 	@bash tests/run
 
 fuzz: build/compare
@@ -40,7 +50,7 @@ bench: build/benchmark
 	build/benchmark
 
 picture: $(PROGRAM)
-	$(PROGRAM) sdx examples/score.sdx --names examples/names.txt --picture $(PICTURE) --quiet
+	$(PROGRAM) sdx examples/score.sdx --names examples/names.txt --picture "$(PICTURE)" --quiet
 
 proofs:
 	@rt check
@@ -53,20 +63,16 @@ times:
 
 clean:
 	rm -rf build
+	@[ ! -d target ] || echo "target/ stays: what rt has proved and built takes minutes to make again; 'rm -rf target' removes it"
 
-# Every function behind it is proved before it is built: minutes from nothing, seconds where nothing has changed. (The first command proves
-# crates side by side, the second one after the other.)
 $(LIBRARY): $(RATTLE) crates.txt
-	@mkdir -p build
-	@echo "proving the crates and building $@ (log: build/library.log)"
-	@{ rt check tkw && rt staticlib tkw; } >build/library.log 2>&1 || { tail -n 40 build/library.log; exit 1; }
-	@cp target/staticlib/libtkw.a $@
+	@bash build-library $@
 
 build/tekoweapa: $(wildcard control/*) include/tekoweapa.h $(LIBRARY)
-	$(CC) $(CFLAGS) -Iinclude control/*.c $(LIBRARY) -o $@
+	$(COMPILE) -Iinclude control/*.c $(LIBRARY) -o $@
 
 build/compare: $(wildcard tests/compare/* tests/second/*) include/tekoweapa.h $(LIBRARY)
-	$(CC) $(CFLAGS) -Iinclude -Itests/second tests/compare/*.c tests/second/*.c $(LIBRARY) -o $@
+	$(COMPILE) -Iinclude -Itests/second tests/compare/*.c tests/second/*.c $(LIBRARY) -o $@
 
 build/benchmark: $(wildcard benchmark/* tests/second/*) include/tekoweapa.h $(LIBRARY)
-	$(CC) $(CFLAGS) -Iinclude -Itests/second benchmark/*.c tests/second/*.c $(LIBRARY) -o $@
+	$(COMPILE) -Iinclude -Itests/second benchmark/*.c tests/second/*.c $(LIBRARY) -o $@

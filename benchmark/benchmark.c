@@ -4,13 +4,13 @@
  * there, and a handler moves to and fro. */
 #define _POSIX_C_SOURCE 200809L
 
+#include "second.h"
+#include "tekoweapa.h"
+
 #include <stdio.h>
 #include <stdlib.h>
 #include <string.h>
 #include <time.h>
-
-#include "second.h"
-#include "tekoweapa.h"
 
 enum { LOW = 4096, HIGH = 65535, MAIN_BASE = 4096, MOVED_BASE = 4112, ZERO_BASE = 128 };
 enum maker { LIBRARY, SECOND, MAKERS };
@@ -51,7 +51,6 @@ static void put_bytes(struct buffers *b, unsigned count)
 static void make_words(struct buffers *b, size_t length)
 {
     unsigned words = (unsigned)((length - 16) / 3);
-
     put_word(b, 0xFFFE);
     put_word(b, 0x0001);
     put_word(b, 0x1000);
@@ -80,7 +79,6 @@ static void make_names(struct buffers *b, size_t length)
         put(b, 0xFC);
     }
     unsigned rest = (unsigned)(length - b->length) - 6;
-
     put_word(b, 0xFFFF);
     put_word(b, LOW);
     put_word(b, LOW + rest - 1);
@@ -99,7 +97,6 @@ static void put_code(struct buffers *b, unsigned address, unsigned count)
 static void make_handler(struct buffers *b, size_t length)
 {
     unsigned address = 0;
-
     while (length - b->length >= 257 + 128 + 4 + 4) {
         put_code(b, address, 253);
         put_word(b, 0x7E06);
@@ -110,7 +107,6 @@ static void make_handler(struct buffers *b, size_t length)
     while (length - b->length > 4) {
         size_t rest = length - b->length - 4;
         unsigned count = rest > 257 ? 100 : (unsigned)rest - 4;
-
         put_code(b, address, count);
         address += count;
     }
@@ -142,7 +138,6 @@ static uint32_t move_acx(enum maker maker, struct buffers *b, unsigned turn)
     __typeof__(tkw_acx_move) *move = maker == LIBRARY ? tkw_acx_move : second_acx_move;
     uint32_t from = turn % 2 == 0 ? MAIN_BASE : MOVED_BASE;
     uint32_t to = turn % 2 == 0 ? MOVED_BASE : MAIN_BASE;
-
     return move(TKW_DEVICE, b->file, b->length, from, ZERO_BASE, to, ZERO_BASE, b->memory, sizeof b->memory, b->map, sizeof b->map,
                 b->scratch, sizeof b->scratch, b->answer, sizeof b->answer);
 }
@@ -161,7 +156,6 @@ static const struct {
 static double now(void)
 {
     struct timespec time;
-
     clock_gettime(CLOCK_MONOTONIC, &time);
     return (double)time.tv_sec + (double)time.tv_nsec / 1e9;
 }
@@ -207,7 +201,6 @@ static void time_case(size_t i, size_t length, struct buffers *buffers)
 int main(void)
 {
     static struct buffers buffers[MAKERS];
-
     printf("%-26s %7s %12s %12s %6s\n", "", "bytes", "library, us", "second, us", "ratio");
     for (size_t i = 0; i < sizeof CASES / sizeof CASES[0]; i++)
         for (size_t length = 1024; length <= TKW_FILE_MOST; length *= 4)

@@ -1,6 +1,6 @@
 #define _XOPEN_SOURCE 700
-#include "picture.h"
 
+#include "picture.h"
 #include "answer.h"
 #include "canvas.h"
 #include "png.h"

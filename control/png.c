@@ -1,5 +1,4 @@
 #include "png.h"
-
 #include "deflate.h"
 
 #include <stdlib.h>

@@ -1,7 +1,7 @@
 /* Lengths that differ from a right one by 4 GiB: a length cut to 32 bits would look right. The pages are mapped but never touched. */
 #define _DEFAULT_SOURCE
-#include "directed.h"
 
+#include "directed.h"
 #include "notation.h"
 
 #include <stdio.h>

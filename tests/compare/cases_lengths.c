@@ -1,6 +1,5 @@
 /* Directed cases for the lengths of the lent buffers: each in turn wrong, the others right. */
 #include "directed.h"
-
 #include "notation.h"
 
 #include <stdio.h>

@@ -3,7 +3,6 @@
  * well: what stands at the handler's places after it is what one move from A to Z leaves there, and what a fresh load at Z leaves if the
  * handler was as loaded at A; an address that is a place at none of the bases reached is as before. */
 #include "random_cases.h"
-
 #include "make.h"
 
 #include <stdio.h>

@@ -1,6 +1,7 @@
 /* Runs the product beside the second implementation: directed cases, then random ones. The cases run in a process of their own; if a call
  * there touches a guard page, traps or does not end, the process that waits for it says which. */
 #define _DEFAULT_SOURCE
+
 #include "coverage.h"
 #include "directed.h"
 #include "random_cases.h"

@@ -1,5 +1,4 @@
 #include "directed.h"
-
 #include "notation.h"
 
 #include <stdio.h>

@@ -1,4 +1,5 @@
 #define _DEFAULT_SOURCE
+
 #include "lend.h"
 
 #include <stdio.h>

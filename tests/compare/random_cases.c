@@ -1,5 +1,4 @@
 #include "random_cases.h"
-
 #include "make.h"
 
 #include <stdio.h>

@@ -1,5 +1,4 @@
 #include "request.h"
-
 #include "second.h"
 #include "tekoweapa.h"
 

@@ -1,8 +1,8 @@
-"""Tests of the control program: python3 tests/control [BUILD_DIR [WORD]]
+"""Tests of the control program, its examples and the build: python3 tests/control [BUILD_DIR [WORD]]
 
 With a WORD, only tests whose names contain it are run. Each test has a folder of its own, and names no target outside it but in /proc,
-where nothing can be replaced: run by root, a faulty program could else replace the machine's own /dev/null. A failed test prints a line, and
-so does one that can't run here and is skipped. The last line is 'N passed, M failed', and the exit status is 0 only if none has failed.
+where nothing can be replaced: run by root, a faulty program could else replace the machine's own /dev/null. A failed test prints a line,
+and so does one that can't run here and is skipped. The last line is 'N passed, M failed', and the exit status is 0 only if none has failed.
 """
 
 import os
@@ -25,6 +25,7 @@ import targets
 import picture
 import examples
 import documents
+import build
 
 
 def main():

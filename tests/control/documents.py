@@ -2,8 +2,8 @@
 
 import os
 import re
+import shlex
 import subprocess
-import zlib
 
 from desk import REFUSED, BUILD, EXAMPLES, PROGRAM, ROOT, holds, same, test
 
@@ -22,7 +22,8 @@ def the_example_in_the_readme_compiles_and_prints_what_it_says(desk):
     (command,) = [block for block in readme_blocks("") if block.startswith("gcc ")]
     command, printed = re.fullmatch(r"(.*?) *# (.*)\n", command).groups()
     desk.put("example.c", source.encode())
-    command = command.replace("-Iinclude", f"-I{ROOT}/include").replace("build/", f"{BUILD}/")
+    folders = {"include": os.path.join(ROOT, "include"), "build": BUILD}
+    command = re.sub(r"(?<=-I)include\b|\bbuild(?=/)", lambda name: shlex.quote(folders[name[0]]), command)
     command = command.replace("gcc", "gcc -Wall -Wextra -Werror", 1)
     done = subprocess.run(["sh", "-c", command], cwd=desk.folder, capture_output=True, timeout=60)
     same((done.returncode, done.stdout.decode(), done.stderr), (0, printed + "\n", b""), command)
@@ -38,9 +39,10 @@ def the_refusal_in_the_readme_is_printed(desk):
 
 @test
 def the_picture_in_the_documents_is_that_of_the_example(desk):
-    subprocess.run(["make", "-s", "-C", ROOT, f"PICTURE={desk.path('map.png')}", f"PROGRAM={PROGRAM}", "picture"], check=True, timeout=60)
-    pixels = lambda png: zlib.decompress(re.search(rb"IDAT(.*)....\0\0\0\0IEND", png, re.S)[1])
+    # make would read a path with a blank as two names, and build anew a program that it has a rule for
+    program = desk.path("program")
+    os.symlink(PROGRAM, program)
+    subprocess.run(["make", "-s", "-C", ROOT, f"PICTURE={desk.path('map.png')}", f"PROGRAM={program}", "picture"], check=True, timeout=60,
+                   stdout=subprocess.DEVNULL)
     kept = open(os.path.join(ROOT, "docs", "map.png"), "rb").read()
-    made = desk.get("map.png")
-    same(kept[:33], made[:33], "size")
-    holds(pixels(kept) == pixels(made), "docs/map.png is not what 'make picture' draws")
+    holds(kept == desk.get("map.png"), "docs/map.png is not what 'make picture' draws")
