@@ -210,14 +210,6 @@ def some_options_exclude_each_other(desk):
 
 
 @test
-def a_scale_has_a_range_and_a_picture(desk):
-    desk.put("f", P1)
-    desk.trouble("acx", "f", "--scale", "2", mention="--scale: needs --picture")
-    for scale in ("0", "9", "4294967295"):
-        desk.trouble("acx", "f", "--scale", scale, "--picture", "new", mention=f"--scale: is {scale}; 1 to ")
-
-
-@test
 def a_name_that_cannot_be_shown_stands_in_quotes(desk):
     desk.put("f", P1)
     desk.put("\xE4 \u20AC \U0001F600", P1[:3])

@@ -262,9 +262,10 @@ def a_scale_out_of_range_is_a_usage_error(desk):
     desk.put("f", P1)
     words = ("acx", "f", "--form", "device", "--picture", "picture.png", "--scale")
     for scale in ("0", str(SCALES[-1] + 1), "4294967295"):
-        desk.trouble(*words, scale, mention="--scale")
+        desk.trouble(*words, scale, mention=f"--scale: is {scale}; 1 to {SCALES[-1]}")
     for scale in SCALES:
         desk.text(ACCEPTED, *words, str(scale))
+    desk.trouble("acx", "f", "--scale", "2", mention="--scale: needs --picture")
 
 
 @test
