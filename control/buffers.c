@@ -4,6 +4,20 @@
 
 #include <string.h>
 
+bool is_image(const uint8_t *bytes, size_t length)
+{
+    (void)bytes;
+    return length == TKW_MEMORY_LENGTH;
+}
+
+bool is_map(const uint8_t *bytes, size_t length)
+{
+    size_t i = 0;
+    while (i < length && bytes[i] <= TKW_ADJUSTED)
+        i++;
+    return length == TKW_MEMORY_LENGTH && i == length;
+}
+
 /* Reads an image, which must have the length of memory exactly. */
 static bool read_image(const char *path, uint8_t *memory, uint8_t *spare)
 {

@@ -27,6 +27,10 @@ struct buffers {
 /* Reads the files that the options name into buffers of zeros. False after a complaint. */
 bool fill_buffers(const struct options *options, struct buffers *buffers);
 
+/* Whether a file is an image of memory, by its length; or a map, which has marks alone. */
+bool is_image(const uint8_t *bytes, size_t length);
+bool is_map(const uint8_t *bytes, size_t length);
+
 /* Makes the call that the options ask for. */
 struct answer call_loader(const struct options *options, struct buffers *buffers);
 

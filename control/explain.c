@@ -22,13 +22,20 @@ static void explain_settings(FILE *stream, const struct options *options)
     struct setting settings[SETTINGS_MOST];
     size_t count = list_settings(options, settings);
     for (size_t i = 0; i < count; i++)
-        if (settings[i].value > settings[i].most)
+        if (settings[i].given && settings[i].value > settings[i].most)
             fprintf(stream, "%s is %u; 0 to %u\n", settings[i].option, settings[i].value, settings[i].most);
     if (options->command == COMMAND_SDX && options->low.value <= 65535 && options->low.value > options->high.value)
         fprintf(stream, "--low is %u; 0 to %u, which is --high\n", options->low.value, options->high.value);
 }
 
-/* A file of the other kind, or of the other form, shows itself by its first word; only where it is refused for its opening. */
+/* Whether a file may be an ACX file in device form: it begins with a code record that may have such a length. */
+static bool may_be_device_form(const struct buffers *buffers)
+{
+    const uint8_t *file = buffers->file;
+    return buffers->file_length >= 2 && (file[0] == 0x00 || file[0] == 0x01 || file[0] == 0x0A) && file[1] >= 2;
+}
+
+/* A file of the other kind, or of the other form, shows itself by its first bytes; only where it is refused for its opening. */
 static void explain_opening(FILE *stream, const struct options *options, const struct buffers *buffers)
 {
     uint32_t word = buffers->file_length < 2 ? 0 : read_word(buffers->file);
@@ -39,8 +46,8 @@ static void explain_opening(FILE *stream, const struct options *options, const s
         fputs("it opens F0 FF, as disk form does: '--form disk' was meant?\n", stream);
     else if (word >= 0xFFFA && !sdx)
         fputs("it opens as an SDX program does: 'tekoweapa sdx' was meant?\n", stream);
-    else if (!sdx && buffers->file_length >= 2 && buffers->file[0] <= 0x0B)
-        fputs("it opens as device form may: '--form device' was meant?\n", stream);
+    else if (may_be_device_form(buffers))
+        fprintf(stream, "it opens as an ACX handler in device form may: '%s--form device' was meant?\n", sdx ? "tekoweapa acx " : "");
 }
 
 /* A block of type FFFB has its name behind the type. */

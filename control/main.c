@@ -32,9 +32,13 @@ struct work {
 /* The files that a run writes. The picture has its bytes when it is drawn. */
 static void plan_outputs(const struct options *options, struct work *work)
 {
-    work->outputs[OUT] = (struct output){.path = options->out, .bytes = work->buffers.memory, .length = sizeof work->buffers.memory};
-    work->outputs[MAP] = (struct output){.path = options->map, .bytes = work->buffers.map, .length = sizeof work->buffers.map};
-    work->outputs[PICTURE] = (struct output){.path = options->picture};
+    work->outputs[OUT] = (struct output){.path = options->out, .kind = "image", .is_of_kind = is_image};
+    work->outputs[OUT].bytes = work->buffers.memory;
+    work->outputs[OUT].length = sizeof work->buffers.memory;
+    work->outputs[MAP] = (struct output){.path = options->map, .kind = "map", .is_of_kind = is_map};
+    work->outputs[MAP].bytes = work->buffers.map;
+    work->outputs[MAP].length = sizeof work->buffers.map;
+    work->outputs[PICTURE] = (struct output){.path = options->picture, .kind = "picture", .is_of_kind = is_picture};
 }
 
 /* Makes a closed pipe and a file that may not grow errors of writing, where they would else end the program before it cleans up. */
@@ -84,7 +88,7 @@ static bool draw(const struct options *options, struct work *work)
     return true;
 }
 
-/* The run from files to files. Targets are renamed last: by then nothing else can go wrong. */
+/* The run from files to files. Outputs are settled last: by then nothing else can go wrong. */
 static int run(const struct options *options, struct work *work)
 {
     struct presence presence = {0};
@@ -92,17 +96,18 @@ static int run(const struct options *options, struct work *work)
     if (!spare_inputs(options, work->outputs) || !find_targets(work->outputs, OUTPUTS) || !spare_image(options, &work->outputs[OUT])
         || !fill_buffers(options, &work->buffers))
         return EXIT_TROUBLE;
-    if (options->command == COMMAND_MOVE)
-        presence = compare_with_load(options, &work->buffers);
+    if (options->command == COMMAND_MOVE && !find_handler(options, &work->buffers, &presence))
+        return EXIT_TROUBLE;
     struct answer answer = call_loader(options, &work->buffers);
-    if (!draw(options, work) || !write_outputs(work->outputs, OUTPUTS))
+    if (!draw(options, work) || !write_outputs(work->outputs, OUTPUTS) || !rename_outputs(work->outputs, OUTPUTS))
         return EXIT_TROUBLE;
     if (options->json)
         print_json(stdout, options, &work->buffers, &answer);
     else
-        print_report(stdout, options, &work->buffers, &answer);
-    if (!finish_printing() || !rename_outputs(work->outputs, OUTPUTS))
+        print_report(stdout, options, &work->buffers, &answer, has_copy(&presence));
+    if (!finish_printing())
         return EXIT_TROUBLE;
+    settle_outputs(work->outputs, OUTPUTS);
     if (answer.number != TKW_ACCEPTED)
         return EXIT_REFUSED;
     warn_if_absent(options, &presence);

@@ -74,7 +74,7 @@ static bool take_name(struct line *line, uint8_t name[TKW_NAME_LENGTH])
         return complain_of_line(line->path, line->number, "the quote behind the name is missing");
     line->at++;
     return count == TKW_NAME_LENGTH
-        || complain_of_line(line->path, line->number, "the name has %zu byte%s; names have %d, a shorter one is filled up with blanks",
+        || complain_of_line(line->path, line->number, "the name has %zu byte%s and should have %d (fill up a shorter one with blanks)",
                             count, count == 1 ? "" : "s", TKW_NAME_LENGTH);
 }
 
@@ -91,20 +91,20 @@ static bool take_address(struct line *line, uint32_t *address)
     while (!is_over(line) && !is_blank(*line->at))
         line->at++;
     if (!parse_number(digits, (size_t)(line->at - digits), address))
-        return complain_of_line(line->path, line->number, "the address is no number: decimal, 0x hex or $ hex");
+        return complain_of_line(line->path, line->number, "the address is no number of at most 32 bits: decimal, 0x hex or $ hex");
     if (*address > 65535)
         return complain_of_line(line->path, line->number, "the address is %u; 0 to 65535", *address);
     skip_blanks(line);
     return is_over(line) || complain_of_line(line->path, line->number, "behind the address only a comment may stand, which begins with #");
 }
 
-/* Whether the list has the name already. */
-static bool is_listed(const struct names *names, const uint8_t name[TKW_NAME_LENGTH])
+/* The last line so far that has the name, or 0. */
+static size_t line_of(const struct names *names, const uint8_t name[TKW_NAME_LENGTH])
 {
-    for (size_t i = 0; i < names->lent; i++)
-        if (memcmp(names->names + i * TKW_NAME_LENGTH, name, TKW_NAME_LENGTH) == 0)
-            return true;
-    return false;
+    for (size_t i = names->lent; i > 0; i--)
+        if (memcmp(names->names + (i - 1) * TKW_NAME_LENGTH, name, TKW_NAME_LENGTH) == 0)
+            return names->lines[i - 1];
+    return 0;
 }
 
 /* Takes a line with a name and its address into the list. False after a complaint. */
@@ -114,10 +114,12 @@ static bool take_line(struct line *line, struct names *names)
     uint32_t address;
     if (!take_name(line, name) || !take_address(line, &address))
         return false;
-    if (is_listed(names, name))
-        warn(line->path, line->number, "this name has come before; its address here holds");
+    size_t before = line_of(names, name);
+    if (before > 0)
+        warn(line->path, line->number, "this name stands in line %zu too; the address here holds", before);
     names->listed++;
     if (names->lent < NAMES_MOST) {
+        names->lines[names->lent] = line->number;
         memcpy(names->names + names->lent * TKW_NAME_LENGTH, name, TKW_NAME_LENGTH);
         names->addresses[names->lent * 2] = (uint8_t)(address & 0xFF);
         names->addresses[names->lent * 2 + 1] = (uint8_t)(address >> 8);

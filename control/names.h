@@ -17,6 +17,7 @@ struct names {
     size_t lent;
     uint8_t names[NAMES_MOST * TKW_NAME_LENGTH];
     uint8_t addresses[NAMES_MOST * 2];
+    size_t lines[NAMES_MOST]; /* where each stands in the list */
 };
 
 /* Reads a list of names. False after a complaint that names file and line. */

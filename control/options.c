@@ -89,7 +89,7 @@ size_t list_settings(const struct options *options, struct setting settings[SETT
     for (size_t i = 0; i < OPTION_COUNT; i++) {
         const struct number *number = (const void *)((const char *)options + OPTIONS[i].member);
         if (OPTIONS[i].most > 0 && (OPTIONS[i].commands & (1u << options->command)) != 0)
-            settings[count++] = (struct setting){OPTIONS[i].name, number->value, OPTIONS[i].most};
+            settings[count++] = (struct setting){OPTIONS[i].name, number->value, number->given, OPTIONS[i].most};
     }
     return count;
 }
@@ -122,6 +122,8 @@ static bool take_command(const char *word, enum command *command)
     size_t count = sizeof COMMANDS / sizeof COMMANDS[0];
     size_t place = place_of(word, COMMANDS, count);
     *command = (enum command)place;
+    if (word[0] == '-')
+        return misused(word, "the command comes first: sdx, acx or move");
     return place < count || misused(word, "unknown command");
 }
 

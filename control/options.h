@@ -38,10 +38,11 @@ struct options {
     struct number to_main, to_zero;
 };
 
-/* A number that the call is given: its option, its value, and the most that it may be. */
+/* A number that the call takes: its option, its value, whether that was given, and the most that it may be. */
 struct setting {
     const char *option;
     uint32_t value;
+    bool given;
     uint32_t most;
 };
 

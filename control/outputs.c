@@ -41,7 +41,9 @@ static bool keep_permissions(int file, const struct output *output)
 static bool write_output(struct output *output)
 {
     bool direct = output->target == NULL;
-    int file = direct ? open(output->path, O_WRONLY) : open_temporary(output->target, &output->temporary);
+    /* Who could not read the former file shall not read the new one while it is written. */
+    mode_t mode = output->present ? output->former.st_mode & 0777 : 0666;
+    int file = direct ? open(output->path, O_WRONLY) : open_temporary(output->target, mode, &output->temporary);
     int error = 0;
     if (file < 0)
         return complain(output->path, "can't be written: %s", strerror(errno));
@@ -67,19 +69,35 @@ bool write_outputs(struct output *outputs, size_t count)
 static void keep_former(struct output *output)
 {
     for (unsigned turn = 0; output->present && turn < TURNS_MOST; turn++) {
-        output->kept = name_beside(output->target, turn);
-        if (output->kept == NULL || link(output->target, output->kept) == 0)
+        char *name = name_beside(output->target, turn);
+        if (name != NULL && link(output->target, name) == 0) {
+            output->kept = name;
+            note_temporary(name);
             return;
+        }
         int error = errno;
-        free(output->kept);
-        output->kept = NULL;
+        free(name);
         if (error != EEXIST)
             return;
     }
 }
 
+/* Whether the target is still what it was when it was looked at. Another run may have renewed it since, and would be undone. */
+static bool is_unchanged(const struct output *output)
+{
+    struct stat now;
+    const struct stat *former = &output->former;
+    if (lstat(output->target, &now) != 0)
+        return !output->present && errno == ENOENT;
+    return output->present && now.st_dev == former->st_dev && now.st_ino == former->st_ino && now.st_mode == former->st_mode
+        && now.st_nlink == former->st_nlink && now.st_size == former->st_size && now.st_mtim.tv_sec == former->st_mtim.tv_sec
+        && now.st_mtim.tv_nsec == former->st_mtim.tv_nsec;
+}
+
 static bool rename_output(struct output *output)
 {
+    if (!is_unchanged(output))
+        return complain(output->path, "can't be written: it has changed meanwhile");
     keep_former(output);
     if (rename(output->temporary, output->target) != 0)
         return complain(output->path, "can't be written: %s", strerror(errno));
@@ -87,14 +105,6 @@ static bool rename_output(struct output *output)
     forget_temporary(output->temporary);
     free(output->temporary);
     output->temporary = NULL;
-    return true;
-}
-
-static bool rename_all(struct output *outputs, size_t count)
-{
-    for (size_t i = 0; i < count; i++)
-        if (outputs[i].temporary != NULL && !rename_output(&outputs[i]))
-            return false;
     return true;
 }
 
@@ -110,14 +120,6 @@ static bool sync_directory(const struct output *output)
     return error == 0 || complain(output->path, "can't be written: %s", strerror(error));
 }
 
-static bool sync_all(const struct output *outputs, size_t count)
-{
-    for (size_t i = 0; i < count; i++)
-        if (outputs[i].renamed && !sync_directory(&outputs[i]))
-            return false;
-    return true;
-}
-
 /* Takes a renamed output back: its target is as before. */
 static void take_back(struct output *output)
 {
@@ -128,15 +130,10 @@ static void take_back(struct output *output)
         failed = unlink(output->target);
     if (failed != 0)
         complain(output->path, "is written and can't be taken back");
+    output->renamed = false;
+    forget_temporary(output->kept);
     free(output->kept);
     output->kept = NULL;
-}
-
-static void take_back_all(struct output *outputs, size_t count)
-{
-    for (size_t i = 0; i < count; i++)
-        if (outputs[i].renamed)
-            take_back(&outputs[i]);
 }
 
 /* Removes a file of ours, if there is one, and its name. */
@@ -149,22 +146,51 @@ static void remove_own(char **name)
     *name = NULL;
 }
 
+static bool rename_all(struct output *outputs, size_t count)
+{
+    for (size_t i = 0; i < count; i++)
+        if (outputs[i].temporary != NULL && !rename_output(&outputs[i]))
+            return false;
+    for (size_t i = 0; i < count; i++)
+        if (outputs[i].renamed && !sync_directory(&outputs[i]))
+            return false;
+    return true;
+}
+
+static void take_back_all(struct output *outputs, size_t count)
+{
+    for (size_t i = 0; i < count; i++) {
+        if (outputs[i].renamed)
+            take_back(&outputs[i]);
+        remove_own(&outputs[i].kept);
+    }
+}
+
 bool rename_outputs(struct output *outputs, size_t count)
 {
     /* A signal in between would leave some outputs of this run beside some of the last. */
     hold_signals();
-    bool good = rename_all(outputs, count) && sync_all(outputs, count);
+    bool good = rename_all(outputs, count);
     if (!good)
         take_back_all(outputs, count);
-    for (size_t i = 0; i < count; i++)
-        remove_own(&outputs[i].kept);
     release_signals();
     return good;
+}
+
+void settle_outputs(struct output *outputs, size_t count)
+{
+    hold_signals();
+    for (size_t i = 0; i < count; i++) {
+        outputs[i].renamed = false;
+        remove_own(&outputs[i].kept);
+    }
+    release_signals();
 }
 
 void clean_outputs(struct output *outputs, size_t count)
 {
     hold_signals();
+    take_back_all(outputs, count);
     for (size_t i = 0; i < count; i++) {
         remove_own(&outputs[i].temporary);
         free(outputs[i].target);

@@ -1,7 +1,8 @@
 /* Output files that appear whole or not at all.
  *
- * Each is written to a temporary file beside its target; only when all are whole are they renamed, and if that fails, the ones renamed are
- * taken back. A pipe or a device is written directly. A file that can't be replaced whole is refused before anything is done. */
+ * Each is written to a temporary file beside its target; only when all are whole are they renamed, and they can be taken back as long as
+ * they are not settled. A pipe or a device is written directly. A file that can't be replaced whole, or that is of another kind than the
+ * output, is refused before anything is done. */
 #ifndef OUTPUTS_H
 #define OUTPUTS_H
 
@@ -14,13 +15,19 @@ struct output {
     const char *path;     /* as given; NULL where this output is not asked for */
     const uint8_t *bytes; /* what is to stand there */
     size_t length;
-    bool present;       /* something was there before */
-    struct stat former; /* and this is what it was */
-    char *target;       /* the place to rename to; NULL if written directly */
-    char *temporary;    /* NULL if there is none, or no longer */
-    bool renamed;       /* the target is the new file */
-    char *kept;         /* a second name of the former target, for the way back */
+    const char *kind;                                         /* what it is, in a word */
+    bool (*is_of_kind)(const uint8_t *bytes, size_t length); /* whether a file is of that kind, by its first bytes */
+    bool present;            /* something was there before */
+    struct stat former;      /* and this is what it was */
+    struct stat directory;   /* where it is, unless written directly */
+    char *target;            /* the place to rename to; NULL if written directly */
+    char *temporary;         /* NULL if there is none, or no longer */
+    bool renamed;            /* the target is the new file */
+    char *kept;              /* a second name of the former target, for the way back */
 };
+
+/* How many bytes of a file are looked at to know its kind. */
+enum { KIND_BYTES = 65537 };
 
 /* Finds the targets, and refuses those that can't be written whole or that two outputs share. False after a complaint. */
 bool find_targets(struct output *outputs, size_t count);
@@ -31,7 +38,10 @@ bool write_outputs(struct output *outputs, size_t count);
 /* Renames all temporaries to their targets. False after a complaint; the targets are then as they were. */
 bool rename_outputs(struct output *outputs, size_t count);
 
-/* Removes what is left of the temporaries. Call it at the end, whatever happened. */
+/* Leaves the renamed outputs where they are, for good. */
+void settle_outputs(struct output *outputs, size_t count);
+
+/* Takes back what is renamed and not settled, and removes the temporaries. Call it at the end, whatever happened. */
 void clean_outputs(struct output *outputs, size_t count);
 
 /* Whether an output's path leads to a file, pipe or device that is read, "-" being standard input. */

@@ -52,6 +52,13 @@ enum picture_format picture_format_of(const char *path)
     return length >= 4 && strcasecmp(path + length - 4, ".png") == 0 ? PICTURE_PNG : PICTURE_PPM;
 }
 
+bool is_picture(const uint8_t *bytes, size_t length)
+{
+    bool png = length >= strlen(PNG_SIGNATURE) && memcmp(bytes, PNG_SIGNATURE, strlen(PNG_SIGNATURE)) == 0;
+    bool ppm = length >= strlen(PPM_SIGNATURE) && memcmp(bytes, PPM_SIGNATURE, strlen(PPM_SIGNATURE)) == 0;
+    return png || ppm;
+}
+
 static bool page_is_empty(const uint8_t *map, uint32_t page)
 {
     uint32_t column = 0;

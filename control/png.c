@@ -2,6 +2,7 @@
 #include "deflate.h"
 
 #include <stdlib.h>
+#include <string.h>
 
 static uint32_t crc32(const uint8_t *from, size_t length)
 {
@@ -79,7 +80,7 @@ void put_png(struct bytes *file, const struct canvas *canvas, uint32_t scale)
         fail_bytes(file);
         return;
     }
-    put_bytes(file, "\x89PNG\r\n\x1A\n", 8);
+    put_bytes(file, PNG_SIGNATURE, strlen(PNG_SIGNATURE));
     put_header(file, canvas->width * scale, canvas->height * scale);
     put_palette(file, canvas);
     put_dots(file, canvas, scale, row);

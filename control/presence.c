@@ -2,29 +2,64 @@
 #include "errors.h"
 #include "files.h"
 
+#include <stdlib.h>
 #include <string.h>
 
-struct presence compare_with_load(const struct options *options, struct buffers *buffers)
+/* A load of the handler into a copy of the image. Where it is refused the map is all zero, and nothing is compared. */
+struct load {
+    uint8_t memory[TKW_MEMORY_LENGTH];
+    uint8_t map[TKW_MEMORY_LENGTH];
+    uint8_t answer[TKW_ANSWER_LENGTH];
+};
+
+enum { OLD, NEW, LOADS };
+
+static void load_copy(const struct options *options, const struct buffers *buffers, uint32_t main_base, uint32_t zero_base, struct load *load)
 {
-    struct presence presence = {0};
-    uint8_t *copy = buffers->scratch;
-    memcpy(copy, buffers->memory, TKW_MEMORY_LENGTH);
-    /* A refused load leaves a map of zeros, so nothing is compared. */
-    tkw_acx_load(options->form, buffers->file, buffers->file_length, options->from_main.value, options->from_zero.value,
-                 copy, TKW_MEMORY_LENGTH, buffers->map, sizeof buffers->map, buffers->answer, sizeof buffers->answer);
-    for (size_t address = 0; address < TKW_MEMORY_LENGTH; address++) {
-        if (buffers->map[address] == TKW_PLACED && copy[address] != 0) {
-            presence.bytes++;
-            presence.differing += copy[address] != buffers->memory[address];
-        }
+    memcpy(load->memory, buffers->memory, sizeof load->memory);
+    tkw_acx_load(options->form, buffers->file, buffers->file_length, main_base, zero_base, load->memory, sizeof load->memory,
+                 load->map, sizeof load->map, load->answer, sizeof load->answer);
+}
+
+/* Compares a byte that is placed and counts, if there is one at the address. */
+static void compare(const struct load *load, size_t address, const uint8_t *image, struct likeness *likeness)
+{
+    if (load->map[address] == TKW_PLACED && load->memory[address] != 0) {
+        likeness->bytes++;
+        likeness->differing += load->memory[address] != image[address];
     }
-    return presence;
+}
+
+bool find_handler(const struct options *options, const struct buffers *buffers, struct presence *presence)
+{
+    struct load *loads = malloc(LOADS * sizeof *loads);
+    if (loads == NULL)
+        return complain(shown_name(options->file), "there is not enough memory to move it");
+    load_copy(options, buffers, options->from_main.value, options->from_zero.value, &loads[OLD]);
+    load_copy(options, buffers, options->to_main.value, options->to_zero.value, &loads[NEW]);
+    *presence = (struct presence){0};
+    for (size_t address = 0; address < TKW_MEMORY_LENGTH; address++) {
+        compare(&loads[OLD], address, buffers->memory, address < 256 ? &presence->zero_page : &presence->main);
+        if (loads[OLD].map[address] == TKW_UNTOUCHED)
+            compare(&loads[NEW], address, buffers->memory, &presence->at_new);
+    }
+    free(loads);
+    return true;
 }
 
 void warn_if_absent(const struct options *options, const struct presence *presence)
 {
-    if (2 * presence->differing > presence->bytes)
-        warn(shown_name(options->file), 0,
-             "the handler does not seem to be at $%04X (zero page $%02X): %zu of %zu code bytes differ there",
-             options->from_main.value, options->from_zero.value, presence->differing, presence->bytes);
+    const struct likeness *main = &presence->main;
+    const struct likeness *zero_page = &presence->zero_page;
+    if (2 * main->differing > main->bytes)
+        warn(shown_name(options->file), 0, "the handler does not seem to be at $%04X: %zu of %zu code bytes differ there",
+             options->from_main.value, main->differing, main->bytes);
+    if (2 * zero_page->differing > zero_page->bytes)
+        warn(shown_name(options->file), 0, "the handler's zero-page part does not seem to be at $%02X: %zu of %zu code bytes differ there",
+             options->from_zero.value, zero_page->differing, zero_page->bytes);
+}
+
+bool has_copy(const struct presence *presence)
+{
+    return 2 * presence->at_new.differing < presence->at_new.bytes;
 }

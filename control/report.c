@@ -58,7 +58,7 @@ static void print_summary(FILE *stream, const uint8_t *map)
         fprintf(stream, "  $%04zX-$%04zX  %-9s  ", from, last, loaded ? "loaded" : mark_of(map[from]));
         print_count(stream, last - from + 1, "byte");
         if (adjusted > 0)
-            fprintf(stream, ", %zu adjusted", adjusted);
+            fprintf(stream, ", %zu of them adjusted", adjusted);
         fputc('\n', stream);
     }
 }
@@ -71,6 +71,18 @@ static void print_start(FILE *stream, const struct options *options, const struc
         fputs("start      none\n", stream);
     if (has_init(options, buffers))
         fprintf(stream, "init       $%04X (not run)\n", read_word(buffers->memory + INIT_ADDRESS));
+}
+
+/* From where to where a move went, and what people may not have meant by it: a copy overwritten, which may be the one that lives, and nothing
+ * stored. */
+static void print_move(FILE *stream, const struct options *options, bool copied)
+{
+    fprintf(stream, "moved      $%04X to $%04X, zero page $%02X to $%02X\n", options->from_main.value, options->to_main.value,
+            options->from_zero.value, options->to_zero.value);
+    if (copied)
+        fputs("replaced   a copy of the handler that was at the new bases\n", stream);
+    if (options->out == NULL)
+        fputs("stored     nowhere: there is no --out\n", stream);
 }
 
 static void print_acceptance(FILE *stream, const struct options *options, const struct buffers *buffers, const struct answer *answer)
@@ -110,7 +122,7 @@ static void print_refusal(FILE *stream, const struct options *options, const str
         print_file_rows(stream, buffers, answer->offset);
 }
 
-void print_report(FILE *stream, const struct options *options, const struct buffers *buffers, const struct answer *answer)
+void print_report(FILE *stream, const struct options *options, const struct buffers *buffers, const struct answer *answer, bool copied)
 {
     bool accepted = answer->number == TKW_ACCEPTED;
     if (accepted)
@@ -119,6 +131,8 @@ void print_report(FILE *stream, const struct options *options, const struct buff
         fprintf(stream, "refused with %u: %s\n", answer->number, tkw_number_text(answer->number));
     if (options->quiet)
         return;
+    if (accepted && options->command == COMMAND_MOVE)
+        print_move(stream, options, copied);
     if (accepted)
         print_acceptance(stream, options, buffers, answer);
     else

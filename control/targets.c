@@ -70,45 +70,64 @@ static bool check_replaceable(const struct output *output)
 }
 
 /* A sticky directory lets its files be replaced by their owners, by its own owner and by root alone. */
-static bool is_bound_by_sticky(const struct output *output, const struct stat *directory)
+static bool is_bound_by_sticky(const struct output *output)
 {
     uid_t user = geteuid();
-    bool owner = user == 0 || user == directory->st_uid || user == output->former.st_uid;
-    return output->present && (directory->st_mode & S_ISVTX) != 0 && !owner;
+    bool owner = user == 0 || user == output->directory.st_uid || user == output->former.st_uid;
+    return output->present && (output->directory.st_mode & S_ISVTX) != 0 && !owner;
 }
 
 /* A file is written beside its target first, so that it appears whole; for that its directory has to be writable. */
-static bool check_directory(const struct output *output)
+static bool check_directory(struct output *output)
 {
-    struct stat entry = {0};
-    char *directory = directory_of(output->target);
-    bool writable = directory != NULL && stat(directory, &entry) == 0 && faccessat(AT_FDCWD, directory, W_OK | X_OK, AT_EACCESS) == 0;
+    char *path = directory_of(output->target);
+    bool writable = path != NULL && stat(path, &output->directory) == 0 && faccessat(AT_FDCWD, path, W_OK | X_OK, AT_EACCESS) == 0;
     int error = errno;
-    free(directory);
+    free(path);
     if (!writable)
         return complain(output->path, "can't be written whole: its directory is not writable (%s)", strerror(error));
-    return !is_bound_by_sticky(output, &entry)
-        || complain(output->path, "can't be replaced: its directory is sticky, and the file is somebody else's");
+    return !is_bound_by_sticky(output) || complain(output->path, "can't be replaced: its directory is sticky, and the file is somebody else's");
+}
+
+/* An output replaces a file of its own kind alone, or an empty one: a map is no loss, and an image that is named for one would be. */
+static bool check_kind(const struct output *output)
+{
+    size_t length = 0;
+    uint8_t *bytes = malloc(KIND_BYTES);
+    if (bytes == NULL)
+        return complain(output->path, "there is not enough memory to look at it");
+    bool read = read_file(output->path, bytes, KIND_BYTES, &length);
+    bool suits = read && (length == 0 || output->is_of_kind(bytes, length));
+    free(bytes);
+    return suits || (read && complain(output->path, "is there already and is no %s; remove it, or give another name", output->kind));
+}
+
+static bool goes_to(const struct output *output, int file)
+{
+    struct stat entry;
+    return fstat(file, &entry) == 0 && is_same(&output->former, &entry);
 }
 
 /* Finds the target of an output that is there: the file itself, should the path be a link to it; none if it is a pipe or a device. */
 static bool find_present(struct output *output)
 {
     mode_t mode = output->former.st_mode;
-    struct stat report;
     output->present = true;
     if (S_ISDIR(mode))
         return complain(output->path, "can't be written: is a directory");
     if (!S_ISREG(mode) && !S_ISFIFO(mode) && !S_ISCHR(mode))
         return complain(output->path, "can't be written: is neither a file nor a pipe nor a character device");
-    if (fstat(STDOUT_FILENO, &report) == 0 && is_same(&output->former, &report))
+    if (goes_to(output, STDOUT_FILENO))
         return complain(output->path, "can't be written: standard output goes there");
+    /* A terminal may well have warnings beside an output. */
+    if (!S_ISCHR(mode) && goes_to(output, STDERR_FILENO))
+        return complain(output->path, "can't be written: standard error goes there");
     if (!S_ISREG(mode))
         return true;
     output->target = realpath(output->path, NULL);
     if (output->target == NULL)
         return complain(output->path, "can't be written: %s", strerror(errno));
-    return check_replaceable(output) && check_directory(output);
+    return check_replaceable(output) && check_directory(output) && check_kind(output);
 }
 
 /* Finds where an output goes, be the file there or not. */
@@ -132,14 +151,14 @@ static bool find_target(struct output *output)
     return check_directory(output);
 }
 
-/* Whether two outputs go to one place. */
+/* Whether two outputs go to one place: to what is there, or to one name in one directory. */
 static bool is_shared(const struct output *one, const struct output *other)
 {
     if (one->path == NULL || other->path == NULL)
         return false;
-    if (one->present && other->present)
-        return is_same(&one->former, &other->former);
-    return one->target != NULL && other->target != NULL && strcmp(one->target, other->target) == 0;
+    if (one->present || other->present)
+        return one->present && other->present && is_same(&one->former, &other->former);
+    return is_same(&one->directory, &other->directory) && strcmp(strrchr(one->target, '/'), strrchr(other->target, '/')) == 0;
 }
 
 bool find_targets(struct output *outputs, size_t count)

@@ -11,7 +11,7 @@
 #include <string.h>
 #include <unistd.h>
 
-static const int SIGNALS[] = {SIGINT, SIGTERM, SIGHUP};
+static const int SIGNALS[] = {SIGINT, SIGTERM, SIGHUP, SIGQUIT};
 
 enum { SIGNAL_COUNT = sizeof SIGNALS / sizeof SIGNALS[0], TEMPORARIES_MOST = 8 };
 
@@ -71,6 +71,11 @@ static void replace_name(const char *former, const char *name)
         names[i] = name;
 }
 
+void note_temporary(const char *name)
+{
+    replace_name(NULL, name);
+}
+
 void forget_temporary(const char *name)
 {
     if (name != NULL)
@@ -88,23 +93,23 @@ char *name_beside(const char *target, unsigned turn)
 }
 
 /* Makes the file and notes its name, both or none. */
-static int open_new(const char *name)
+static int open_new(const char *name, mode_t mode)
 {
     hold_signals();
-    int file = open(name, O_WRONLY | O_CREAT | O_EXCL, 0666);
+    int file = open(name, O_WRONLY | O_CREAT | O_EXCL, mode);
     int error = errno;
     if (file >= 0)
-        replace_name(NULL, name);
+        note_temporary(name);
     release_signals();
     errno = error;
     return file;
 }
 
-int open_temporary(const char *target, char **name)
+int open_temporary(const char *target, mode_t mode, char **name)
 {
     for (unsigned turn = 0; turn < TURNS_MOST; turn++) {
         char *candidate = name_beside(target, turn);
-        int file = candidate == NULL ? -1 : open_new(candidate);
+        int file = candidate == NULL ? -1 : open_new(candidate, mode);
         if (file >= 0) {
             *name = candidate;
             return file;

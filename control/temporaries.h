@@ -1,8 +1,9 @@
-/* Temporary files, which must not be left behind, whatever ends the program: SIGINT, SIGTERM and SIGHUP remove them first. */
+/* Temporary files, which must not be left behind: SIGINT, SIGTERM, SIGHUP and SIGQUIT remove them before they end the program. */
 #ifndef TEMPORARIES_H
 #define TEMPORARIES_H
 
 #include <stdbool.h>
+#include <sys/types.h>
 
 /* Takes over these signals, but for those that are ignored already, as SIGHUP is under nohup. */
 bool watch_signals(void);
@@ -13,9 +14,10 @@ void release_signals(void);
 
 /* Makes a file beside the target, with a name that nobody else has, and opens it. The name is the caller's to remove or to forget, and to
  * free. -1 with errno set if that can't be done. */
-int open_temporary(const char *target, char **name);
+int open_temporary(const char *target, mode_t mode, char **name);
 
-/* The file of this name is no longer there, or no longer temporary. Call it with the signals held. */
+/* The file of this name is temporary; or it is no longer there, or no longer temporary. Call these with the signals held. */
+void note_temporary(const char *name);
 void forget_temporary(const char *name);
 
 /* A name beside the target; another one for each turn. NULL if there is no memory. */

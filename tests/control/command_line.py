@@ -1,5 +1,6 @@
 """The command line: words, options, numbers."""
 
+import os
 import re
 
 from desk import (ACCEPTED, REFUSED, TROUBLE, COMMANDS, EXAMPLES, LOADED, MEMORY, OPTIONS, P1, P6, PATTERN, ROOT, holds, same, test,
@@ -48,7 +49,8 @@ def unknown_words_are_usage_errors(desk):
     desk.put("f", P1)
     desk.trouble("load", "f", mention="load: unknown command")
     desk.trouble("", "f", mention="unknown command")
-    desk.trouble("--json", "acx", "f", mention="unknown command")
+    for word in ("--json", "-x", "--", "--version=1"):
+        desk.trouble(word, "acx", "f", mention=f"{word}: the command comes first: sdx, acx or move")
     desk.trouble("--help", "acx", mention="acx: nothing goes with --help")
     desk.trouble("--version", "acx", mention="acx: nothing goes with --version")
     for word in ("--bogus", "-x", "-hh", "--jso", "--mainly=1", "--=1", "-1"):
@@ -108,9 +110,10 @@ def every_command_has_its_options_and_no_others(desk):
             words = [command, "f", name] + ([] if value is None else [value])
             words += [word for pair in needed[command].items() if pair[0] != name for word in pair]
             words += ["--picture", "picture"] if name == "--scale" else []
-            words += ["--fresh"] if name == "--out" and command != "move" else []
             if command in commands:
                 holds(desk.run(*words).returncode in (ACCEPTED, REFUSED), f"{words} is an error")
+                if os.path.exists(desk.path("target")):
+                    os.remove(desk.path("target"))
             else:
                 desk.trouble(*words, mention=f"{name}: is not an option of {command}")
 

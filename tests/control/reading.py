@@ -70,17 +70,18 @@ def names_may_be_written_in_many_ways(desk):
 def of_equal_names_the_last_holds(desk):
     desk.put("names", b'"TWICE   " 1\n"OTHER   " 2\n"TWICE   " 3\n')
     desk.put("f", adjusted_by(b"TWICE   "))
-    desk.text(ACCEPTED, "sdx", "f", "--names", "names", "--out", "image", warning="names: line 3: warning: this name has come before")
+    desk.text(ACCEPTED, "sdx", "f", "--names", "names", "--out", "image",
+              warning="names: line 3: warning: this name stands in line 1 too; the address here holds\n")
     same(desk.get("image")[0x600], 3, "the word")
 
 
 BEGINNING = "should begin with a name in double quotes"
 ESCAPE = "in a name, a backslash begins one of"
-LENGTH = "the name has {}; names have 8, a shorter one is filled up with blanks"
+LENGTH = "the name has {} and should have 8 (fill up a shorter one with blanks)"
 QUOTE = "the quote behind the name is missing"
 BLANK = "a blank should stand between the name and its address"
 ADDRESS = "the address behind the name is missing"
-NUMBER = "the address is no number"
+NUMBER = "the address is no number of at most 32 bits"
 RANGE = "the address is {}; 0 to 65535"
 BEHIND = "behind the address only a comment may stand"
 

@@ -3,7 +3,7 @@
 import os
 import re
 
-from desk import ACCEPTED, REFUSED, EXAMPLES, LOADED, MEANINGS, MEMORY, P1, P3, P6, P9, P10, ROOT, holds, same, test
+from desk import ACCEPTED, REFUSED, EXAMPLES, LOADED, MEANINGS, MEMORY, P1, P3, P6, P9, P10, PATTERN, ROOT, holds, same, test
 
 
 def row(address, content, marked=-1):
@@ -22,10 +22,45 @@ start      $2000 (8192)
 placed     3 bytes
 adjusted   1 field
 map
-  $2000-$2002  loaded     3 bytes, 2 adjusted
+  $2000-$2002  loaded     3 bytes, 2 of them adjusted
 dump
   $2000  4C 03 20                                         L.\x20
 """, "report")
+
+
+@test
+def a_move_is_reported(desk):
+    desk.put("f", P1)
+    desk.put("image", LOADED)
+    words = ("move", "f", "--form", "device", "--memory", "image", "--to-main", "$3000")
+    report = """\
+accepted
+moved      $2000 to $3000, zero page $80 to $80
+start      $3000 (12288)
+placed     3 bytes
+adjusted   1 field
+map
+  $3000-$3002  loaded     3 bytes, 2 of them adjusted
+"""
+    same(desk.text(ACCEPTED, *words, "--out", "image"), report, "report")
+    lines = report.splitlines()
+    same(desk.text(ACCEPTED, *words, "--out", "image").splitlines(),
+         lines[:2] + ["replaced   a copy of the handler that was at the new bases"] + lines[2:], "report of the same move again")
+    same(desk.text(ACCEPTED, *words[:-1], "$4000").splitlines()[2], "stored     nowhere: there is no --out", "third line without --out")
+
+
+@test
+def a_copy_at_the_new_bases_is_one_outside_the_old_places(desk):
+    clock = f"{EXAMPLES}/clock.acx"
+    replaced = lambda *words: "\nreplaced " in desk.text(ACCEPTED, "move", clock, "--memory", "image", "--out", "image", *words)
+    for before in (bytes(MEMORY), PATTERN):
+        desk.put("image", before)
+        desk.text(ACCEPTED, "acx", clock, "--memory", "image", "--out", "image")
+        bases = (("$2000", "$80"), ("$2010", "$80"), ("$2010", "$90"), ("$5000", "$C0"))
+        for (main, zero), (to_main, to_zero) in zip(bases, bases[1:]):
+            holds(not replaced("--from-main", main, "--from-zero", zero, "--to-main", to_main, "--to-zero", to_zero), f"copy at {to_main}")
+        # back to where it was before: what it left there is a copy
+        holds(replaced("--from-main", "$5000", "--from-zero", "$C0", "--to-main", "$2010", "--to-zero", "$90"), "no copy where it was")
 
 
 @test
@@ -54,7 +89,7 @@ new names  1
 low        $1F07 (7943)
 map
   $02E0-$02E1  loaded     2 bytes
-  $1F00-$1F02  loaded     3 bytes, 2 adjusted
+  $1F00-$1F02  loaded     3 bytes, 2 of them adjusted
   $1F03-$1F06  reserved   4 bytes
 dump
   $02E0  34 12                                            4.
@@ -262,6 +297,8 @@ WRONG_SETTINGS = (
     (("sdx", "s", "--low", "65536", "--high", "65536"), ["--low is 65536; 0 to 65535", "--high is 65536; 0 to 65535"]),
     ((*MOVE, "--from-main", "65536", "--to-main", "1"), ["--from-main is 65536; 0 to 65535"]),
     ((*MOVE, "--from-zero", "256", "--to-zero", "1"), ["--from-zero is 256; 0 to 255"]),
+    # --to-main is the same, and was not given
+    ((*MOVE, "--from-main", "70000", "--to-zero", "1"), ["--from-main is 70000; 0 to 65535"]),
     ((*MOVE, "--to-main", "65536"), ["--to-main is 65536; 0 to 65535"]),
     ((*MOVE, "--to-zero", "256"), ["--to-zero is 256; 0 to 255"]),
 )
@@ -312,12 +349,15 @@ def a_file_of_another_kind_says_which_command_was_meant(desk):
                  f"{command} on {word:02X} FF")
         same(desk.text(REFUSED, command, "disk", "--form", "device", *more).splitlines()[2],
              "it opens F0 FF, as disk form does: '--form disk' was meant?", f"{command} on disk form")
-        same(desk.text(REFUSED, command, "device", *more).splitlines()[2], "it opens as device form may: '--form device' was meant?",
-             f"{command} on device form")
+        same(desk.text(REFUSED, command, "device", *more).splitlines()[2],
+             "it opens as an ACX handler in device form may: '--form device' was meant?", f"{command} on device form")
+    same(desk.text(REFUSED, "sdx", "device").splitlines()[2],
+         "it opens as an ACX handler in device form may: 'tekoweapa acx --form device' was meant?", "sdx on device form")
     # no guess where there is nothing to go by
-    desk.put("f", b"\xF9\xFF\x00\x00")
-    for words in (("sdx",), ("acx",), ("acx", "--form", "device")):
-        holds("was meant" not in desk.text(REFUSED, words[0], "f", *words[1:]), f"a guess by {words}")
+    for content in (b"\xF9\xFF\x00\x00", bytes(MEMORY), b"\x00", b"\xF0", b"\x02\x05\x00\x00"):
+        desk.put("f", content)
+        for words in (("sdx",), ("acx",), ("acx", "--form", "device")):
+            holds("was meant" not in desk.text(REFUSED, words[0], "f", *words[1:]), f"a guess by {words} at {content[:4]}")
 
 
 @test
@@ -331,7 +371,7 @@ def a_program_with_many_fields_has_a_short_report(desk):
     command = ("sdx", "f", "--low", "$F000", "--high", "$FFFF")
     lines = desk.text(ACCEPTED, *command).splitlines()
     same(lines[lines.index("map") + 1:],
-         [f"  $1000-${last:04X}  loaded     {3 * words} bytes, {2 * words} adjusted", "  $F000-$F000  reserved   1 byte"], "map")
+         [f"  $1000-${last:04X}  loaded     {3 * words} bytes, {2 * words} of them adjusted", "  $F000-$F000  reserved   1 byte"], "map")
     same(len(desk.text(ACCEPTED, *command, "--ranges").splitlines()), len(lines) - 1 + 2 * words, "lines with --ranges")
     same(len(desk.answer(ACCEPTED, *command)["ranges"]), 2 * words + 1, "ranges in JSON")
     same(desk.text(ACCEPTED, *command, "--quiet"), "accepted\n", "--quiet")

@@ -36,7 +36,7 @@ def until(condition, what):
 @test
 def outputs_replace_files_whole(desk):
     desk.put("f", P1)
-    desk.put("out", b"old and longer than new" * 5000)
+    desk.put("out", PATTERN)
     os.chmod(desk.path("out"), 0o640)
     os.symlink("out", desk.path("link"))
     desk.text(ACCEPTED, "acx", "f", "--form", "device", "--out", "link", "--fresh")
@@ -55,7 +55,7 @@ def a_file_keeps_its_owner_and_group(desk):
     if os.geteuid() != 0:
         raise Skipped("only root can give files away")
     desk.put("f", P1)
-    desk.put("map", b"old")
+    desk.put("map", b"")
     os.chown(desk.path("map"), NOBODY, 12345)
     os.chmod(desk.path("map"), 0o664)
     desk.text(ACCEPTED, "acx", "f", "--form", "device", "--map", "map")
@@ -69,7 +69,7 @@ def a_group_that_cannot_be_kept_gives_no_rights_to_another(desk):
     desk.put("f", P1)
     os.mkdir(desk.path("own"))
     os.chown(desk.path("own"), NOBODY, NOBODY)
-    desk.put("own/map", b"old")
+    desk.put("own/map", b"")
     os.chown(desk.path("own/map"), NOBODY, 12345)
     os.chmod(desk.path("own/map"), 0o664)
     desk.text(ACCEPTED, "acx", "f", "--form", "device", "--map", "own/map", **more)
@@ -100,7 +100,7 @@ def somebody_elses_file_is_refused_with_the_reason(desk):
         os.mkdir(desk.path(folder))
         os.chmod(desk.path(folder), mode)
         for name, permissions in (("theirs", 0o644), ("shared", 0o666)):
-            desk.put(f"{folder}/{name}", b"old")
+            desk.put(f"{folder}/{name}", b"")
             os.chmod(desk.path(f"{folder}/{name}"), permissions)
     desk.trouble("acx", "f", "--map", "open/theirs", mention="open/theirs: can't be written: Permission denied", **more)
     desk.trouble("acx", "f", "--map", "shut/theirs", mention="shut/theirs: can't be written: Permission denied", **more)
@@ -137,7 +137,7 @@ def signals_leave_nothing_behind(desk):
     desk.put("f", P1)
     os.mkfifo(desk.path("fifo"))
     before = desk.listing()
-    for number in (signal.SIGINT, signal.SIGTERM, signal.SIGHUP):
+    for number in (signal.SIGINT, signal.SIGTERM, signal.SIGHUP, signal.SIGQUIT):
         process = start(desk, "acx", "f", "--form", "device", "--map", "new", "--picture", "fifo")
         until(lambda: temporaries(desk), "a temporary file")
         process.send_signal(number)
@@ -187,7 +187,7 @@ def no_output_replaces_what_is_read(desk):
 @test
 def two_outputs_may_not_share_a_path(desk):
     desk.put("f", P1)
-    desk.put("there", b"old")
+    desk.put("there", b"")
     os.symlink("there", desk.path("link"))
     os.mkdir(desk.path("folder"))
     os.mkfifo(desk.path("fifo"))
@@ -214,7 +214,7 @@ def two_names_of_one_device_are_one_target(desk):
 @test
 def an_output_that_cannot_be_a_file_is_an_error(desk):
     desk.put("f", P1)
-    desk.put("there", b"old")
+    desk.put("there", b"")
     os.mkdir(desk.path("folder"))
     os.symlink("nowhere", desk.path("link"))
     for target, cause in (("folder", "is a directory"), ("folder/", "names no file"), ("", "names no file"), (".", "is a directory"),
@@ -237,7 +237,7 @@ def limited(length):
 @test
 def a_full_disk_leaves_every_target_as_it_was(desk):
     desk.put("f", P1)
-    desk.put("old", b"old")
+    desk.put("old", b"")
     words = ("acx", "f", "--form", "device", "--fresh")
     for length in (0, 1, 4096, 65535):
         for name in ("--out", "--map", "--picture"):
@@ -266,7 +266,7 @@ def a_full_disk_does_not_end_the_program_by_a_signal(desk):
 @test
 def a_reader_that_leaves_is_an_error(desk):
     desk.put("f", P1)
-    desk.put("old", b"old")
+    desk.put("old", PATTERN)
     words = ("acx", "f", "--form", "device")
     os.mkfifo(desk.path("fifo"))
     reader = threading.Thread(daemon=True, target=lambda: open(desk.path("fifo"), "rb", buffering=0).close())
@@ -275,7 +275,7 @@ def a_reader_that_leaves_is_an_error(desk):
     reader.join(20)
     same((done.returncode, done.stdout), (TROUBLE, b""), "exit status and output with the FIFO")
     holds(done.stderr.startswith(b"tekoweapa: fifo: can't be written"), f"error with the FIFO: {done.stderr}")
-    same((sorted(desk.listing()), desk.get("old")), (["f", "fifo", "old"], b"old"), "files")
+    same((sorted(desk.listing()), desk.get("old")), (["f", "fifo", "old"], PATTERN), "files")
 
 
 @test
@@ -283,7 +283,7 @@ def an_error_of_a_device_is_an_error(desk):
     """A device like /dev/full, but the test's own."""
     make_device(desk, "full", 7)
     desk.put("f", P1)
-    desk.put("old", b"old")
+    desk.put("old", b"")
     words = ("acx", "f", "--form", "device")
     for name in ("--out", "--map", "--picture"):
         other = "--map" if name == "--out" else "--out"
@@ -320,10 +320,22 @@ def standard_output_is_no_target(desk):
 
 
 @test
+def standard_error_is_no_target(desk):
+    """A warning would go to a file that is no longer there."""
+    desk.put("f", P1)
+    desk.put("log", b"")
+    with open(desk.path("log"), "wb") as log:
+        done = subprocess.run([PROGRAM, "acx", "f", "--form", "device", "--map", "log"], cwd=desk.folder, stdin=subprocess.DEVNULL,
+                              stdout=subprocess.PIPE, stderr=log, timeout=60)
+    same((done.returncode, done.stdout), (TROUBLE, b""), "exit status and output")
+    same(desk.get("log"), b"tekoweapa: log: can't be written: standard error goes there\n", "error")
+
+
+@test
 def an_error_on_standard_output_is_an_error(desk):
     desk.put("f", P1)
     desk.put("g", P10)
-    desk.put("old", b"old")
+    desk.put("old", PATTERN)
     with open("/dev/full", "wb") as full:
         desk.trouble("--help", mention="standard output", stdout=full)
         for words in (["f"], ["f", "--json"], ["f", "--dump"], ["g"], ["g", "--json"]):
@@ -336,7 +348,7 @@ def an_error_on_standard_output_is_an_error(desk):
 @test
 def a_closed_pipe_is_an_error(desk):
     desk.put("f", bytes.fromhex("FF FF 00 00 F8 FF") + bytes(65529))
-    desk.put("old", b"old")
+    desk.put("old", PATTERN)
     for words in ([], ["--dump"], ["--json"]):
         reader, writer = os.pipe()
         os.close(reader)
@@ -344,51 +356,101 @@ def a_closed_pipe_is_an_error(desk):
         os.close(writer)
 
 
-@test
-def a_failed_rename_is_taken_back(desk):
-    """Image and map are whole in their temporary files, and the picture waits for a reader, when a directory takes the map's place."""
-    desk.put("f", P1)
-    for image in ("old", "new"):
-        desk.put("old", b"old")
-        os.mkfifo(desk.path("fifo"))
-        process = start(desk, "acx", "f", "--form", "device", "--out", image, "--fresh", "--map", "map", "--picture", "fifo")
-        until(lambda: len(temporaries(desk)) == 2, "the temporary files")
-        os.mkdir(desk.path("map"))
-        desk.get("fifo")
-        output, errors = process.communicate(timeout=20)
-        # the report is out by then
-        same((process.returncode, errors), (TROUBLE, b"tekoweapa: map: can't be written: Is a directory\n"), f"exit status with {image}")
-        same(desk.listing(), {"f": P1, "fifo": stat.S_IFIFO, "old": b"old"}, f"the folder with {image}")
-        os.rmdir(desk.path("map"))
-        os.remove(desk.path("fifo"))
-
-
-@test
-def the_directory_is_synced_after_the_renames(desk):
-    """A library that is loaded before the program's own lets the sync of a directory fail: what was renamed by then is taken back."""
-    desk.put("sync.c", b"""
-        #define _XOPEN_SOURCE 700
+def with_failures(desk, **failures):
+    """The environment of a run whose system calls fail as asked: SYNC is the error of syncing a directory, RENAME a name that nothing can be
+    renamed to."""
+    desk.put("failures.c", b"""
+        #define _GNU_SOURCE
         #include <errno.h>
+        #include <fcntl.h>
+        #include <stdio.h>
         #include <stdlib.h>
+        #include <string.h>
         #include <sys/stat.h>
         int fsync(int file)
         {
             struct stat entry;
-            if (fstat(file, &entry) != 0 || !S_ISDIR(entry.st_mode))
+            if (getenv("SYNC") == NULL || fstat(file, &entry) != 0 || !S_ISDIR(entry.st_mode))
                 return 0;
-            errno = atoi(getenv("SYNC_ERROR"));
+            errno = atoi(getenv("SYNC"));
+            return -1;
+        }
+        int rename(const char *from, const char *to)
+        {
+            if (getenv("RENAME") == NULL || strcmp(basename(to), getenv("RENAME")) != 0)
+                return renameat(AT_FDCWD, from, AT_FDCWD, to);
+            errno = EIO;
             return -1;
         }
     """)
-    subprocess.run(["gcc", "-shared", "-fPIC", "-o", "sync.so", "sync.c"], cwd=desk.folder, check=True, timeout=60)
+    subprocess.run(["gcc", "-shared", "-fPIC", "-o", "failures.so", "failures.c"], cwd=desk.folder, check=True, timeout=60)
+    return dict(os.environ, LD_PRELOAD=desk.path("failures.so"), **failures)
+
+
+@test
+def a_failed_rename_is_taken_back(desk):
     desk.put("f", P1)
-    desk.put("old", b"old")
+    desk.put("old", PATTERN)
+    failing = with_failures(desk, RENAME="map")
+    for image in ("old", "new"):
+        desk.trouble("acx", "f", "--form", "device", "--out", image, "--fresh", "--map", "map", env=failing,
+                     mention="map: can't be written: Input/output error")
+
+
+@test
+def the_directory_is_synced_after_the_renames(desk):
+    desk.put("f", P1)
+    desk.put("old", PATTERN)
     words = ("acx", "f", "--form", "device", "--out", "old", "--fresh", "--map", "new")
-    before = desk.listing()
-    failing = lambda error: dict(os.environ, LD_PRELOAD=desk.path("sync.so"), SYNC_ERROR=str(error))
-    done = desk.run(*words, env=failing(errno.EIO))
-    same((done.returncode, done.stderr), (TROUBLE, b"tekoweapa: old: can't be written: Input/output error\n"), "exit status and error")
-    same(desk.listing(), before, "the folder")
+    failing = with_failures(desk, SYNC=str(errno.EIO))
+    desk.trouble(*words, env=failing, mention="old: can't be written: Input/output error")
     # a file system that can't be asked for it is none to complain of
-    same(desk.run(*words, env=failing(errno.EINVAL)).returncode, ACCEPTED, "exit status where a directory can't be synced")
+    desk.text(ACCEPTED, *words, env=failing | {"SYNC": str(errno.EINVAL)})
     same((len(desk.get("old")), len(desk.get("new"))), (MEMORY, MEMORY), "lengths")
+
+
+@test
+def a_target_that_has_changed_meanwhile_is_left(desk):
+    """Image and map are whole in their temporary files, and the picture waits for a reader, when somebody changes a target."""
+    desk.put("f", P1)
+    changes = {
+        "a new image": ("image", lambda: desk.put("image", LOADED)),
+        "another mode": ("image", lambda: os.chmod(desk.path("image"), 0o444)),
+        "another name": ("image", lambda: os.link(desk.path("image"), desk.path("second"))),
+        "no image": ("image", lambda: os.remove(desk.path("image"))),
+        "another image in its place": ("image", lambda: os.replace(desk.path("other"), desk.path("image"))),
+        "a map": ("map", lambda: desk.put("map", b"")),
+        "a directory": ("map", lambda: os.mkdir(desk.path("map"))),
+    }
+    for what, (target, change) in changes.items():
+        desk.put("image", PATTERN)
+        desk.put("other", PATTERN)
+        os.mkfifo(desk.path("fifo"))
+        process = start(desk, "acx", "f", "--form", "device", "--memory", "image", "--out", "image", "--map", "map", "--picture", "fifo")
+        until(lambda: len(temporaries(desk)) == 2, "the temporary files")
+        change()
+        before = desk.listing()
+        desk.get("fifo")
+        output, errors = process.communicate(timeout=20)
+        said = f"tekoweapa: {target}: can't be written: it has changed meanwhile\n".encode()
+        same((process.returncode, output, errors), (TROUBLE, b"", said), f"exit status and output with {what}")
+        same(desk.listing(), {name: before[name] for name in before if not name.startswith(".tekoweapa-")}, f"the folder with {what}")
+        for name in os.listdir(desk.folder):
+            if name == "map" and os.path.isdir(desk.path(name)):
+                os.rmdir(desk.path(name))
+            elif name != "f":
+                os.remove(desk.path(name))
+
+
+@test
+def a_signal_while_the_report_waits_leaves_no_file_behind(desk):
+    """The outputs are in their places by then; only the report is not out, since nobody reads the pipe."""
+    desk.put("f", bytes.fromhex("FF FF 00 00 F8 FF") + bytes(65529))
+    desk.put("map", b"")
+    process = start(desk, "sdx", "f", "--dump", "--map", "map")
+    until(lambda: len(desk.get("map")) == MEMORY, "the map")
+    process.send_signal(signal.SIGTERM)
+    process.wait(20)
+    process.stdout.close()
+    process.stderr.close()
+    same((process.returncode, sorted(os.listdir(desk.folder))), (-signal.SIGTERM, ["f", "map"]), "exit status and files")

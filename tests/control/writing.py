@@ -1,6 +1,6 @@
 """What is written: images, maps, and what a move leaves and warns of."""
 
-from desk import ACCEPTED, REFUSED, EXAMPLES, LOADED, MEMORY, P1, P3, P6, P10, PATTERN, same, test, with_bytes
+from desk import ACCEPTED, REFUSED, EXAMPLES, LOADED, MEMORY, P1, P3, P6, P10, PATTERN, holds, same, test, with_bytes
 
 
 @test
@@ -30,9 +30,31 @@ def an_image_that_is_there_is_not_begun_anew(desk):
     same(desk.get("heat.img"), with_bytes(bytes(MEMORY), (0x1F00, b"\x4C\x00\x1F")), "the image with --fresh")
     desk.text(ACCEPTED, "sdx", "s", "--out", "other.img", "--fresh")
     same(desk.get("other.img"), desk.get("heat.img"), "a new image with --fresh")
-    # a map is made anew each time
-    desk.text(ACCEPTED, "sdx", "s", "--map", "map")
-    desk.text(ACCEPTED, "sdx", "s", "--map", "map")
+
+
+@test
+def an_output_replaces_its_own_kind_alone(desk):
+    """A map has the length of an image, and would else replace one that is named for it by a slip."""
+    desk.put("f", P1)
+    image, marks = PATTERN[::-1], bytes(range(4)) * (MEMORY // 4)
+    desk.put("before", PATTERN)
+    words = ("acx", "f", "--form", "device", "--memory", "before")
+    png, ppm = b"\x89PNG\r\n\x1A\nold", b"P6\nold"
+    almost = marks[:-1] + b"\4"
+    others = (image, almost, image[:-1], marks[:-1], marks + b"\0", b"text", b"P6", b"P5\n", png[:7])
+    for name, kind, own in (("--out", "image", (image, marks, almost)), ("--map", "map", (marks,)), ("--picture", "picture", (png, ppm))):
+        for content in (*own, b""):
+            desk.put("there", content)
+            desk.text(ACCEPTED, *words, name, "there")
+            holds(desk.get("there") != content, f"{name} did not replace {content[:9]}")
+        for content in others:
+            if content not in own:
+                desk.put("there", content)
+                desk.trouble(*words, name, "there", mention=f"there: is there already and is no {kind}; remove it, or give another name")
+    # a refused call, and the examples' own mistakes
+    desk.put("heat.img", LOADED)
+    desk.trouble("acx", "f", "--map", "heat.img", mention="is no map")
+    desk.trouble("acx", "f", "--picture", "heat.img", mention="is no picture")
 
 
 @test
@@ -62,21 +84,23 @@ def all_four_bases_of_a_move_count(desk):
 
 @test
 def a_move_from_wrong_bases_is_made_with_a_warning(desk):
-    """"All bytes outside fields that are not zero" decide: live data begin with zeros, and so does empty memory."""
     clock = f"{EXAMPLES}/clock.acx"
     words = ("move", clock, "--memory", "image", "--to-main", "$6000", "--out", "after")
+    main = f"{clock}: warning: the handler does not seem to be at $4000: "
+    zero = f"{clock}: warning: the handler's zero-page part does not seem to be at $C0: "
     for before in (bytes(MEMORY), PATTERN):
         desk.put("image", before)
         desk.text(ACCEPTED, "acx", clock, "--memory", "image", "--out", "image")
         report = desk.text(ACCEPTED, *words)
-        wrong = desk.text(ACCEPTED, *words, "--from-main", "$4000",
-                          warning=f"{clock}: warning: the handler does not seem to be at $4000 (zero page $80): ")
-        same(wrong, report, "the report of the move from wrong bases")
-        desk.answer(ACCEPTED, *words, "--from-main", "$4000", warning="seem")
-        desk.text(ACCEPTED, *words, "--from-main", "$4000", "--quiet", warning="seem")
+        wrong = desk.text(ACCEPTED, *words, "--from-main", "$4000", warning=main)
+        same(wrong.replace("$4000 to", "$2000 to"), report, "the report of the move from wrong bases")
+        desk.text(ACCEPTED, *words, "--from-zero", "$C0", warning=zero)
+        desk.answer(ACCEPTED, *words, "--from-main", "$4000", warning=main)
+        desk.text(ACCEPTED, *words, "--from-main", "$4000", "--quiet", warning=main)
+        both = desk.run(*words, "--from-main", "$4000", "--from-zero", "$C0")
+        same((both.returncode, both.stderr.count(b": warning: ")), (ACCEPTED, 2), "exit status and warnings")
         # counters and scores that have changed are no cause for a warning
-        live = with_bytes(desk.get("image"), (0x80, bytes(range(1, 5))), (0x2100, bytes(range(1, 19))))
-        desk.put("image", live)
+        desk.put("image", with_bytes(desk.get("image"), (0x80, bytes(range(1, 5))), (0x2100, bytes(range(1, 19)))))
         desk.text(ACCEPTED, *words)
     # a refused move says nothing of it
     desk.put("image", PATTERN)
@@ -85,16 +109,20 @@ def a_move_from_wrong_bases_is_made_with_a_warning(desk):
 
 @test
 def the_warning_goes_by_most_of_the_code(desk):
-    """Four bytes outside fields that count, one that is zero, a field."""
-    desk.put("f", bytes.fromhex("00 09 00 00 11 22 33 44 00 03 00 06 01 05 0B 00 00 00"))
-    words = ("move", "f", "--form", "device", "--memory", "image", "--to-main", "$3000")
-    for code, warning in (("11 22 33 44 00", None), ("11 22 33 99 99", None), ("11 22 99 99 99", None), ("11 99 99 99 00", "3 of 4"),
-                          ("99 99 99 99 99", "4 of 4")):
-        desk.put("image", with_bytes(PATTERN, (0x2000, bytes.fromhex(code))))
-        desk.text(ACCEPTED, *words, warning=None if warning is None else f"{warning} code bytes differ there")
+    """Four bytes outside fields that count, one that is zero, a field; the same in zero page."""
+    piece = "09 00 00 11 22 33 44 00 03 00"
+    desk.put("main", bytes.fromhex(f"00 {piece} 06 01 05 0B 00 00 00"))
+    desk.put("zero", bytes.fromhex(f"0A {piece} 07 01 05 0B 00 00 00"))
+    for file, address, subject in (("main", 0x2000, "the handler does"), ("zero", 0x80, "the handler's zero-page part does")):
+        words = ("move", file, "--form", "device", "--memory", "image", "--to-main", "$3000")
+        for code, count in (("11 22 33 44 00", 0), ("11 22 33 99 99", 0), ("11 22 99 99 99", 0), ("11 99 99 99 00", 3),
+                            ("99 99 99 99 99", 4)):
+            desk.put("image", with_bytes(PATTERN, (address, bytes.fromhex(code))))
+            desk.text(ACCEPTED, *words, warning=f"{subject} not seem to be at ${address:0{4 if address > 255 else 2}X}: "
+                      f"{count} of 4 code bytes differ there\n" if count else None)
     # a handler without such bytes gives no cause
     desk.put("f", bytes.fromhex("00 05 00 00 00 03 00 06 01 01 0B 00 00 00"))
-    desk.text(ACCEPTED, *words)
+    desk.text(ACCEPTED, "move", "f", *words[2:])
 
 
 @test
