@@ -35,6 +35,7 @@ static bool read_image(const char *path, uint8_t *memory, uint8_t *spare)
 bool fill_buffers(const struct options *options, struct buffers *buffers)
 {
     /* The image goes through the room of the file, which has the one byte more that shows an image too long. */
+    _Static_assert(sizeof buffers->file > TKW_MEMORY_LENGTH, "an image has no room where the file is read");
     if (options->memory != NULL && !read_image(options->memory, buffers->memory, buffers->file))
         return false;
     if (options->names != NULL && !read_names(options->names, &buffers->known))

@@ -5,55 +5,48 @@
 #include <stdio.h>
 
 /* An error in printing an error has nowhere to go; the exit status still says it. */
-static void print_opening(const char *subject, size_t line)
+static void say(const char *subject, size_t line, const char *kind, const char *what, va_list arguments, const char *ending)
 {
     fputs("tekoweapa: ", stderr);
     print_subject(stderr, subject);
     if (line > 0)
         fprintf(stderr, ": line %zu", line);
-    fputs(": ", stderr);
+    fprintf(stderr, ": %s", kind);
+    vfprintf(stderr, what, arguments);
+    fprintf(stderr, "%s\n", ending);
 }
 
 bool complain(const char *subject, const char *what, ...)
 {
     va_list arguments;
-    print_opening(subject, 0);
     va_start(arguments, what);
-    vfprintf(stderr, what, arguments);
+    say(subject, 0, "", what, arguments, "");
     va_end(arguments);
-    fputc('\n', stderr);
     return false;
 }
 
 bool complain_of_line(const char *subject, size_t line, const char *what, ...)
 {
     va_list arguments;
-    print_opening(subject, line);
     va_start(arguments, what);
-    vfprintf(stderr, what, arguments);
+    say(subject, line, "", what, arguments, "");
     va_end(arguments);
-    fputc('\n', stderr);
     return false;
 }
 
 bool misused(const char *subject, const char *what, ...)
 {
     va_list arguments;
-    print_opening(subject, 0);
     va_start(arguments, what);
-    vfprintf(stderr, what, arguments);
+    say(subject, 0, "", what, arguments, " (see 'tekoweapa --help')");
     va_end(arguments);
-    fputs(" (see 'tekoweapa --help')\n", stderr);
     return false;
 }
 
 void warn(const char *subject, size_t line, const char *what, ...)
 {
     va_list arguments;
-    print_opening(subject, line);
-    fputs("warning: ", stderr);
     va_start(arguments, what);
-    vfprintf(stderr, what, arguments);
+    say(subject, line, "warning: ", what, arguments, "");
     va_end(arguments);
-    fputc('\n', stderr);
 }

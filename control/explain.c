@@ -1,5 +1,6 @@
 #include "explain.h"
 #include "files.h"
+#include "number.h"
 #include "text.h"
 
 bool is_of_call(uint32_t number)
@@ -7,11 +8,9 @@ bool is_of_call(uint32_t number)
     return number == TKW_WRONG_BUFFER || number == TKW_SETTING_OUT_OF_RANGE || number == TKW_FILE_TOO_LONG;
 }
 
-/* All lengths are right but perhaps that of the list of names. */
+/* All lengths are right here but that of the list of names. */
 static void explain_buffers(FILE *stream, const struct options *options, const struct buffers *buffers)
 {
-    if (buffers->known.listed <= TKW_KNOWN_MOST)
-        return;
     fputs("--names: ", stream);
     print_subject(stream, shown_name(options->names));
     fprintf(stream, " has %zu names; at most %d\n", buffers->known.listed, TKW_KNOWN_MOST);
@@ -24,7 +23,8 @@ static void explain_settings(FILE *stream, const struct options *options)
     for (size_t i = 0; i < count; i++)
         if (settings[i].given && settings[i].value > settings[i].most)
             fprintf(stream, "%s is %u; 0 to %u\n", settings[i].option, settings[i].value, settings[i].most);
-    if (options->command == COMMAND_SDX && options->low.value <= 65535 && options->low.value > options->high.value)
+    /* Of commands without these two they are the defaults. */
+    if (options->low.value <= ADDRESS_MOST && options->low.value > options->high.value)
         fprintf(stream, "--low is %u; 0 to %u, which is --high\n", options->low.value, options->high.value);
 }
 

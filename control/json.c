@@ -56,7 +56,6 @@ static void print_ranges(FILE *stream, const uint8_t *map)
 void print_json(FILE *stream, const struct options *options, const struct buffers *buffers, const struct answer *answer)
 {
     bool accepted = answer->number == TKW_ACCEPTED;
-    bool init = accepted && has_init(options, buffers);
     fprintf(stream, "{\"version\":\"%s\",\"command\":\"%s\",\"file\":", TKW_VERSION, command_name(options->command));
     print_path(stream, options->file, JSON_ESCAPE);
     fputc(',', stream);
@@ -66,7 +65,7 @@ void print_json(FILE *stream, const struct options *options, const struct buffer
     print_member(stream, "offset", !accepted, answer->offset);
     print_member(stream, "side", !accepted && options->command == COMMAND_MOVE, answer->side);
     print_member(stream, "start", answer->start_present != 0, answer->start);
-    print_member(stream, "init", init, read_word(buffers->memory + INIT_ADDRESS));
+    print_member(stream, "init", has_init(options, buffers), read_word(buffers->memory + INIT_ADDRESS));
     print_member(stream, "placed", accepted, answer->placed);
     print_member(stream, "adjusted", accepted, answer->adjusted);
     print_names(stream, buffers, answer->new_names);

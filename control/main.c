@@ -117,12 +117,11 @@ static int run(const struct options *options, struct work *work)
 static int run_with_room(const struct options *options)
 {
     struct work *work = calloc(1, sizeof *work);
-    int status = EXIT_TROUBLE;
     if (work == NULL) {
         complain("memory", "there is not enough");
-        return status;
+        return EXIT_TROUBLE;
     }
-    status = run(options, work);
+    int status = run(options, work);
     clean_outputs(work->outputs, OUTPUTS);
     free(work->picture);
     free(work);
@@ -131,13 +130,15 @@ static int run_with_room(const struct options *options)
 
 int main(int count, char **words)
 {
-    struct options options;
-    if (!watch_writing() || !watch_signals())
+    if (!watch_writing() || !watch_signals()) {
+        complain("signals", "can't be watched: %s", strerror(errno));
         return EXIT_TROUBLE;
+    }
     if (count < 2) {
         print_usage(stderr);
         return EXIT_TROUBLE;
     }
+    struct options options;
     if (!parse_options(count, words, &options))
         return EXIT_TROUBLE;
     if (!options.help && !options.version)

@@ -92,8 +92,8 @@ static bool take_address(struct line *line, uint32_t *address)
         line->at++;
     if (!parse_number(digits, (size_t)(line->at - digits), address))
         return complain_of_line(line->path, line->number, "the address is no number of at most 32 bits: decimal, 0x hex or $ hex");
-    if (*address > 65535)
-        return complain_of_line(line->path, line->number, "the address is %u; 0 to 65535", *address);
+    if (*address > ADDRESS_MOST)
+        return complain_of_line(line->path, line->number, "the address is %u; 0 to %d", *address, ADDRESS_MOST);
     skip_blanks(line);
     return is_over(line) || complain_of_line(line->path, line->number, "behind the address only a comment may stand, which begins with #");
 }

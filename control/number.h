@@ -6,6 +6,9 @@
 #include <stddef.h>
 #include <stdint.h>
 
+/* The greatest address. */
+enum { ADDRESS_MOST = 65535 };
+
 /* Reads the whole text as one number. False if it is none, or does not fit 32 bits. */
 bool parse_number(const char *text, size_t length, uint32_t *number);
 

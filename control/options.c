@@ -8,7 +8,7 @@
 
 enum { SDX = 1u << COMMAND_SDX, ACX = 1u << COMMAND_ACX, MOVE = 1u << COMMAND_MOVE, ANY = SDX | ACX | MOVE };
 
-enum { ADDRESS_MOST = 65535, ZERO_BASE_MOST = 255 };
+enum { ZERO_BASE_MOST = 255 };
 
 enum kind { FLAG, NUMBER, FORM, PATH };
 
@@ -54,6 +54,7 @@ static const struct option OPTIONS[] = {
 };
 
 enum { OPTION_COUNT = sizeof OPTIONS / sizeof OPTIONS[0] };
+_Static_assert(OPTION_COUNT <= 32, "an option has no bit in struct reading's `given`");
 
 static const char *const COMMANDS[] = {[COMMAND_SDX] = "sdx", [COMMAND_ACX] = "acx", [COMMAND_MOVE] = "move"};
 
@@ -87,9 +88,10 @@ size_t list_settings(const struct options *options, struct setting settings[SETT
 {
     size_t count = 0;
     for (size_t i = 0; i < OPTION_COUNT; i++) {
+        if (OPTIONS[i].most == 0 || (OPTIONS[i].commands & (1u << options->command)) == 0)
+            continue;
         const struct number *number = (const void *)((const char *)options + OPTIONS[i].member);
-        if (OPTIONS[i].most > 0 && (OPTIONS[i].commands & (1u << options->command)) != 0)
-            settings[count++] = (struct setting){OPTIONS[i].name, number->value, number->given, OPTIONS[i].most};
+        settings[count++] = (struct setting){OPTIONS[i].name, number->value, number->given, OPTIONS[i].most};
     }
     return count;
 }
@@ -135,11 +137,17 @@ static bool take_form(const struct option *option, const char *value, enum form 
     return place < count || misused(option->name, "is disk or device");
 }
 
+static bool take_number(const struct option *option, const char *value, struct number *number)
+{
+    number->given = true;
+    return parse_number(value, strlen(value), &number->value)
+        || misused(option->name, "needs a number of at most 32 bits: decimal, 0x hex or $ hex");
+}
+
 /* Sets the option's member from its value. */
 static bool take_value(const struct option *option, const char *value, struct options *options)
 {
     void *member = (char *)options + option->member;
-    struct number *number = member;
     switch (option->kind) {
     case FLAG:
         *(bool *)member = true;
@@ -150,14 +158,12 @@ static bool take_value(const struct option *option, const char *value, struct op
     case FORM:
         return take_form(option, value, member);
     case NUMBER:
-        number->given = true;
-        return parse_number(value, strlen(value), &number->value)
-            || misused(option->name, "needs a number of at most 32 bits: decimal, 0x hex or $ hex");
+        return take_number(option, value, member);
     }
     return false;
 }
 
-/* Finds the option of this name. False after a complaint, with the whole word in it. */
+/* Finds the option that has the word's first letters, this many, for its name. False after a complaint. */
 static bool find_option(const char *word, size_t length, enum command command, size_t *found)
 {
     size_t i = 0;

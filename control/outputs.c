@@ -17,7 +17,9 @@ static bool write_all(int file, const uint8_t *bytes, size_t length)
         ssize_t written = write(file, bytes, length);
         if (written < 0 && errno == EINTR)
             continue;
-        if (written < 0)
+        if (written == 0)
+            errno = EIO;
+        if (written <= 0)
             return false;
         bytes += written;
         length -= (size_t)written;
@@ -35,7 +37,9 @@ static bool keep_permissions(int file, const struct output *output)
         return true;
     if (fchown(file, former->st_uid, former->st_gid) != 0 && fchown(file, (uid_t)-1, former->st_gid) != 0)
         mode &= 0707;
-    return fchmod(file, mode) == 0;
+    /* Some file systems let no permissions be changed, and have one set for all files. */
+    struct stat now;
+    return (fstat(file, &now) == 0 && (now.st_mode & 0777) == mode) || fchmod(file, mode) == 0;
 }
 
 static bool write_output(struct output *output)
@@ -43,7 +47,7 @@ static bool write_output(struct output *output)
     bool direct = output->target == NULL;
     /* Who could not read the former file shall not read the new one while it is written. */
     mode_t mode = output->present ? output->former.st_mode & 0777 : 0666;
-    int file = direct ? open(output->path, O_WRONLY) : open_temporary(output->target, mode, &output->temporary);
+    int file = direct ? open(output->path, O_WRONLY | O_NOCTTY) : open_temporary(output->target, mode, &output->temporary);
     int error = 0;
     if (file < 0)
         return complain(output->path, "can't be written: %s", strerror(errno));
@@ -111,8 +115,10 @@ static bool rename_output(struct output *output)
 /* Sends the new name to the disk too, where that can be asked for: the directory can be opened, and its file system knows how. */
 static bool sync_directory(const struct output *output)
 {
-    char *directory = strndup(output->target, (size_t)(strrchr(output->target, '/') - output->target) + 1);
-    int file = directory == NULL ? -1 : open(directory, O_RDONLY | O_DIRECTORY);
+    char *directory = strndup(output->target, directory_length(output->target));
+    if (directory == NULL)
+        return complain(output->path, "there is not enough memory to write it");
+    int file = open(directory, O_RDONLY | O_DIRECTORY);
     int error = file >= 0 && fsync(file) != 0 && errno != EINVAL ? errno : 0;
     if (file >= 0)
         close(file);
@@ -123,12 +129,9 @@ static bool sync_directory(const struct output *output)
 /* Takes a renamed output back: its target is as before. */
 static void take_back(struct output *output)
 {
-    int failed = -1;
-    if (output->kept != NULL)
-        failed = rename(output->kept, output->target);
-    else if (!output->present)
-        failed = unlink(output->target);
-    if (failed != 0)
+    if (output->kept != NULL && rename(output->kept, output->target) != 0)
+        complain(output->path, "is written and can't be taken back; what was there is %s", output->kept);
+    else if (output->kept == NULL && (output->present || unlink(output->target) != 0))
         complain(output->path, "is written and can't be taken back");
     output->renamed = false;
     forget_temporary(output->kept);
@@ -140,7 +143,7 @@ static void take_back(struct output *output)
 static void remove_own(char **name)
 {
     if (*name != NULL && unlink(*name) != 0)
-        complain(*name, "can't be removed: %s", strerror(errno));
+        warn(*name, 0, "can't be removed: %s", strerror(errno));
     forget_temporary(*name);
     free(*name);
     *name = NULL;
@@ -169,31 +172,31 @@ static void take_back_all(struct output *outputs, size_t count)
 bool rename_outputs(struct output *outputs, size_t count)
 {
     /* A signal in between would leave some outputs of this run beside some of the last. */
-    hold_signals();
+    sigset_t former = hold_signals();
     bool good = rename_all(outputs, count);
     if (!good)
         take_back_all(outputs, count);
-    release_signals();
+    release_signals(former);
     return good;
 }
 
 void settle_outputs(struct output *outputs, size_t count)
 {
-    hold_signals();
+    sigset_t former = hold_signals();
     for (size_t i = 0; i < count; i++) {
         outputs[i].renamed = false;
         remove_own(&outputs[i].kept);
     }
-    release_signals();
+    release_signals(former);
 }
 
 void clean_outputs(struct output *outputs, size_t count)
 {
-    hold_signals();
+    sigset_t former = hold_signals();
     take_back_all(outputs, count);
     for (size_t i = 0; i < count; i++) {
         remove_own(&outputs[i].temporary);
         free(outputs[i].target);
     }
-    release_signals();
+    release_signals(former);
 }

@@ -14,11 +14,12 @@ struct load {
 
 enum { OLD, NEW, LOADS };
 
-static void load_copy(const struct options *options, const struct buffers *buffers, uint32_t main_base, uint32_t zero_base, struct load *load)
+static void load_copy(const struct options *options, const struct buffers *buffers, struct number main_base, struct number zero_base,
+                      struct load *load)
 {
     memcpy(load->memory, buffers->memory, sizeof load->memory);
-    tkw_acx_load(options->form, buffers->file, buffers->file_length, main_base, zero_base, load->memory, sizeof load->memory,
-                 load->map, sizeof load->map, load->answer, sizeof load->answer);
+    tkw_acx_load(options->form, buffers->file, buffers->file_length, main_base.value, zero_base.value,
+                 load->memory, sizeof load->memory, load->map, sizeof load->map, load->answer, sizeof load->answer);
 }
 
 /* Compares a byte that is placed and counts, if there is one at the address. */
@@ -35,8 +36,8 @@ bool find_handler(const struct options *options, const struct buffers *buffers, 
     struct load *loads = malloc(LOADS * sizeof *loads);
     if (loads == NULL)
         return complain(shown_name(options->file), "there is not enough memory to move it");
-    load_copy(options, buffers, options->from_main.value, options->from_zero.value, &loads[OLD]);
-    load_copy(options, buffers, options->to_main.value, options->to_zero.value, &loads[NEW]);
+    load_copy(options, buffers, options->from_main, options->from_zero, &loads[OLD]);
+    load_copy(options, buffers, options->to_main, options->to_zero, &loads[NEW]);
     *presence = (struct presence){0};
     for (size_t address = 0; address < TKW_MEMORY_LENGTH; address++) {
         compare(&loads[OLD], address, buffers->memory, address < 256 ? &presence->zero_page : &presence->main);

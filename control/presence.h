@@ -11,8 +11,8 @@ struct likeness {
     size_t differing;
 };
 
-/* Of a load at the old bases, in page 0, where the zero-page base decides, and elsewhere; and of one at the new bases, outside of the places
- * of the first. */
+/* Of a load at the old bases, in page 0, where the zero-page base decides, and elsewhere; and of one at the new bases, outside of the
+ * places of the first. */
 struct presence {
     struct likeness zero_page;
     struct likeness main;

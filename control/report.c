@@ -73,8 +73,8 @@ static void print_start(FILE *stream, const struct options *options, const struc
         fprintf(stream, "init       $%04X (not run)\n", read_word(buffers->memory + INIT_ADDRESS));
 }
 
-/* From where to where a move went, and what people may not have meant by it: a copy overwritten, which may be the one that lives, and nothing
- * stored. */
+/* From where to where a move went, and what people may not have meant by it: a copy overwritten, which may be the one that lives, and
+ * nothing stored. */
 static void print_move(FILE *stream, const struct options *options, bool copied)
 {
     fprintf(stream, "moved      $%04X to $%04X, zero page $%02X to $%02X\n", options->from_main.value, options->to_main.value,

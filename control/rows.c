@@ -24,7 +24,7 @@ static void print_row(FILE *stream, size_t address, const uint8_t *bytes, size_t
     if (marked < count) {
         row[3 * marked] = '[';
         row[3 * marked + 3] = ']';
-    } else if (marked == count && count < ROW) {
+    } else if (marked == count) {
         memcpy(row + 3 * count, END, strlen(END));
     }
     /* A row without bytes has no text to stand in line. */

@@ -48,11 +48,15 @@ static char *absolute_path(const char *path)
     char *directory = directory_of(path);
     if (directory == NULL)
         return NULL;
+    /* The root's path is its slash. */
+    const char *between = strcmp(directory, "/") == 0 ? "" : "/";
     size_t room = strlen(directory) + strlen(name) + 2;
     char *absolute = malloc(room);
     if (absolute != NULL)
-        snprintf(absolute, room, "%s/%s", directory, name);
+        snprintf(absolute, room, "%s%s%s", directory, between, name);
+    int error = errno;
     free(directory);
+    errno = error;
     return absolute;
 }
 
@@ -86,7 +90,8 @@ static bool check_directory(struct output *output)
     free(path);
     if (!writable)
         return complain(output->path, "can't be written whole: its directory is not writable (%s)", strerror(error));
-    return !is_bound_by_sticky(output) || complain(output->path, "can't be replaced: its directory is sticky, and the file is somebody else's");
+    return !is_bound_by_sticky(output)
+        || complain(output->path, "can't be replaced: its directory is sticky, and the file is somebody else's");
 }
 
 /* An output replaces a file of its own kind alone, or an empty one: a map is no loss, and an image that is named for one would be. */

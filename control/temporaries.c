@@ -4,13 +4,12 @@
 
 #include <errno.h>
 #include <fcntl.h>
-#include <signal.h>
-#include <stddef.h>
 #include <stdio.h>
 #include <stdlib.h>
 #include <string.h>
 #include <unistd.h>
 
+/* What people, terminals and other programs end a program with. */
 static const int SIGNALS[] = {SIGINT, SIGTERM, SIGHUP, SIGQUIT};
 
 enum { SIGNAL_COUNT = sizeof SIGNALS / sizeof SIGNALS[0], TEMPORARIES_MOST = 8 };
@@ -38,7 +37,7 @@ static void end_by_signal(int number)
 
 bool watch_signals(void)
 {
-    struct sigaction action = {.sa_handler = end_by_signal, .sa_mask = watched_signals(), .sa_flags = SA_RESETHAND};
+    struct sigaction action = {.sa_handler = end_by_signal, .sa_mask = watched_signals(), .sa_flags = (int)SA_RESETHAND};
     for (size_t i = 0; i < SIGNAL_COUNT; i++) {
         struct sigaction former;
         if (sigaction(SIGNALS[i], NULL, &former) != 0)
@@ -49,16 +48,16 @@ bool watch_signals(void)
     return true;
 }
 
-void hold_signals(void)
+sigset_t hold_signals(void)
 {
-    sigset_t set = watched_signals();
-    sigprocmask(SIG_BLOCK, &set, NULL);
+    sigset_t set = watched_signals(), former;
+    sigprocmask(SIG_BLOCK, &set, &former);
+    return former;
 }
 
-void release_signals(void)
+void release_signals(sigset_t former)
 {
-    sigset_t set = watched_signals();
-    sigprocmask(SIG_UNBLOCK, &set, NULL);
+    sigprocmask(SIG_SETMASK, &former, NULL);
 }
 
 /* Puts a name in the place of another, or of none. */
@@ -82,9 +81,14 @@ void forget_temporary(const char *name)
         replace_name(name, NULL);
 }
 
+size_t directory_length(const char *path)
+{
+    return (size_t)(strrchr(path, '/') - path) + 1;
+}
+
 char *name_beside(const char *target, unsigned turn)
 {
-    size_t directory = (size_t)(strrchr(target, '/') - target) + 1;
+    size_t directory = directory_length(target);
     size_t room = directory + 64;
     char *name = malloc(room);
     if (name != NULL)
@@ -95,12 +99,12 @@ char *name_beside(const char *target, unsigned turn)
 /* Makes the file and notes its name, both or none. */
 static int open_new(const char *name, mode_t mode)
 {
-    hold_signals();
+    sigset_t former = hold_signals();
     int file = open(name, O_WRONLY | O_CREAT | O_EXCL, mode);
     int error = errno;
     if (file >= 0)
         note_temporary(name);
-    release_signals();
+    release_signals(former);
     errno = error;
     return file;
 }

@@ -34,7 +34,7 @@ static const char *const PRINTED =
     "'--option value' and '--option=value' are the same; '--' ends the options; '-' as a\n"
     "file that is read is standard input.\n"
     "Exit status: 0 accepted, 1 refused, 2 usage or a file that can't be read or written;\n"
-    "with 2 no output file is written.\n";
+    "with 2 every file is as it was.\n";
 
 /* The options of single commands, with the defaults that the library has. */
 static void print_settings(FILE *stream)

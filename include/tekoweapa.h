@@ -144,10 +144,10 @@ enum { TKW_DISK = 0, TKW_DEVICE = 1 };
 /* The settings of the short calls. */
 enum { TKW_DEFAULT_LOW = 7936, TKW_DEFAULT_HIGH = 39936, TKW_DEFAULT_MAIN_BASE = 8192, TKW_DEFAULT_ZERO_BASE = 128 };
 
-/* Loads an SDX file. Relocatable blocks go to low and upwards, up to high (low <= high <= 65535). The known names are known_names_length / 8
- * names of eight bytes, with as many addresses beside them, two bytes each, low byte first (an odd length is 1). The file's own names come
- * before the known ones, and of equal names the newest holds. New names and their addresses stand in their buffers in file order, and the rest
- * of the buffers is zero. */
+/* Loads an SDX file. Relocatable blocks go to low and upwards, up to high (low <= high <= 65535). The known names are known_names_length /
+ * 8 names of eight bytes, with as many addresses beside them, two bytes each, low byte first (an odd length is refused with 1). The file's
+ * own names come before the known ones, and of equal names the newest holds. New names and their addresses stand in their buffers in file
+ * order, and the rest of the buffers is zero. */
 uint32_t tkw_sdx_load(const uint8_t *file, size_t file_length, uint32_t low, uint32_t high,
                       const uint8_t *known_names, size_t known_names_length,
                       const uint8_t *known_addresses, size_t known_addresses_length,
@@ -174,8 +174,8 @@ uint32_t tkw_acx_load_default(uint32_t form, const uint8_t *file, size_t file_le
                               uint8_t *answer, size_t answer_length);
 
 /* Moves an ACX handler that lives in memory at the old bases to the new ones: its bytes as they are now, its address fields adjusted from
- * their current contents. Refused as a load at the old bases would be (side 0), then as one at the new (side 1). Answer and map are those of a
- * load at the new bases. */
+ * their current contents. Refused as a load at the old bases would be (side 0), then as one at the new (side 1). Answer and map are those of
+ * a load at the new bases. */
 uint32_t tkw_acx_move(uint32_t form, const uint8_t *file, size_t file_length, uint32_t old_main, uint32_t old_zero,
                       uint32_t new_main, uint32_t new_zero,
                       uint8_t *memory, size_t memory_length, uint8_t *map, size_t map_length,

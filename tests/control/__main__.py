@@ -40,11 +40,14 @@ def main():
         print(trouble)
         print("0 passed, 1 failed")
         return 1
+    # so that what others may do with the tests' files is the same everywhere
+    os.umask(0o022)
     passed = failed = skipped = 0
     for function in chosen:
         folder = tempfile.mkdtemp(prefix="tekoweapa-test-")
+        desk = Desk(folder)
         try:
-            function(Desk(folder))
+            function(desk)
             passed += 1
         except Failure as failure:
             failed += 1
@@ -56,6 +59,7 @@ def main():
             failed += 1
             print(f"FAILED {function.__name__}: {traceback.format_exc()}")
         finally:
+            desk.close()
             shutil.rmtree(folder, ignore_errors=True)
     if skipped:
         print(f"{skipped} skipped")

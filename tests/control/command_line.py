@@ -47,7 +47,7 @@ def the_version_stands_in_one_place(desk):
 @test
 def unknown_words_are_usage_errors(desk):
     desk.put("f", P1)
-    desk.trouble("load", "f", mention="load: unknown command")
+    desk.trouble("load", "f", mention="load: unknown command (see 'tekoweapa --help')\n")
     desk.trouble("", "f", mention="unknown command")
     for word in ("--json", "-x", "--", "--version=1"):
         desk.trouble(word, "acx", "f", mention=f"{word}: the command comes first: sdx, acx or move")
@@ -89,9 +89,8 @@ def a_dash_is_standard_input(desk):
     same(desk.get("after"), with_bytes(LOADED, (0x3000, b"\x4C\x03\x30")), "the image")
     names = open(f"{EXAMPLES}/names.txt", "rb").read()
     desk.text(ACCEPTED, "sdx", f"{EXAMPLES}/score.sdx", "--names", "-", input=names)
-    desk.trouble("acx", "-", "--memory", "-", mention="standard input", input=P1)
-    desk.trouble("sdx", "-", "--names", "-", mention="standard input", input=P1)
-    desk.trouble("sdx", "f", "--memory", "-", "--names", "-", mention="standard input", input=P1)
+    for words in (("acx", "-", "--memory", "-"), ("sdx", "-", "--names", "-"), ("sdx", "f", "--memory", "-", "--names", "-")):
+        desk.trouble(*words, mention="from standard input: cannot go with --", input=LOADED)
     desk.trouble("sdx", "f", "--names", "-", mention="standard input: line 1: ", input=b"x")
     desk.trouble("acx", "f", "--memory", "-", mention="standard input: is no image: it has 1 bytes", input=b"x")
     for name in ("--out", "--map", "--picture"):
@@ -220,6 +219,8 @@ def a_name_that_cannot_be_shown_stands_in_quotes(desk):
                         ('\n"\\', '"\\x0A\\"\\\\"'),
                         ("\xE4 \u20AC \U0001F601", "\xE4 \u20AC \U0001F601"), ("\x85", '"\\xC2\\x85"'), ("a b", "a b"),
                         (b"\xFF\xE4", '"\\xFF\\xE4"'), (b"\xC0\x80", '"\\xC0\\x80"'), (b"\xED\xA0\x80", '"\\xED\\xA0\\x80"'),
+                        (b"\xE0\x80\x80", '"\\xE0\\x80\\x80"'), (b"\xF0\x80\x80\x80", '"\\xF0\\x80\\x80\\x80"'),
+                        (b"\xF5\x80\x80\x80", '"\\xF5\\x80\\x80\\x80"'), (b"\xE2\x82\xC0", '"\\xE2\\x82\\xC0"'),
                         (b"\xF4\x90\x80\x80", '"\\xF4\\x90\\x80\\x80"'), (b"\xE2\x82", '"\\xE2\\x82"')):
         desk.trouble("acx", name, "--form", "device", mention=f"tekoweapa: {shown}: can't be read: ")
         desk.trouble("acx", "f", "--memory", name, mention=f"tekoweapa: {shown}: can't be read: ")

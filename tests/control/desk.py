@@ -3,6 +3,7 @@
 import json
 import os
 import shutil
+import signal
 import stat
 import subprocess
 import sys
@@ -14,6 +15,8 @@ PROGRAM = os.path.join(BUILD, "tekoweapa")
 
 MEMORY = 65536
 NOBODY = 65534
+# The signals after which the program cleans up.
+ENDING = (signal.SIGINT, signal.SIGTERM, signal.SIGHUP, signal.SIGQUIT)
 ACCEPTED, REFUSED, TROUBLE = 0, 1, 2
 COMMANDS = ("sdx", "acx", "move")
 
@@ -94,16 +97,16 @@ def holds(truth, what):
         raise Failure(what)
 
 
-def as_nobody(desk):
-    """What makes a run of the program one of a user without rights. A copy of the program goes along, since such a user may not reach it
-    where it was built. Only root can set that up."""
+def as_nobody(desk, *groups):
+    """What makes a run of the program one of a user without rights, in these groups beside his own. A copy of the program goes along, since
+    such a user may not reach it where it was built. Only root can set that up."""
     if os.geteuid() != 0:
         raise Skipped("only root can run the program as somebody else")
     program = desk.path("program")
     shutil.copy(PROGRAM, program)
     os.chmod(program, 0o755)
     os.chmod(desk.folder, 0o755)
-    return {"program": program, "preexec_fn": lambda: (os.setgroups([]), os.setgid(NOBODY), os.setuid(NOBODY))}
+    return {"program": program, "preexec_fn": lambda: (os.setgroups(groups), os.setgid(NOBODY), os.setuid(NOBODY))}
 
 
 def make_device(desk, name, minor):
@@ -136,6 +139,14 @@ class Desk:
 
     def __init__(self, folder):
         self.folder = folder
+        self.processes = []
+
+    def close(self):
+        """Ends what a failed test has left running."""
+        for process in self.processes:
+            if process.poll() is None:
+                process.kill()
+            process.communicate()
 
     def path(self, name):
         return os.path.join(self.folder, os.fsdecode(name))
@@ -164,6 +175,18 @@ class Desk:
         if "input" not in more:
             more.setdefault("stdin", subprocess.DEVNULL)
         return subprocess.run([program, *words], cwd=self.folder, stderr=subprocess.PIPE, timeout=60, **more)
+
+    def start(self, *words, **more):
+        """A run that the test goes on beside. Signals do what they do at first, whatever the tests were started with."""
+        before = more.pop("preexec_fn", lambda: None)
+        restore = lambda: ([signal.signal(number, signal.SIG_DFL) for number in ENDING], before())
+        self.processes.append(subprocess.Popen([PROGRAM, *words], cwd=self.folder, stdin=subprocess.DEVNULL, stdout=subprocess.PIPE,
+                                               stderr=subprocess.PIPE, preexec_fn=restore, **more))
+        return self.processes[-1]
+
+    def drain(self, fifo):
+        """What comes through a FIFO."""
+        return subprocess.run(["cat", fifo], cwd=self.folder, stdout=subprocess.PIPE, timeout=20, check=True).stdout
 
     def text(self, status, *words, warning=None, **more):
         """Standard output of a run with this exit status, and on standard error one warning with these words, or nothing."""

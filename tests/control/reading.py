@@ -108,8 +108,10 @@ def a_wrong_line_of_names_is_an_error(desk):
             desk.put("names", text)
             error = desk.trouble("sdx", "f", "--names", "names", "--out", "new", mention=f"names: line {number}: {cause}")
             same(error.count("\n"), 1, f"lines of the error of {line}")
+    desk.put("names", b"#" * (1 << 20))
+    desk.text(ACCEPTED, "sdx", "f", "--names", "names")
     desk.put("names", b"#" * (1 << 20) + b"\n")
-    desk.trouble("sdx", "f", "--names", "names", mention="names: is longer than")
+    desk.trouble("sdx", "f", "--names", "names", mention="names: is longer than 1048576 bytes")
 
 
 @test

@@ -294,6 +294,7 @@ WRONG_SETTINGS = (
     (("sdx", "s", "--high", "65536"), ["--high is 65536; 0 to 65535"]),
     (("sdx", "s", "--low", "5", "--high", "4"), ["--low is 5; 0 to 4, which is --high"]),
     (("sdx", "s", "--low", "39937"), ["--low is 39937; 0 to 39936, which is --high"]),
+    (("sdx", "s", "--low", "65536"), ["--low is 65536; 0 to 65535"]),
     (("sdx", "s", "--low", "65536", "--high", "65536"), ["--low is 65536; 0 to 65535", "--high is 65536; 0 to 65535"]),
     ((*MOVE, "--from-main", "65536", "--to-main", "1"), ["--from-main is 65536; 0 to 65535"]),
     ((*MOVE, "--from-zero", "256", "--to-zero", "1"), ["--from-zero is 256; 0 to 255"]),

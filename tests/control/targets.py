@@ -1,23 +1,15 @@
 """What becomes of the files that outputs are to go to: replaced whole, or as they were."""
 
-import errno
 import os
 import resource
 import signal
-import socket
 import stat
 import subprocess
 import threading
 import time
 
-from desk import (ACCEPTED, REFUSED, TROUBLE, LOADED, MEMORY, NOBODY, P1, P6, P10, PATTERN, PROGRAM, Failure, Skipped, as_nobody, holds,
-                  make_device, same, test, with_bytes)
-
-
-def start(desk, *words, **more):
-    """A run that the test goes on beside."""
-    return subprocess.Popen([PROGRAM, *words], cwd=desk.folder, stdin=subprocess.DEVNULL, stdout=subprocess.PIPE, stderr=subprocess.PIPE,
-                            **more)
+from desk import (ACCEPTED, ENDING, REFUSED, TROUBLE, LOADED, MEMORY, NOBODY, P1, P6, P10, PATTERN, PROGRAM, Failure, Skipped, as_nobody,
+                  holds, make_device, same, test, with_bytes)
 
 
 def temporaries(desk):
@@ -61,6 +53,10 @@ def a_file_keeps_its_owner_and_group(desk):
     desk.text(ACCEPTED, "acx", "f", "--form", "device", "--map", "map")
     kept = os.stat(desk.path("map"))
     same((kept.st_uid, kept.st_gid, stat.S_IMODE(kept.st_mode), kept.st_size), (NOBODY, 12345, 0o664, MEMORY), "owner, group, permissions")
+    # nobody runs an image as somebody else; and a file that its group may write is not read-only
+    os.chmod(desk.path("map"), 0o6464)
+    desk.text(ACCEPTED, "acx", "f", "--form", "device", "--map", "map")
+    same(stat.S_IMODE(os.stat(desk.path("map")).st_mode), 0o464, "permissions")
 
 
 @test
@@ -75,6 +71,34 @@ def a_group_that_cannot_be_kept_gives_no_rights_to_another(desk):
     desk.text(ACCEPTED, "acx", "f", "--form", "device", "--map", "own/map", **more)
     kept = os.stat(desk.path("own/map"))
     same((kept.st_uid, kept.st_gid, stat.S_IMODE(kept.st_mode)), (NOBODY, NOBODY, 0o604), "owner, group, permissions")
+
+
+@test
+def a_group_of_the_user_is_kept_though_the_owner_is_not(desk):
+    more = as_nobody(desk, 12345)
+    desk.put("f", P1)
+    os.mkdir(desk.path("own"))
+    os.chown(desk.path("own"), NOBODY, NOBODY)
+    desk.put("own/map", b"")
+    os.chown(desk.path("own/map"), 0, 12345)
+    os.chmod(desk.path("own/map"), 0o664)
+    desk.text(ACCEPTED, "acx", "f", "--form", "device", "--map", "own/map", **more)
+    kept = os.stat(desk.path("own/map"))
+    same((kept.st_uid, kept.st_gid, stat.S_IMODE(kept.st_mode)), (NOBODY, 12345, 0o664), "owner, group, permissions")
+
+
+@test
+def a_private_file_is_private_while_it_is_written(desk):
+    desk.put("f", P1)
+    desk.put("map", b"")
+    os.chmod(desk.path("map"), 0o600)
+    os.mkfifo(desk.path("fifo"))
+    process = desk.start("acx", "f", "--form", "device", "--map", "map", "--picture", "fifo")
+    until(lambda: temporaries(desk), "a temporary file")
+    same(stat.S_IMODE(os.stat(desk.path(temporaries(desk)[0])).st_mode), 0o600, "permissions")
+    desk.drain("fifo")
+    process.communicate(timeout=20)
+    same(process.returncode, ACCEPTED, "exit status")
 
 
 @test
@@ -113,6 +137,13 @@ def somebody_elses_file_is_refused_with_the_reason(desk):
     desk.trouble("acx", "f", "--map", "open/shared", mention="open/shared: can't be replaced: its directory is sticky", **more)
     desk.text(REFUSED, "acx", "f", "--map", "open/new", **more)
     desk.text(REFUSED, "acx", "f", "--map", "open/new", **more)
+    # root may replace all files there, and the directory's owner too
+    desk.text(REFUSED, "acx", "f", "--map", "open/new")
+    os.chown(desk.path("open"), NOBODY, NOBODY)
+    desk.text(REFUSED, "acx", "f", "--map", "open/shared", **more)
+    desk.put("open/shared", b"")
+    os.chown(desk.path("open/shared"), 0, 0)
+    os.chown(desk.path("open"), 0, 0)
     os.chmod(desk.path("open"), 0o777)
     desk.text(REFUSED, "acx", "f", "--map", "open/shared", **more)
     same(len(desk.get("open/shared")), MEMORY, "a file that anybody may write")
@@ -133,13 +164,13 @@ def a_file_with_other_names_is_refused(desk):
 
 @test
 def signals_leave_nothing_behind(desk):
-    """The map is whole in its temporary file, and the picture waits for a reader, when the signal comes."""
+    """Image and map are whole in their temporary files, and the picture waits for a reader, when the signal comes."""
     desk.put("f", P1)
     os.mkfifo(desk.path("fifo"))
     before = desk.listing()
-    for number in (signal.SIGINT, signal.SIGTERM, signal.SIGHUP, signal.SIGQUIT):
-        process = start(desk, "acx", "f", "--form", "device", "--map", "new", "--picture", "fifo")
-        until(lambda: temporaries(desk), "a temporary file")
+    for number in ENDING:
+        process = desk.start("acx", "f", "--form", "device", "--out", "new", "--map", "map", "--picture", "fifo")
+        until(lambda: len(temporaries(desk)) == 2, "the temporary files")
         process.send_signal(number)
         output, errors = process.communicate(timeout=20)
         same((process.returncode, output, errors), (-number, b"", b""), f"exit status and output with {number.name}")
@@ -151,11 +182,11 @@ def a_signal_that_is_ignored_stays_ignored(desk):
     """As SIGHUP is under nohup."""
     desk.put("f", P1)
     os.mkfifo(desk.path("fifo"))
-    process = start(desk, "acx", "f", "--form", "device", "--map", "new", "--picture", "fifo",
+    process = desk.start("acx", "f", "--form", "device", "--map", "new", "--picture", "fifo",
                     preexec_fn=lambda: signal.signal(signal.SIGHUP, signal.SIG_IGN))
     until(lambda: temporaries(desk), "a temporary file")
     process.send_signal(signal.SIGHUP)
-    desk.get("fifo")
+    desk.drain("fifo")
     output, errors = process.communicate(timeout=20)
     same((process.returncode, errors), (ACCEPTED, b""), "exit status and errors")
     same(sorted(desk.listing()), ["f", "fifo", "new"], "files")
@@ -296,14 +327,13 @@ def what_is_no_regular_file_is_written_directly(desk):
     desk.put("f", P1)
     os.mkfifo(desk.path("fifo"))
     got = []
-    reader = threading.Thread(daemon=True, target=lambda: got.append(desk.get("fifo")))
+    reader = threading.Thread(daemon=True, target=lambda: got.append(desk.drain("fifo")))
     reader.start()
     desk.text(ACCEPTED, "acx", "f", "--form", "device", "--map", "fifo")
     reader.join(20)
     same(got, [with_bytes(bytes(MEMORY), (0x2000, b"\x01\x03\x03"))], "what came through the FIFO")
     holds(stat.S_ISFIFO(os.stat(desk.path("fifo")).st_mode), "the FIFO is gone")
-    # a device that is no file, a pipe or a character device
-    socket.socket(socket.AF_UNIX).bind(desk.path("socket"))
+    os.mknod(desk.path("socket"), stat.S_IFSOCK | 0o600)
     desk.trouble("acx", "f", "--map", "socket", mention="socket: can't be written: is neither a file nor a pipe nor a character device")
 
 
@@ -356,57 +386,150 @@ def a_closed_pipe_is_an_error(desk):
         os.close(writer)
 
 
-def with_failures(desk, **failures):
-    """The environment of a run whose system calls fail as asked: SYNC is the error of syncing a directory, RENAME a name that nothing can be
-    renamed to."""
-    desk.put("failures.c", b"""
-        #define _GNU_SOURCE
-        #include <errno.h>
-        #include <fcntl.h>
-        #include <stdio.h>
-        #include <stdlib.h>
-        #include <string.h>
-        #include <sys/stat.h>
-        int fsync(int file)
-        {
-            struct stat entry;
-            if (getenv("SYNC") == NULL || fstat(file, &entry) != 0 || !S_ISDIR(entry.st_mode))
-                return 0;
-            errno = atoi(getenv("SYNC"));
-            return -1;
-        }
-        int rename(const char *from, const char *to)
-        {
-            if (getenv("RENAME") == NULL || strcmp(basename(to), getenv("RENAME")) != 0)
-                return renameat(AT_FDCWD, from, AT_FDCWD, to);
-            errno = EIO;
-            return -1;
-        }
-    """)
-    subprocess.run(["gcc", "-shared", "-fPIC", "-o", "failures.so", "failures.c"], cwd=desk.folder, check=True, timeout=60)
-    return dict(os.environ, LD_PRELOAD=desk.path("failures.so"), **failures)
+FAILURES = b"""
+    #define _GNU_SOURCE
+    #include <errno.h>
+    #include <fcntl.h>
+    #include <signal.h>
+    #include <stdio.h>
+    #include <stdlib.h>
+    #include <string.h>
+    #include <sys/stat.h>
+    #include <sys/syscall.h>
+    #include <unistd.h>
+
+    static int is_asked(const char *failure)
+    {
+        const char *asked = getenv("FAILURE");
+        return asked != NULL && strcmp(asked, failure) == 0;
+    }
+
+    static int fail(int error)
+    {
+        errno = error;
+        return -1;
+    }
+
+    static int is_kind(int file, mode_t kind)
+    {
+        struct stat entry;
+        return fstat(file, &entry) == 0 && (entry.st_mode & S_IFMT) == kind;
+    }
+
+    int fsync(int file)
+    {
+        if (is_kind(file, S_IFDIR))
+            return is_asked("sync of directories") ? fail(EIO) : is_asked("sync of directories unknown") ? fail(EINVAL) : 0;
+        return is_asked("sync of files") ? fail(EIO) : 0;
+    }
+
+    int rename(const char *from, const char *to)
+    {
+        if (strcmp(basename(to), "map") == 0 && (is_asked("rename") || is_asked("rename and link")))
+            return fail(EIO);
+        if (is_asked("signal at rename"))
+            raise(SIGTERM);
+        return renameat(AT_FDCWD, from, AT_FDCWD, to);
+    }
+
+    int link(const char *from, const char *to)
+    {
+        return is_asked("rename and link") ? fail(EPERM) : linkat(AT_FDCWD, from, AT_FDCWD, to, 0);
+    }
+
+    int fchmod(int file, mode_t mode)
+    {
+        return is_asked("fchmod") ? fail(EPERM) : (int)syscall(SYS_fchmod, file, mode);
+    }
+
+    int open(const char *path, int flags, ...)
+    {
+        int file = (int)syscall(SYS_openat, AT_FDCWD, path, flags, 0666);
+        if ((flags & O_CREAT) != 0 && is_asked("signal at open"))
+            raise(SIGTERM);
+        return file;
+    }
+
+    ssize_t write(int file, const void *bytes, size_t length)
+    {
+        return syscall(SYS_write, file, bytes, is_asked("short writes") && length > 1000 ? 1000 : length);
+    }
+
+    int close(int file)
+    {
+        int failing = is_asked("close") && is_kind(file, S_IFREG) && (fcntl(file, F_GETFL) & O_ACCMODE) == O_WRONLY;
+        int status = (int)syscall(SYS_close, file);
+        return failing ? fail(EIO) : status;
+    }
+"""
+
+
+def with_failure(desk, failure):
+    """The environment of a run in which one of these system calls fails, or a signal comes with it."""
+    if not os.path.exists(desk.path("failures.so")):
+        desk.put("failures.c", FAILURES)
+        subprocess.run([os.environ.get("CC", "gcc"), "-shared", "-fPIC", "-o", "failures.so", "failures.c"], cwd=desk.folder, check=True,
+                       timeout=60)
+    # a build with a sanitizer wants to come first
+    return dict(os.environ, LD_PRELOAD="./failures.so", FAILURE=failure, ASAN_OPTIONS="verify_asan_link_order=0")
 
 
 @test
-def a_failed_rename_is_taken_back(desk):
+def what_fails_while_files_are_written_leaves_them_as_they_were(desk):
     desk.put("f", P1)
     desk.put("old", PATTERN)
-    failing = with_failures(desk, RENAME="map")
-    for image in ("old", "new"):
-        desk.trouble("acx", "f", "--form", "device", "--out", image, "--fresh", "--map", "map", env=failing,
-                     mention="map: can't be written: Input/output error")
-
-
-@test
-def the_directory_is_synced_after_the_renames(desk):
-    desk.put("f", P1)
-    desk.put("old", PATTERN)
-    words = ("acx", "f", "--form", "device", "--out", "old", "--fresh", "--map", "new")
-    failing = with_failures(desk, SYNC=str(errno.EIO))
-    desk.trouble(*words, env=failing, mention="old: can't be written: Input/output error")
+    os.chmod(desk.path("old"), 0o666)
+    words = ("acx", "f", "--form", "device", "--fresh", "--out")
+    for failure, blamed, error in (("sync of files", "{}", "Input/output error"), ("close", "{}", "Input/output error"),
+                                   ("rename", "map", "Input/output error"), ("sync of directories", "{}", "Input/output error")):
+        for image in ("old", "new"):
+            desk.trouble(*words, image, "--map", "map", env=with_failure(desk, failure),
+                         mention=f"tekoweapa: {blamed.format(image)}: can't be written: {error}\n")
+    desk.trouble(*words, "old", "--map", "map", env=with_failure(desk, "fchmod"), mention="old: can't be written: Operation not permitted")
+    same(stat.S_IMODE(os.stat(desk.path("old")).st_mode), 0o666, "permissions")
     # a file system that can't be asked for it is none to complain of
-    desk.text(ACCEPTED, *words, env=failing | {"SYNC": str(errno.EINVAL)})
-    same((len(desk.get("old")), len(desk.get("new"))), (MEMORY, MEMORY), "lengths")
+    desk.text(ACCEPTED, *words, "old", "--map", "map", env=with_failure(desk, "sync of directories unknown"))
+    desk.text(ACCEPTED, *words, "new", "--map", "other", env=with_failure(desk, "short writes"))
+    same((desk.get("new"), desk.get("other")), (desk.get("old"), desk.get("map")), "what short writes have made")
+
+
+@test
+def a_file_without_a_way_back_is_not_lost(desk):
+    """Where the former image can't have a second name, and the map's rename fails, the image is the new one."""
+    desk.put("f", P1)
+    desk.put("old", PATTERN)
+    done = desk.run("acx", "f", "--form", "device", "--memory", "old", "--out", "old", "--map", "map",
+                    env=with_failure(desk, "rename and link"))
+    same((done.returncode, done.stdout), (TROUBLE, b""), "exit status and output")
+    same(done.stderr.decode().splitlines(),
+         ["tekoweapa: map: can't be written: Input/output error", "tekoweapa: old: is written and can't be taken back"], "errors")
+    same((desk.get("old"), temporaries(desk), os.path.exists(desk.path("map"))), (LOADED, [], False), "files")
+
+
+@test
+def a_signal_between_two_steps_leaves_all_or_nothing(desk):
+    desk.put("f", P1)
+    desk.put("old", PATTERN)
+    default = lambda: signal.signal(signal.SIGTERM, signal.SIG_DFL)
+    for moment, image, files in (("signal at open", PATTERN, ["f", "old"]), ("signal at rename", LOADED, ["f", "map", "old"])):
+        done = desk.run("acx", "f", "--form", "device", "--memory", "old", "--out", "old", "--map", "map",
+                        env=with_failure(desk, moment), preexec_fn=default)
+        same((done.returncode, done.stderr), (-signal.SIGTERM, b""), f"exit status and errors with {moment}")
+        found = sorted(name for name in os.listdir(desk.folder) if not name.startswith("failures."))
+        same((found, desk.get("old") == image), (files, True), f"files with {moment}")
+
+
+@test
+def a_signal_that_is_blocked_stays_blocked(desk):
+    desk.put("f", P1)
+    os.mkfifo(desk.path("fifo"))
+    process = desk.start("acx", "f", "--form", "device", "--map", "new", "--picture", "fifo",
+                         preexec_fn=lambda: signal.pthread_sigmask(signal.SIG_BLOCK, [signal.SIGTERM]))
+    until(lambda: temporaries(desk), "a temporary file")
+    process.send_signal(signal.SIGTERM)
+    desk.drain("fifo")
+    process.communicate(timeout=20)
+    same(process.returncode, ACCEPTED, "exit status")
 
 
 @test
@@ -426,11 +549,11 @@ def a_target_that_has_changed_meanwhile_is_left(desk):
         desk.put("image", PATTERN)
         desk.put("other", PATTERN)
         os.mkfifo(desk.path("fifo"))
-        process = start(desk, "acx", "f", "--form", "device", "--memory", "image", "--out", "image", "--map", "map", "--picture", "fifo")
+        process = desk.start("acx", "f", "--form", "device", "--memory", "image", "--out", "image", "--map", "map", "--picture", "fifo")
         until(lambda: len(temporaries(desk)) == 2, "the temporary files")
         change()
         before = desk.listing()
-        desk.get("fifo")
+        desk.drain("fifo")
         output, errors = process.communicate(timeout=20)
         said = f"tekoweapa: {target}: can't be written: it has changed meanwhile\n".encode()
         same((process.returncode, output, errors), (TROUBLE, b"", said), f"exit status and output with {what}")
@@ -447,7 +570,7 @@ def a_signal_while_the_report_waits_leaves_no_file_behind(desk):
     """The outputs are in their places by then; only the report is not out, since nobody reads the pipe."""
     desk.put("f", bytes.fromhex("FF FF 00 00 F8 FF") + bytes(65529))
     desk.put("map", b"")
-    process = start(desk, "sdx", "f", "--dump", "--map", "map")
+    process = desk.start("sdx", "f", "--dump", "--map", "map")
     until(lambda: len(desk.get("map")) == MEMORY, "the map")
     process.send_signal(signal.SIGTERM)
     process.wait(20)

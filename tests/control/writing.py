@@ -95,6 +95,7 @@ def a_move_from_wrong_bases_is_made_with_a_warning(desk):
         wrong = desk.text(ACCEPTED, *words, "--from-main", "$4000", warning=main)
         same(wrong.replace("$4000 to", "$2000 to"), report, "the report of the move from wrong bases")
         desk.text(ACCEPTED, *words, "--from-zero", "$C0", warning=zero)
+        desk.text(ACCEPTED, *words, "--from-zero", "$C0", "--to-zero", "$80", warning=zero)
         desk.answer(ACCEPTED, *words, "--from-main", "$4000", warning=main)
         desk.text(ACCEPTED, *words, "--from-main", "$4000", "--quiet", warning=main)
         both = desk.run(*words, "--from-main", "$4000", "--from-zero", "$C0")
