@@ -32,13 +32,13 @@ struct work {
 /* The files that a run writes. The picture has its bytes when it is drawn. */
 static void plan_outputs(const struct options *options, struct work *work)
 {
-    work->outputs[OUT] = (struct output){.path = options->out, .kind = "image", .is_of_kind = is_image};
-    work->outputs[OUT].bytes = work->buffers.memory;
-    work->outputs[OUT].length = sizeof work->buffers.memory;
-    work->outputs[MAP] = (struct output){.path = options->map, .kind = "map", .is_of_kind = is_map};
-    work->outputs[MAP].bytes = work->buffers.map;
-    work->outputs[MAP].length = sizeof work->buffers.map;
-    work->outputs[PICTURE] = (struct output){.path = options->picture, .kind = "picture", .is_of_kind = is_picture};
+    struct buffers *buffers = &work->buffers;
+    const struct output outputs[OUTPUTS] = {
+        [OUT] = {.path = options->out, .kind = "image", .is_of_kind = is_image, .bytes = buffers->memory, .length = sizeof buffers->memory},
+        [MAP] = {.path = options->map, .kind = "map", .is_of_kind = is_map, .bytes = buffers->map, .length = sizeof buffers->map},
+        [PICTURE] = {.path = options->picture, .kind = "picture", .is_of_kind = is_picture},
+    };
+    memcpy(work->outputs, outputs, sizeof outputs);
 }
 
 /* Makes a closed pipe and a file that may not grow errors of writing, where they would else end the program before it cleans up. */

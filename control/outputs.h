@@ -15,18 +15,18 @@ struct output {
     const char *path;     /* as given; NULL where this output is not asked for */
     const uint8_t *bytes; /* what is to stand there */
     size_t length;
-    const char *kind;                                         /* what it is, in a word */
-    bool (*is_of_kind)(const uint8_t *bytes, size_t length); /* whether a file is of that kind, by its first bytes */
-    bool present;            /* something was there before */
-    struct stat former;      /* and this is what it was */
-    struct stat directory;   /* where it is, unless written directly */
-    char *target;            /* the place to rename to; NULL if written directly */
-    char *temporary;         /* NULL if there is none, or no longer */
-    bool renamed;            /* the target is the new file */
-    char *kept;              /* a second name of the former target, for the way back */
+    const char *kind; /* what it is, in a word; and whether a file is of that kind, by its first KIND_BYTES bytes */
+    bool (*is_of_kind)(const uint8_t *bytes, size_t length);
+    bool present;          /* something was there before */
+    struct stat former;    /* and this is what it was */
+    struct stat directory; /* where it is, unless written directly */
+    char *target;          /* the place to rename to; NULL if written directly */
+    char *temporary;       /* NULL if there is none, or no longer */
+    bool renamed;          /* the target is the new file */
+    char *kept;            /* a second name of the former target, for the way back */
 };
 
-/* How many bytes of a file are looked at to know its kind. */
+/* One byte more than an image or a map has. */
 enum { KIND_BYTES = 65537 };
 
 /* Finds the targets, and refuses those that can't be written whole or that two outputs share. False after a complaint. */

@@ -3,7 +3,7 @@
 import os
 import re
 
-from desk import ACCEPTED, REFUSED, EXAMPLES, LOADED, MEANINGS, MEMORY, P1, P3, P6, P9, P10, PATTERN, ROOT, holds, same, test
+from desk import ACCEPTED, REFUSED, EXAMPLES, LOADED, MEANINGS, MEMORY, P1, P3, P6, P9, P10, PATTERN, ROOT, holds, same, test, with_bytes
 
 
 def row(address, content, marked=-1):
@@ -61,6 +61,15 @@ def a_copy_at_the_new_bases_is_one_outside_the_old_places(desk):
             holds(not replaced("--from-main", main, "--from-zero", zero, "--to-main", to_main, "--to-zero", to_zero), f"copy at {to_main}")
         # back to where it was before: what it left there is a copy
         holds(replaced("--from-main", "$5000", "--from-zero", "$C0", "--to-main", "$2010", "--to-zero", "$90"), "no copy where it was")
+
+
+@test
+def a_copy_has_most_of_the_code(desk):
+    desk.put("f", bytes.fromhex("00 06 00 00 11 22 33 44 0B 00 00 00"))
+    for there, copy in (("11 22 33 44", True), ("11 22 33 99", True), ("11 22 99 99", False), ("99 99 99 99", False)):
+        desk.put("image", with_bytes(PATTERN, (0x2000, bytes.fromhex("11 22 33 44")), (0x3000, bytes.fromhex(there))))
+        text = desk.text(ACCEPTED, "move", "f", "--form", "device", "--memory", "image", "--to-main", "$3000")
+        same("\nreplaced " in text, copy, f"a copy where {there} is")
 
 
 @test

@@ -138,8 +138,8 @@ def somebody_elses_file_is_refused_with_the_reason(desk):
     desk.text(REFUSED, "acx", "f", "--map", "open/new", **more)
     desk.text(REFUSED, "acx", "f", "--map", "open/new", **more)
     # root may replace all files there, and the directory's owner too
-    desk.text(REFUSED, "acx", "f", "--map", "open/new")
     os.chown(desk.path("open"), NOBODY, NOBODY)
+    desk.text(REFUSED, "acx", "f", "--map", "open/new")
     desk.text(REFUSED, "acx", "f", "--map", "open/shared", **more)
     desk.put("open/shared", b"")
     os.chown(desk.path("open/shared"), 0, 0)
