@@ -3,7 +3,7 @@
 import os
 import re
 
-from desk import (ACCEPTED, REFUSED, TROUBLE, COMMANDS, EXAMPLES, LOADED, MEMORY, OPTIONS, P1, P6, PATTERN, ROOT, holds, same, test,
+from desk import (ACCEPTED, REFUSED, TROUBLE, COMMANDS, EXAMPLES, LOADED, MEMORY, OPTIONS, P1, PATTERN, ROOT, holds, same, test,
                   with_bytes)
 
 

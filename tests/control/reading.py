@@ -2,7 +2,7 @@
 
 import os
 
-from desk import ACCEPTED, REFUSED, MEMORY, P1, P6, holds, same, test
+from desk import ACCEPTED, REFUSED, MEMORY, P1, P6, same, test
 
 
 @test

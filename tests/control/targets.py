@@ -8,8 +8,8 @@ import subprocess
 import threading
 import time
 
-from desk import (ACCEPTED, ENDING, REFUSED, TROUBLE, LOADED, MEMORY, NOBODY, P1, P6, P10, PATTERN, PROGRAM, Failure, Skipped, as_nobody,
-                  holds, make_device, same, test, with_bytes)
+from desk import (ACCEPTED, ENDING, REFUSED, TROUBLE, LOADED, MEMORY, NOBODY, P1, P6, P10, PATTERN, PROGRAM, Failure, as_nobody, give, holds,
+                  make_device, same, test, with_bytes)
 
 
 def temporaries(desk):
@@ -44,11 +44,9 @@ def outputs_replace_files_whole(desk):
 
 @test
 def a_file_keeps_its_owner_and_group(desk):
-    if os.geteuid() != 0:
-        raise Skipped("only root can give files away")
     desk.put("f", P1)
     desk.put("map", b"")
-    os.chown(desk.path("map"), NOBODY, 12345)
+    give(desk, "map", NOBODY, 12345)
     os.chmod(desk.path("map"), 0o664)
     desk.text(ACCEPTED, "acx", "f", "--form", "device", "--map", "map")
     kept = os.stat(desk.path("map"))
@@ -64,9 +62,9 @@ def a_group_that_cannot_be_kept_gives_no_rights_to_another(desk):
     more = as_nobody(desk)
     desk.put("f", P1)
     os.mkdir(desk.path("own"))
-    os.chown(desk.path("own"), NOBODY, NOBODY)
+    give(desk, "own", NOBODY, NOBODY)
     desk.put("own/map", b"")
-    os.chown(desk.path("own/map"), NOBODY, 12345)
+    give(desk, "own/map", NOBODY, 12345)
     os.chmod(desk.path("own/map"), 0o664)
     desk.text(ACCEPTED, "acx", "f", "--form", "device", "--map", "own/map", **more)
     kept = os.stat(desk.path("own/map"))
@@ -78,9 +76,9 @@ def a_group_of_the_user_is_kept_though_the_owner_is_not(desk):
     more = as_nobody(desk, 12345)
     desk.put("f", P1)
     os.mkdir(desk.path("own"))
-    os.chown(desk.path("own"), NOBODY, NOBODY)
+    give(desk, "own", NOBODY, NOBODY)
     desk.put("own/map", b"")
-    os.chown(desk.path("own/map"), 0, 12345)
+    give(desk, "own/map", 0, 12345)
     os.chmod(desk.path("own/map"), 0o664)
     desk.text(ACCEPTED, "acx", "f", "--form", "device", "--map", "own/map", **more)
     kept = os.stat(desk.path("own/map"))
@@ -138,12 +136,12 @@ def somebody_elses_file_is_refused_with_the_reason(desk):
     desk.text(REFUSED, "acx", "f", "--map", "open/new", **more)
     desk.text(REFUSED, "acx", "f", "--map", "open/new", **more)
     # root may replace all files there, and the directory's owner too
-    os.chown(desk.path("open"), NOBODY, NOBODY)
+    give(desk, "open", NOBODY, NOBODY)
     desk.text(REFUSED, "acx", "f", "--map", "open/new")
     desk.text(REFUSED, "acx", "f", "--map", "open/shared", **more)
     desk.put("open/shared", b"")
-    os.chown(desk.path("open/shared"), 0, 0)
-    os.chown(desk.path("open"), 0, 0)
+    give(desk, "open/shared", 0, 0)
+    give(desk, "open", 0, 0)
     os.chmod(desk.path("open"), 0o777)
     desk.text(REFUSED, "acx", "f", "--map", "open/shared", **more)
     same(len(desk.get("open/shared")), MEMORY, "a file that anybody may write")
