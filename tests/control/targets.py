@@ -8,8 +8,8 @@ import subprocess
 import threading
 import time
 
-from desk import (ACCEPTED, ENDING, REFUSED, TROUBLE, LOADED, MEMORY, NOBODY, P1, P6, P10, PATTERN, PROGRAM, Failure, as_nobody, give, holds,
-                  make_device, same, test, with_bytes)
+from desk import (ACCEPTED, ENDING, REFUSED, TROUBLE, LOADED, MEMORY, NOBODY, P1, P6, P10, PATTERN, PROGRAM, Failure, as_nobody, give,
+                  holds, make_device, same, test, with_bytes)
 
 
 def temporaries(desk):
@@ -83,20 +83,6 @@ def a_group_of_the_user_is_kept_though_the_owner_is_not(desk):
     desk.text(ACCEPTED, "acx", "f", "--form", "device", "--map", "own/map", **more)
     kept = os.stat(desk.path("own/map"))
     same((kept.st_uid, kept.st_gid, stat.S_IMODE(kept.st_mode)), (NOBODY, 12345, 0o664), "owner, group, permissions")
-
-
-@test
-def a_private_file_is_private_while_it_is_written(desk):
-    desk.put("f", P1)
-    desk.put("map", b"")
-    os.chmod(desk.path("map"), 0o600)
-    os.mkfifo(desk.path("fifo"))
-    process = desk.start("acx", "f", "--form", "device", "--map", "map", "--picture", "fifo")
-    until(lambda: temporaries(desk), "a temporary file")
-    same(stat.S_IMODE(os.stat(desk.path(temporaries(desk)[0])).st_mode), 0o600, "permissions")
-    desk.drain("fifo")
-    process.communicate(timeout=20)
-    same(process.returncode, ACCEPTED, "exit status")
 
 
 @test
@@ -389,6 +375,7 @@ FAILURES = b"""
     #include <errno.h>
     #include <fcntl.h>
     #include <signal.h>
+    #include <stdarg.h>
     #include <stdio.h>
     #include <stdlib.h>
     #include <string.h>
@@ -423,10 +410,11 @@ FAILURES = b"""
 
     int rename(const char *from, const char *to)
     {
-        if (strcmp(basename(to), "map") == 0 && (is_asked("rename") || is_asked("rename and link")))
-            return fail(EIO);
-        if (is_asked("signal at rename"))
+        int map = strcmp(basename(to), "map") == 0;
+        if (is_asked("signal at rename") || (map && is_asked("signal at failed rename")))
             raise(SIGTERM);
+        if (map && (is_asked("rename") || is_asked("rename and link") || is_asked("signal at failed rename")))
+            return fail(EIO);
         return renameat(AT_FDCWD, from, AT_FDCWD, to);
     }
 
@@ -442,7 +430,10 @@ FAILURES = b"""
 
     int open(const char *path, int flags, ...)
     {
-        int file = (int)syscall(SYS_openat, AT_FDCWD, path, flags, 0666);
+        va_list more;
+        va_start(more, flags);
+        int file = (int)syscall(SYS_openat, AT_FDCWD, path, flags, (flags & O_CREAT) != 0 ? va_arg(more, int) : 0);
+        va_end(more);
         if ((flags & O_CREAT) != 0 && is_asked("signal at open"))
             raise(SIGTERM);
         return file;
@@ -450,6 +441,9 @@ FAILURES = b"""
 
     ssize_t write(int file, const void *bytes, size_t length)
     {
+        struct stat entry;
+        if (is_asked("others reading") && is_kind(file, S_IFREG) && fstat(file, &entry) == 0 && (entry.st_mode & 0077) != 0)
+            return fail(EACCES);
         return syscall(SYS_write, file, bytes, is_asked("short writes") && length > 1000 ? 1000 : length);
     }
 
@@ -492,6 +486,17 @@ def what_fails_while_files_are_written_leaves_them_as_they_were(desk):
 
 
 @test
+def a_private_file_is_private_while_it_is_written(desk):
+    """A write fails here as soon as others may read the file."""
+    desk.put("f", P1)
+    for mode, status in ((0o600, ACCEPTED), (0o644, TROUBLE)):
+        desk.put("map", b"")
+        os.chmod(desk.path("map"), mode)
+        done = desk.run("acx", "f", "--form", "device", "--map", "map", env=with_failure(desk, "others reading"))
+        same((done.returncode, stat.S_IMODE(os.stat(desk.path("map")).st_mode)), (status, mode), "exit status and permissions")
+
+
+@test
 def a_file_without_a_way_back_is_not_lost(desk):
     """Where the former image can't have a second name, and the map's rename fails, the image is the new one."""
     desk.put("f", P1)
@@ -509,10 +514,13 @@ def a_signal_between_two_steps_leaves_all_or_nothing(desk):
     desk.put("f", P1)
     desk.put("old", PATTERN)
     default = lambda: signal.signal(signal.SIGTERM, signal.SIG_DFL)
-    for moment, image, files in (("signal at open", PATTERN, ["f", "old"]), ("signal at rename", LOADED, ["f", "map", "old"])):
+    failed = b"tekoweapa: map: can't be written: Input/output error\n"
+    for moment, image, files, said in (("signal at open", PATTERN, ["f", "old"], b""),
+                                       ("signal at failed rename", PATTERN, ["f", "old"], failed),
+                                       ("signal at rename", LOADED, ["f", "map", "old"], b"")):
         done = desk.run("acx", "f", "--form", "device", "--memory", "old", "--out", "old", "--map", "map",
                         env=with_failure(desk, moment), preexec_fn=default)
-        same((done.returncode, done.stderr), (-signal.SIGTERM, b""), f"exit status and errors with {moment}")
+        same((done.returncode, done.stderr), (-signal.SIGTERM, said), f"exit status and errors with {moment}")
         found = sorted(name for name in os.listdir(desk.folder) if not name.startswith("failures."))
         same((found, desk.get("old") == image), (files, True), f"files with {moment}")
 
