@@ -55,6 +55,7 @@ static const struct option OPTIONS[] = {
 
 enum { OPTION_COUNT = sizeof OPTIONS / sizeof OPTIONS[0] };
 _Static_assert(OPTION_COUNT <= 32, "an option has no bit in struct reading's `given`");
+_Static_assert((int)OPTION_COUNT <= (int)SETTINGS_MOST, "a command's settings may have no room");
 
 static const char *const COMMANDS[] = {[COMMAND_SDX] = "sdx", [COMMAND_ACX] = "acx", [COMMAND_MOVE] = "move"};
 

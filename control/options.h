@@ -46,7 +46,8 @@ struct setting {
     uint32_t most;
 };
 
-enum { SETTINGS_MOST = 4 };
+/* Room for the settings of any command. */
+enum { SETTINGS_MOST = 32 };
 
 /* Reads the command line, with the default settings where none are given. False after a complaint. */
 bool parse_options(int count, char **words, struct options *options);

@@ -138,7 +138,6 @@ static bool find_present(struct output *output)
 /* Finds where an output goes, be the file there or not. */
 static bool find_target(struct output *output)
 {
-    struct stat entry;
     size_t length = strlen(output->path);
     if (length == 0 || output->path[length - 1] == '/')
         return complain(output->path, "can't be written: names no file");
@@ -148,6 +147,7 @@ static bool find_target(struct output *output)
         return find_present(output);
     if (errno != ENOENT)
         return complain(output->path, "can't be written: %s", strerror(errno));
+    struct stat entry;
     if (lstat(output->path, &entry) == 0)
         return complain(output->path, "can't be written: is a link that leads nowhere");
     output->target = absolute_path(output->path);

@@ -12,7 +12,7 @@
 /* What people, terminals and other programs end a program with. */
 static const int SIGNALS[] = {SIGINT, SIGTERM, SIGHUP, SIGQUIT};
 
-enum { SIGNAL_COUNT = sizeof SIGNALS / sizeof SIGNALS[0], TEMPORARIES_MOST = 8 };
+enum { SIGNAL_COUNT = sizeof SIGNALS / sizeof SIGNALS[0] };
 
 /* The names of the files that are there. A signal's handler can be told them in no other way. Changed only while the signals are held. */
 static const char *volatile names[TEMPORARIES_MOST];

@@ -28,6 +28,9 @@ size_t directory_length(const char *path);
 /* A name beside the target; another one for each turn. NULL if there is no memory. */
 char *name_beside(const char *target, unsigned turn);
 
+/* How many can be noted. */
+enum { TEMPORARIES_MOST = 16 };
+
 /* How many names are tried where others have them. */
 enum { TURNS_MOST = 1000 };
 
