@@ -20,7 +20,7 @@
 #include <stdint.h>
 
 /* The version of this header and of the library behind it: both change together. */
-#define TKW_VERSION "1.0.0"
+#define TKW_VERSION "1.1.0"
 
 #ifdef __cplusplus
 extern "C" {
@@ -142,7 +142,7 @@ static inline const char *tkw_number_text(uint32_t number)
 enum { TKW_DISK = 0, TKW_DEVICE = 1 };
 
 /* The settings of the short calls. */
-enum { TKW_DEFAULT_LOW = 7936, TKW_DEFAULT_HIGH = 39936, TKW_DEFAULT_MAIN_BASE = 8192, TKW_DEFAULT_ZERO_BASE = 128 };
+enum { TKW_DEFAULT_LOW = 7936, TKW_DEFAULT_HIGH = 39936, TKW_DEFAULT_MAIN_BASE = 9216, TKW_DEFAULT_ZERO_BASE = 128 };
 
 /* Loads an SDX file. Relocatable blocks go to low and upwards, up to high (low <= high <= 65535). The known names are known_names_length /
  * 8 names of eight bytes, with as many addresses beside them, two bytes each, low byte first (an odd length is refused with 1). The file's

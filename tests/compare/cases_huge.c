@@ -13,7 +13,7 @@
 static const char sdx_file[] = "FF FF 00 40 00 40 11";
 static const char acx_file[] = "00 03 00 00 77 0B 00 00 00";
 static const uint32_t defaults[SETTINGS] = {
-    [FORM] = 1, [LOW] = 7936, [HIGH] = 39936, [MAIN] = 8192, [ZERO] = 128, [NEW_MAIN] = 12416, [NEW_ZERO] = 128,
+    [FORM] = 1, [LOW] = 7936, [HIGH] = 39936, [MAIN] = 9216, [ZERO] = 128, [NEW_MAIN] = 12416, [NEW_ZERO] = 128,
 };
 
 /* The call with one buffer in the huge mapping: 3 for a file, 1 for every other. Both must say so. */

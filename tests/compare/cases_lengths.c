@@ -14,7 +14,7 @@ static const char *const files[CALLS] = {
 };
 
 static const uint32_t defaults[SETTINGS] = {
-    [FORM] = 1, [LOW] = 7936, [HIGH] = 39936, [MAIN] = 8192, [ZERO] = 128, [NEW_MAIN] = 12416, [NEW_ZERO] = 128,
+    [FORM] = 1, [LOW] = 7936, [HIGH] = 39936, [MAIN] = 9216, [ZERO] = 128, [NEW_MAIN] = 12416, [NEW_ZERO] = 128,
 };
 
 /* Lengths beside the right one of some buffer, or far from all. */

@@ -68,7 +68,7 @@ static bool call_fits(const struct directed *directed, enum call call)
     if (call == SDX_LOAD_DEFAULT)
         return directed->call == SDX_LOAD && settings[LOW] == 7936 && settings[HIGH] == 39936;
     if (call == ACX_LOAD_DEFAULT)
-        return directed->call == ACX_LOAD && settings[MAIN] == 8192 && settings[ZERO] == 128;
+        return directed->call == ACX_LOAD && settings[MAIN] == 9216 && settings[ZERO] == 128;
     return call == directed->call;
 }
 

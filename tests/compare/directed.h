@@ -22,8 +22,8 @@ struct directed {
 #define SDX_AT(low, high) SDX_LOAD, {[LOW] = (low), [HIGH] = (high)}
 #define SDX_DEFAULT SDX_AT(7936, 39936)
 #define ACX_AT(form, main, zero) ACX_LOAD, {[FORM] = (form), [MAIN] = (main), [ZERO] = (zero)}
-#define DEVICE_DEFAULT ACX_AT(1, 8192, 128)
-#define DISK_DEFAULT ACX_AT(0, 8192, 128)
+#define DEVICE_DEFAULT ACX_AT(1, 9216, 128)
+#define DISK_DEFAULT ACX_AT(0, 9216, 128)
 #define MOVE(form, main, zero, new_main, new_zero)                                                                                  \
     ACX_MOVE, {[FORM] = (form), [MAIN] = (main), [ZERO] = (zero), [NEW_MAIN] = (new_main), [NEW_ZERO] = (new_zero)}
 

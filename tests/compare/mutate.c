@@ -4,7 +4,7 @@
 
 static const uint8_t telling[] = {0x00, 0x01, 0x02, 0x07, 0x08, 0x0A, 0x0B, 0x0C, 0x7F, 0x80, 0xFA, 0xFB, 0xFC, 0xFD, 0xFE, 0xFF};
 static const uint32_t bounds[] = {
-    0, 1, 2, 255, 256, 257, 7936, 8192, 32768, 65534, 65535, 65536, 65537, 65536 + 8192, 0x80000000u, 0xFFFFFFFFu,
+    0, 1, 2, 255, 256, 257, 7936, 9216, 32768, 65534, 65535, 65536, 65537, 65536 + 9216, 0x80000000u, 0xFFFFFFFFu,
 };
 
 static uint8_t pick_byte(struct rng *rng)

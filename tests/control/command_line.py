@@ -3,7 +3,7 @@
 import os
 import re
 
-from desk import (ACCEPTED, REFUSED, TROUBLE, COMMANDS, EXAMPLES, LOADED, MEMORY, OPTIONS, P1, PATTERN, ROOT, holds, same, test,
+from desk import (ACCEPTED, REFUSED, TROUBLE, COMMANDS, EXAMPLES, LOADED, MEMORY, OPTIONS, P1, P6, PATTERN, ROOT, holds, same, test,
                   with_bytes)
 
 
@@ -33,6 +33,21 @@ def the_help_has_the_defaults_of_the_library(desk):
     low, high, main, zero = (re.search(rf"TKW_DEFAULT_{name} = (\d+)", header)[1] for name in ("LOW", "HIGH", "MAIN_BASE", "ZERO_BASE"))
     usage = desk.text(ACCEPTED, "--help")
     same((usage.count(f"({low}, {high})"), usage.count(f"({main}, {zero})")), (1, 2), "defaults in the usage")
+
+
+@test
+def settings_that_are_not_named_are_those_of_the_short_calls(desk):
+    desk.put("f", P1)
+    desk.put("s", P6)
+    same(desk.answer(ACCEPTED, "sdx", "s")["settings"], {"low": 7936, "high": 39936}, "sdx")
+    desk.text(ACCEPTED, "acx", "f", "--form", "device", "--out", "image")
+    same(desk.get("image"), with_bytes(bytes(MEMORY), (9216, b"\x4C\x03\x24")), "the image")
+    words = ("move", "f", "--form", "device", "--to-zero", "3", "--memory")
+    same(desk.answer(ACCEPTED, *words, "image")["settings"],
+         {"form": "device", "from_main": 9216, "from_zero": 128, "to_main": 9216, "to_zero": 3}, "move")
+    # a handler that an earlier version has put where the default was
+    desk.put("earlier", LOADED)
+    desk.text(ACCEPTED, *words, "earlier", warning="the handler does not seem to be at $2400: 1 of 1 code bytes differ there")
 
 
 @test
@@ -85,7 +100,8 @@ def a_dash_is_standard_input(desk):
     desk.put("image", LOADED)
     desk.put("f", P1)
     same(desk.answer(ACCEPTED, "acx", "-", "--form", "device", input=P1)["file"], "-", "FILE")
-    desk.text(ACCEPTED, "move", "f", "--form", "device", "--memory", "-", "--to-main", "$3000", "--out", "after", input=LOADED)
+    desk.text(ACCEPTED, "move", "f", "--form", "device", "--memory", "-", "--from-main", "8192", "--to-main", "$3000", "--out", "after",
+              input=LOADED)
     same(desk.get("after"), with_bytes(LOADED, (0x3000, b"\x4C\x03\x30")), "the image")
     names = open(f"{EXAMPLES}/names.txt", "rb").read()
     desk.text(ACCEPTED, "sdx", f"{EXAMPLES}/score.sdx", "--names", "-", input=names)
@@ -193,7 +209,7 @@ def the_form_is_disk_or_device(desk):
     desk.put("image", LOADED)
     for form in ("", "Disk", "0", "devices"):
         desk.trouble("acx", "disk", "--form", form, mention="--form: is disk or device")
-    for command, *more in (("acx",), ("move", "--memory", "image", "--to-main", "$3000")):
+    for command, *more in (("acx",), ("move", "--memory", "image", "--from-main", "8192", "--to-main", "$3000")):
         desk.text(ACCEPTED, command, "disk", *more)
         desk.text(ACCEPTED, command, "disk", "--form", "disk", *more)
         desk.text(ACCEPTED, command, "device", "--form", "device", *more)

@@ -141,7 +141,7 @@ def with_bytes(image, *changes):
     return bytes(changed)
 
 
-# The same with P1 loaded at the default bases.
+# The same with P1 loaded at main base 8,192.
 LOADED = with_bytes(PATTERN, (0x2000, b"\x4C\x03\x20"))
 
 

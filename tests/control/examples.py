@@ -41,7 +41,7 @@ def the_clock_has_every_kind_of_record(desk):
 @test
 def a_moved_clock_is_a_fresh_one_with_its_counters(desk):
     path = os.path.join(EXAMPLES, "clock.acx")
-    desk.text(ACCEPTED, "acx", path, "--out", "image")
+    desk.text(ACCEPTED, "acx", path, "--main", "8192", "--out", "image")
     live = ((0x80, b"\x09\x01"), (0x2100, b"\x25\x04"))
     desk.put("image", with_bytes(desk.get("image"), *live))
     # the second move overlaps the place that it leaves

@@ -16,7 +16,7 @@ def row(address, content, marked=-1):
 @test
 def an_acx_load_is_reported(desk):
     desk.put("f", P1)
-    same(desk.text(ACCEPTED, "acx", "f", "--form", "device", "--dump"), """\
+    same(desk.text(ACCEPTED, "acx", "f", "--form", "device", "--main", "8192", "--dump"), """\
 accepted
 start      $2000 (8192)
 placed     3 bytes
@@ -32,7 +32,7 @@ dump
 def a_move_is_reported(desk):
     desk.put("f", P1)
     desk.put("image", LOADED)
-    words = ("move", "f", "--form", "device", "--memory", "image", "--to-main", "$3000")
+    words = ("move", "f", "--form", "device", "--memory", "image", "--from-main", "8192", "--to-main", "$3000")
     report = """\
 accepted
 moved      $2000 to $3000, zero page $80 to $80
@@ -55,7 +55,7 @@ def a_copy_at_the_new_bases_is_one_outside_the_old_places(desk):
     replaced = lambda *words: "\nreplaced " in desk.text(ACCEPTED, "move", clock, "--memory", "image", "--out", "image", *words)
     for before in (bytes(MEMORY), PATTERN):
         desk.put("image", before)
-        desk.text(ACCEPTED, "acx", clock, "--memory", "image", "--out", "image")
+        desk.text(ACCEPTED, "acx", clock, "--memory", "image", "--main", "8192", "--out", "image")
         bases = (("$2000", "$80"), ("$2010", "$80"), ("$2010", "$90"), ("$5000", "$C0"))
         for (main, zero), (to_main, to_zero) in zip(bases, bases[1:]):
             holds(not replaced("--from-main", main, "--from-zero", zero, "--to-main", to_main, "--to-zero", to_zero), f"copy at {to_main}")
@@ -68,7 +68,7 @@ def a_copy_has_most_of_the_code(desk):
     desk.put("f", bytes.fromhex("00 06 00 00 11 22 33 44 0B 00 00 00"))
     for there, copy in (("11 22 33 44", True), ("11 22 33 99", True), ("11 22 99 99", False), ("99 99 99 99", False)):
         desk.put("image", with_bytes(PATTERN, (0x2000, bytes.fromhex("11 22 33 44")), (0x3000, bytes.fromhex(there))))
-        text = desk.text(ACCEPTED, "move", "f", "--form", "device", "--memory", "image", "--to-main", "$3000")
+        text = desk.text(ACCEPTED, "move", "f", "--form", "device", "--memory", "image", "--from-main", "8192", "--to-main", "$3000")
         same("\nreplaced " in text, copy, f"a copy where {there} is")
 
 
@@ -184,13 +184,14 @@ def the_place_is_marked_in_its_row(desk):
 def json_has_all_members_in_order(desk):
     (version,) = re.findall(r'#define TKW_VERSION "([^"]*)"', open(f"{ROOT}/include/tekoweapa.h", encoding="utf-8").read())
     opening = f'{{"version":"{version}","command":"acx","file":"f","settings":{{"form":"device","main":8192,"zero":128}},'
+    words = ("acx", "f", "--form", "device", "--main", "8192", "--json")
     desk.put("f", P1)
-    same(desk.text(ACCEPTED, "acx", "f", "--form", "device", "--json"),
+    same(desk.text(ACCEPTED, *words),
          opening + '"number":0,"meaning":"accepted","offset":null,"side":null,"start":8192,"init":null,"placed":3,"adjusted":1,'
          '"new_names":[],"low":null,"ranges":[{"from":8192,"to":8192,"mark":1,"meaning":"placed","length":1},'
          '{"from":8193,"to":8194,"mark":3,"meaning":"adjusted","length":2}]}\n', "acceptance")
     desk.put("f", P9)
-    same(desk.text(REFUSED, "acx", "f", "--form", "device", "--json"),
+    same(desk.text(REFUSED, *words),
          opening + '"number":12,"meaning":"field not loaded","offset":7,"side":null,"start":null,"init":null,"placed":null,"adjusted":null,'
          '"new_names":[],"low":null,"ranges":[]}\n', "refusal")
 
@@ -202,7 +203,7 @@ def json_has_command_file_and_settings(desk):
     desk.put("image", LOADED)
     answer = desk.answer(ACCEPTED, "sdx", "s", "--low", "$2000", "--high", "$3000")
     same((answer["command"], answer["file"], answer["settings"]), ("sdx", "s", {"low": 0x2000, "high": 0x3000}), "sdx")
-    answer = desk.answer(ACCEPTED, "move", "f", "--form", "device", "--memory", "image", "--to-zero", "3")
+    answer = desk.answer(ACCEPTED, "move", "f", "--form", "device", "--memory", "image", "--from-main", "8192", "--to-zero", "3")
     same((answer["command"], answer["settings"]),
          ("move", {"form": "device", "from_main": 8192, "from_zero": 128, "to_main": 8192, "to_zero": 3}), "move")
     same((answer["offset"], answer["side"], answer["low"]), (None, None, None), "absent numbers of a move")

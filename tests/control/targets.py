@@ -31,7 +31,7 @@ def outputs_replace_files_whole(desk):
     desk.put("out", PATTERN)
     os.chmod(desk.path("out"), 0o640)
     os.symlink("out", desk.path("link"))
-    desk.text(ACCEPTED, "acx", "f", "--form", "device", "--out", "link", "--fresh")
+    desk.text(ACCEPTED, "acx", "f", "--form", "device", "--main", "8192", "--out", "link", "--fresh")
     same(desk.get("out"), with_bytes(bytes(MEMORY), (0x2000, b"\x4C\x03\x20")), "the image")
     same(stat.S_IMODE(os.stat(desk.path("out")).st_mode), 0o640, "permissions")
     holds(os.path.islink(desk.path("link")), "the link is gone")
@@ -180,7 +180,7 @@ def a_signal_that_is_ignored_stays_ignored(desk):
 def an_image_may_be_renewed_in_place(desk):
     desk.put("f", P1)
     desk.put("image", PATTERN)
-    desk.text(ACCEPTED, "acx", "f", "--form", "device", "--memory", "image", "--out", "image")
+    desk.text(ACCEPTED, "acx", "f", "--form", "device", "--main", "8192", "--memory", "image", "--out", "image")
     same(desk.get("image"), with_bytes(PATTERN, (0x2000, b"\x4C\x03\x20")), "the image")
     same(sorted(desk.listing()), ["f", "image"], "files")
 
@@ -313,7 +313,7 @@ def what_is_no_regular_file_is_written_directly(desk):
     got = []
     reader = threading.Thread(daemon=True, target=lambda: got.append(desk.drain("fifo")))
     reader.start()
-    desk.text(ACCEPTED, "acx", "f", "--form", "device", "--map", "fifo")
+    desk.text(ACCEPTED, "acx", "f", "--form", "device", "--main", "8192", "--map", "fifo")
     reader.join(20)
     same(got, [with_bytes(bytes(MEMORY), (0x2000, b"\x01\x03\x03"))], "what came through the FIFO")
     holds(stat.S_ISFIFO(os.stat(desk.path("fifo")).st_mode), "the FIFO is gone")
@@ -501,7 +501,7 @@ def a_file_without_a_way_back_is_not_lost(desk):
     """Where the former image can't have a second name, and the map's rename fails, the image is the new one."""
     desk.put("f", P1)
     desk.put("old", PATTERN)
-    done = desk.run("acx", "f", "--form", "device", "--memory", "old", "--out", "old", "--map", "map",
+    done = desk.run("acx", "f", "--form", "device", "--main", "8192", "--memory", "old", "--out", "old", "--map", "map",
                     env=with_failure(desk, "rename and link"))
     same((done.returncode, done.stdout), (TROUBLE, b""), "exit status and output")
     same(done.stderr.decode().splitlines(),
@@ -518,7 +518,7 @@ def a_signal_between_two_steps_leaves_all_or_nothing(desk):
     for moment, image, files, said in (("signal at open", PATTERN, ["f", "old"], b""),
                                        ("signal at failed rename", PATTERN, ["f", "old"], failed),
                                        ("signal at rename", LOADED, ["f", "map", "old"], b"")):
-        done = desk.run("acx", "f", "--form", "device", "--memory", "old", "--out", "old", "--map", "map",
+        done = desk.run("acx", "f", "--form", "device", "--main", "8192", "--memory", "old", "--out", "old", "--map", "map",
                         env=with_failure(desk, moment), preexec_fn=default)
         same((done.returncode, done.stderr), (-signal.SIGTERM, said), f"exit status and errors with {moment}")
         found = sorted(name for name in os.listdir(desk.folder) if not name.startswith("failures."))

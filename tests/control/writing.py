@@ -7,7 +7,7 @@ from desk import ACCEPTED, REFUSED, EXAMPLES, LOADED, MEMORY, P1, P3, P6, P10, P
 def a_load_goes_into_the_image(desk):
     desk.put("f", P1)
     desk.put("before", PATTERN)
-    words = ("acx", "f", "--form", "device")
+    words = ("acx", "f", "--form", "device", "--main", "8192")
     desk.text(ACCEPTED, *words, "--memory", "before", "--out", "after", "--map", "map")
     same(desk.get("after"), LOADED, "the image")
     same(desk.get("map"), with_bytes(bytes(MEMORY), (0x2000, b"\x01\x03\x03")), "the map")
@@ -61,7 +61,8 @@ def an_output_replaces_its_own_kind_alone(desk):
 def a_move_takes_live_bytes_along(desk):
     desk.put("f", P1)
     desk.put("before", with_bytes(PATTERN, (0x2000, b"\x4C\x07\x21")))
-    desk.text(ACCEPTED, "move", "f", "--form", "device", "--memory", "before", "--to-main", "12416", "--out", "after", "--map", "map")
+    desk.text(ACCEPTED, "move", "f", "--form", "device", "--memory", "before", "--from-main", "8192", "--to-main", "12416",
+              "--out", "after", "--map", "map")
     same(desk.get("after"), with_bytes(PATTERN, (0x2000, b"\x4C\x07\x21"), (12416, b"\x4C\x87\x31")), "the image")
     same(desk.get("map"), with_bytes(bytes(MEMORY), (12416, b"\x01\x03\x03")), "the map")
     # P4 moved to 8192 (P5): the high byte goes by the carry of its low byte
@@ -86,23 +87,24 @@ def all_four_bases_of_a_move_count(desk):
 def a_move_from_wrong_bases_is_made_with_a_warning(desk):
     clock = f"{EXAMPLES}/clock.acx"
     words = ("move", clock, "--memory", "image", "--to-main", "$6000", "--out", "after")
+    right = (*words, "--from-main", "8192")
     main = f"{clock}: warning: the handler does not seem to be at $4000: "
     zero = f"{clock}: warning: the handler's zero-page part does not seem to be at $C0: "
     for before in (bytes(MEMORY), PATTERN):
         desk.put("image", before)
-        desk.text(ACCEPTED, "acx", clock, "--memory", "image", "--out", "image")
-        report = desk.text(ACCEPTED, *words)
+        desk.text(ACCEPTED, "acx", clock, "--memory", "image", "--main", "8192", "--out", "image")
+        report = desk.text(ACCEPTED, *right)
         wrong = desk.text(ACCEPTED, *words, "--from-main", "$4000", warning=main)
         same(wrong.replace("$4000 to", "$2000 to"), report, "the report of the move from wrong bases")
-        desk.text(ACCEPTED, *words, "--from-zero", "$C0", warning=zero)
-        desk.text(ACCEPTED, *words, "--from-zero", "$C0", "--to-zero", "$80", warning=zero)
+        desk.text(ACCEPTED, *right, "--from-zero", "$C0", warning=zero)
+        desk.text(ACCEPTED, *right, "--from-zero", "$C0", "--to-zero", "$80", warning=zero)
         desk.answer(ACCEPTED, *words, "--from-main", "$4000", warning=main)
         desk.text(ACCEPTED, *words, "--from-main", "$4000", "--quiet", warning=main)
         both = desk.run(*words, "--from-main", "$4000", "--from-zero", "$C0")
         same((both.returncode, both.stderr.count(b": warning: ")), (ACCEPTED, 2), "exit status and warnings")
         # counters and scores that have changed are no cause for a warning
         desk.put("image", with_bytes(desk.get("image"), (0x80, bytes(range(1, 5))), (0x2100, bytes(range(1, 19)))))
-        desk.text(ACCEPTED, *words)
+        desk.text(ACCEPTED, *right)
     # a refused move says nothing of it
     desk.put("image", PATTERN)
     desk.text(REFUSED, "move", clock, "--memory", "image", "--to-main", "65500", "--from-main", "$4000")
@@ -115,7 +117,7 @@ def the_warning_goes_by_most_of_the_code(desk):
     desk.put("main", bytes.fromhex(f"00 {piece} 06 01 05 0B 00 00 00"))
     desk.put("zero", bytes.fromhex(f"0A {piece} 07 01 05 0B 00 00 00"))
     for file, address, subject in (("main", 0x2000, "the handler does"), ("zero", 0x80, "the handler's zero-page part does")):
-        words = ("move", file, "--form", "device", "--memory", "image", "--to-main", "$3000")
+        words = ("move", file, "--form", "device", "--memory", "image", "--from-main", "8192", "--to-main", "$3000")
         for code, count in (("11 22 33 44 00", 0), ("11 22 33 99 99", 0), ("11 22 99 99 99", 0), ("11 99 99 99 00", 3),
                             ("99 99 99 99 99", 4)):
             desk.put("image", with_bytes(PATTERN, (address, bytes.fromhex(code))))

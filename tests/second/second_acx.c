@@ -328,10 +328,11 @@ uint32_t second_acx_load(uint32_t form, const uint8_t *file, size_t file_length,
     return second_report(&outcome, answer);
 }
 
-/* "Short calls of the two loaders, with form and buffers still given, take ... main base 8,192 and zero-page base 128." */
+/* "Short calls of the two loaders, with form and buffers still given, take ... main base 8,192 and zero-page base 128." Document 02, wish 4:
+ * "the short calls' main base becomes 9,216." */
 uint32_t second_acx_load_default(uint32_t form, const uint8_t *file, size_t file_length,
                                  uint8_t *memory, size_t memory_length, uint8_t *map, size_t map_length,
                                  uint8_t *answer, size_t answer_length)
 {
-    return second_acx_load(form, file, file_length, 8192, 128, memory, memory_length, map, map_length, answer, answer_length);
+    return second_acx_load(form, file, file_length, 9216, 128, memory, memory_length, map, map_length, answer, answer_length);
 }

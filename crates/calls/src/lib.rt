@@ -19,7 +19,7 @@ ghost use Rattle.calls.specs.Sdx.{defaultInputs, Called as SdxCalled};
 const ANSWER: usize = 36;
 
 // The settings of the short calls.
-const DEFAULT_MAIN_BASE: u32 = 8192;
+const DEFAULT_MAIN_BASE: u32 = 9216;
 
 const DEFAULT_ZERO_BASE: u32 = 128;
 
