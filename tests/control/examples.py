@@ -113,16 +113,17 @@ def the_demo_passes(desk):
 
 @test
 def the_demo_fails_with_a_wrong_program(desk):
-    """A program that does nothing, one that loads where it should move, and one that accepts what it should refuse."""
+    """One that does nothing, one that loads where it should move, one that accepts what it should refuse: each is found by what it did."""
     demo = os.path.join(EXAMPLES, "demo")
     wrong = {
-        "nothing": "exit 0",
-        "reload": '[ "$1" = move ] || exec "$program" "$@"\nshift; file=$1; shift\n'
-                  'set -- "${@/--to-main/--main}"; set -- "${@/--to-zero/--zero}"\nexec "$program" acx "$file" "$@"',
-        "accept": '"$program" "$@" || exit 0',
+        "nothing": ("exit 0", "the lap counter is '', should be '0000'"),
+        "reload": ('[ "$1" = move ] || exec "$program" "$@"\n'
+                   'words=${*:2}; words=${words/--from-main 0x2000/}\nwords=${words/--to-main/--main}; words=${words/--to-zero/--zero}\n'
+                   'exec "$program" acx $words', "the lap counter after the move is '0000', should be '0900'"),
+        "accept": ('"$program" "$@" || exit 0', "exit status 0, should be 1"),
     }
-    for name, body in wrong.items():
+    for name, (body, said) in wrong.items():
         desk.put(name, f"#!/bin/bash\nprogram='{PROGRAM}'\n{body}\n".encode())
         os.chmod(desk.path(name), 0o755)
         done = subprocess.run([demo, desk.path(name)], capture_output=True, timeout=60)
-        holds(done.returncode != 0 and b"demo: " in done.stderr, f"{name}: {done.returncode} {done.stderr}")
+        same((done.returncode, done.stderr.decode().splitlines()[-1]), (1, f"demo: {said}"), name)
