@@ -4,7 +4,7 @@
 # make control         build/tekoweapa: the control program
 # make c-tests         the tests in C alone (tests/run)
 # make fuzz SECONDS=n  random cases against the second implementation, for n seconds
-# make bench           times of the library beside the second implementation
+# make bench           times of the library beside the second implementation, and of the search for names
 # make picture         docs/map.png, the map in README.md
 # make proofs          prove what has changed since the last time, without the must-fail edits
 # make sizes           functions, lines and must-fail edits of each crate: README.md's table, which the gate holds to the sources

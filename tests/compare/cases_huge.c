@@ -19,22 +19,15 @@ static const uint32_t defaults[SETTINGS] = {
 /* The call with one buffer in the huge mapping: 3 for a file, 1 for every other. Both must say so. */
 static bool huge_refused(struct driver *driver, enum buffer huge, uint8_t *mapping)
 {
-    struct request *request = &driver->request;
-    size_t length = request->buffers[huge].length;
+    struct contents *contents = &driver->request.buffers[huge];
+    size_t length = contents->length;
     bool good = true;
     for (enum maker maker = 0; maker < MAKERS; maker++) {
-        uint8_t *lent[BUFFERS];
-        for (enum buffer buffer = 0; buffer < BUFFERS; buffer++) {
-            struct loan loan = {request->buffers[buffer].bytes, request->buffers[buffer].length, TIGHT_BELOW, false};
-            lent[buffer] = arena_lend(&driver->arenas[maker][buffer], &loan);
-        }
-        memcpy(mapping, request->buffers[huge].bytes, length);
-        lent[huge] = mapping;
-        request->buffers[huge].length = BEYOND + length;
-        driver->calling = maker;
-        good = good && perform(request, maker, lent) == (huge == FILE_BYTES ? 3 : 1);
-        good = good && memcmp(mapping, request->buffers[huge].bytes, length) == 0;
-        request->buffers[huge].length = length;
+        memcpy(mapping, contents->bytes, length);
+        contents->length = BEYOND + length;
+        uint32_t number = call_with(driver, maker, huge, mapping);
+        contents->length = length;
+        good = good && number == (huge == FILE_BYTES ? 3 : 1) && memcmp(mapping, contents->bytes, length) == 0;
     }
     return good;
 }

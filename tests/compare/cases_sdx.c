@@ -9,6 +9,10 @@
 #define SEVEN EMPTY("00") EMPTY("01") EMPTY("02") EMPTY("03") EMPTY("04") EMPTY("05") EMPTY("06")
 #define NEW_NAME(offset, name) "FC FF 01 " offset " '" name "' "
 
+/* The files of document 02's wish 3, and known names alike in seven bytes. */
+#define NAMES_5000(name) "(FB FF '" name "' 00 00 FC)*5000"
+#define KNOWN_256 "'ENTRANT0' 'ENTRANT1'*254 'ENTRANT2'", "(34 12)*256"
+
 static const struct directed cases[] = {
     {"P6", SDX_DEFAULT, P6, SDX_LOADED(3, 1, 0, 7939), "1F00: 4C 00 1F", "1EFF: 00 01 03 03 00", "", ""},
     {"P7", SDX_DEFAULT, BLOCK_1 UPDATE_1 "FE 01 01", REFUSED(5, 11)},
@@ -120,6 +124,8 @@ static const struct directed cases[] = {
     {"256 known names", SDX_DEFAULT, BLOCK_1 "FB FF 'GRAPHICS' 00 00 FE 01 01 FC", SDX_LOADED(3, 1, 0, 7939), "1F00: 4C 34 22", NULL, "", "", "'GRAPHICS' 'SCREENED'*255", "34 12 (00 00)*255"},
     {"the 256th known name", SDX_DEFAULT, BLOCK_1 "FB FF 'GRAPHICS' 00 00 FE 01 01 FC", SDX_LOADED(3, 1, 0, 7939), "1F00: 4C 34 22", NULL, "", "", "'SCREENED'*255 'GRAPHICS'", "(00 00)*255 34 12"},
     {"a name known first and 256th", SDX_DEFAULT, BLOCK_1 "FB FF 'GRAPHICS' 00 00 FE 01 01 FC", SDX_LOADED(3, 1, 0, 7939), "1F00: 4C 78 66", NULL, "", "", "'GRAPHICS' 'SCREENED'*254 'GRAPHICS'", "34 12 (00 00)*254 78 56"},
+    {"5,000 names, each the newest of 256", SDX_DEFAULT, NAMES_5000("ENTRANT2"), SDX_LOADED(0, 0, 0, 7936), NULL, "0000: 00*65536", "", "", KNOWN_256},
+    {"5,000 names, each the oldest of 256", SDX_DEFAULT, NAMES_5000("ENTRANT0"), SDX_LOADED(0, 0, 0, 7936), NULL, "0000: 00*65536", "", "", KNOWN_256},
     {"257 known names", SDX_DEFAULT, BLOCK_1, REFUSED(1, 0), .known_names = "'GRAPHICS'*257", "(34 12)*257"},
     {"a name at its block's first byte", SDX_DEFAULT, BLOCK_1 NEW_NAME("00 10", "FIRST   "), SDX_LOADED(3, 0, 1, 7939), .names = "'FIRST   '", "00 1F"},
     {"a name at its block's last byte", SDX_DEFAULT, BLOCK_1 NEW_NAME("02 10", "LAST    "), SDX_LOADED(3, 0, 1, 7939), .names = "'LAST    '", "02 1F"},

@@ -131,6 +131,7 @@ static int run(struct driver *driver, const struct options *options)
         cases_move(driver);
         cases_lengths(driver);
         cases_huge(driver);
+        cases_search(driver);
         printf("%u directed cases\n", driver->passed + driver->failed);
         random_groups(driver, options);
         coverage(driver, !options->sample && options->seconds == 0 && options->cases >= DEFAULT_CASES);

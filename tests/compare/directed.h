@@ -47,5 +47,6 @@ void cases_acx(struct driver *driver);
 void cases_move(struct driver *driver);
 void cases_lengths(struct driver *driver);
 void cases_huge(struct driver *driver);
+void cases_search(struct driver *driver);
 
 #endif

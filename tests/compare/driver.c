@@ -52,12 +52,12 @@ void count(struct driver *driver, bool passed)
         exit(EXIT_FAILURE);
 }
 
-static uint32_t make_call(struct driver *driver, enum maker maker)
+uint32_t call_with(struct driver *driver, enum maker maker, enum buffer elsewhere, uint8_t *bytes)
 {
     const struct request *request = &driver->request;
     uint8_t *lent[BUFFERS] = {NULL};
     for (enum buffer buffer = 0; buffer < BUFFERS; buffer++) {
-        if (!call_takes_buffer(request->call, buffer))
+        if (!call_takes_buffer(request->call, buffer) || buffer == elsewhere)
             continue;
         const struct contents *contents = &request->buffers[buffer];
         struct loan loan = {contents->bytes, contents->length, request->placement, buffer_is_input(buffer)};
@@ -65,6 +65,8 @@ static uint32_t make_call(struct driver *driver, enum maker maker)
         if (contents->length == 0 && request->null_if_empty)
             lent[buffer] = NULL;
     }
+    if (elsewhere < BUFFERS)
+        lent[elsewhere] = bytes;
     driver->calling = maker;
     alarm(CALL_SECONDS);
     uint32_t number = perform(request, maker, lent);
@@ -136,8 +138,8 @@ static void note(struct driver *driver, uint32_t number)
 
 bool agree(struct driver *driver)
 {
-    uint32_t ours = make_call(driver, PRODUCT);
-    uint32_t theirs = make_call(driver, SECOND);
+    uint32_t ours = call_with(driver, PRODUCT, BUFFERS, NULL);
+    uint32_t theirs = call_with(driver, SECOND, BUFFERS, NULL);
     driver->requests++;
     if (ours != theirs) {
         char what[96];

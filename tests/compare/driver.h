@@ -27,6 +27,9 @@ enum { AT_NUMBER, AT_OFFSET, AT_SIDE, AT_START_PRESENT, AT_START, AT_PLACED, AT_
 /* Gives every room its right length and random former contents, and empties the inputs. */
 void prepare(struct driver *driver, struct rng *rng, enum call call);
 
+/* Makes the request of one of the two, every buffer between guard pages but one that is lent from elsewhere, or BUFFERS for none. */
+uint32_t call_with(struct driver *driver, enum maker maker, enum buffer elsewhere, uint8_t *bytes);
+
 /* Makes the request of both; false, and reported, if anything differs. */
 bool agree(struct driver *driver);
 
