@@ -12,17 +12,15 @@
 
 enum { KNOWN = 256, NAME = 8 };
 
-/* A word, 1000 before, that grows by the address of a name. The names are alike in seven bytes, and the eighth is the address. */
+/* A word, $1000, that grows by the address of a known name. The names are alike in seven bytes; the eighth is the address. */
 static const char file[] = "FE FF 01 00 00 10 03 00 4C 00 10 FB FF 'ENTRANT' 00 00 00 FE 01 01 FC";
 enum { NAME_AT = 13, WORD_AT = 0x1F01 };
 
 static void know_names(struct request *request)
 {
     struct contents *names = &request->buffers[KNOWN_NAMES], *addresses = &request->buffers[KNOWN_ADDRESSES];
-    names->length = notation_bytes("'ENTRANT' 00", names->bytes, CAPACITY);
-    for (; names->length < KNOWN * NAME; names->length += NAME)
-        memcpy(names->bytes + names->length, names->bytes, NAME);
-    addresses->length = notation_bytes("00*512", addresses->bytes, CAPACITY);
+    names->length = notation_bytes("('ENTRANT' 00)*256", names->bytes, CAPACITY);
+    addresses->length = notation_bytes("(00 00)*256", addresses->bytes, CAPACITY);
     for (int i = 0; i < KNOWN; i++)
         names->bytes[NAME * i + NAME - 1] = addresses->bytes[2 * i] = (uint8_t)i;
 }
