@@ -84,12 +84,12 @@ MAIN, ABSOLUTE, ZERO_PAGE, END = 0x00, 0x01, 0x0A, 0x0B
 START_ABSENT, START_ABSOLUTE, START_RELATIVE = 0, 1, 2
 DISK_OPENING = b"\xF0\xFF"
 
-# The type of the fixup record for a field, in code outside and inside the zero page.
+# The type of the fixup record for a field, in code outside and inside the zero page. Absolute code takes those for outside.
 FIXUPS = {
     MAIN: {"low": 0x02, "zero": 0x04, "word": 0x06, "high": 0x08},
     ZERO_PAGE: {"low": 0x03, "zero": 0x05, "word": 0x07, "high": 0x09},
-    ABSOLUTE: {},
 }
+FIXUPS[ABSOLUTE] = FIXUPS[MAIN]
 
 
 def acx_fixups(kind, fields, labels):
@@ -211,6 +211,47 @@ CLOCK = [
     (ZERO_PAGE, 0x0000, CLOCK_ZERO_PAGE),
     (MAIN, 0x0100, CLOCK_DATA),
     (ABSOLUTE, 0x0600, CLOCK_TITLE),
+]
+
+# The start signal: the bottom of the screen is red before the start and green after it. It is drawn in the display list's interrupt, which goes
+# through a vector of the system's in page 2. The vector is loaded with the code, points into it, and is turned while it lives.
+
+VDSLST = 0x0200  # the system's vector for that interrupt
+COLBK, NMIEN = 0xD01A, 0xD40E  # the color of the background; which of these interrupts come
+RED, GREEN = 0x34, 0xC4
+
+
+def background(color):
+    return [
+        0x48,                                    # PHA
+        0xA9, color,                             # LDA #color
+        0x8D, *little(COLBK),                    # STA COLBK
+        0x68,                                    # PLA
+        0x40,                                    # RTI
+    ]
+
+
+SIGNAL_CODE = [
+    Label("red"), *background(RED),
+    Label("green"), *background(GREEN),
+    # go: from now on green. No interrupt comes while the vector is half turned
+    Label("go"),
+    0xA9, 0x40,                                  # LDA #$40
+    0x8D, *little(NMIEN),                        # STA NMIEN
+    0xA9, low("green"),                          # LDA #<green
+    0x8D, *little(VDSLST),                       # STA VDSLST
+    0xA9, high("green"),                         # LDA #>green
+    0x8D, *little(VDSLST + 1),                   # STA VDSLST+1
+    # init: the interrupts come
+    Label("init"),
+    0xA9, 0xC0,                                  # LDA #$C0
+    0x8D, *little(NMIEN),                        # STA NMIEN
+    0x60,                                        # RTS
+]
+
+SIGNAL = [
+    (MAIN, 0x0000, SIGNAL_CODE),
+    (ABSOLUTE, VDSLST, [word("red")]),
 ]
 
 # The smallest handler: it jumps to the byte after itself (bench table P1).
@@ -342,6 +383,7 @@ def main():
     files = {
         "jump.acx": acx_file(b"", JUMP, "jump"),
         "clock.acx": acx_file(DISK_OPENING, CLOCK, "init"),
+        "signal.acx": acx_file(DISK_OPENING, SIGNAL, "init"),
         "twice.acx": TWICE,
         "score.sdx": score_file(),
         "names.txt": NAMES_TEXT.encode("ascii"),

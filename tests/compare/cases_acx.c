@@ -8,6 +8,8 @@
 #define P1 CODE_3 "06 01 01 0B 02 00 00"
 #define P3 "00 04 00 00 A2 00 08 02 01 F0 0B 00 00 00"
 #define END "0B 00 00 00"
+/* A jump vector in page 2. */
+#define VECTOR "01 04 00 02 00 00 06 01 00 "
 
 static const struct directed cases[] = {
     {"P1", ACX_AT(1, 8192, 128), P1, STARTED(8192, 3, 1), "2000: 4C 03 20", "1FFF: 00 01 03 03 00"},
@@ -111,6 +113,19 @@ static const struct directed cases[] = {
     {"high byte at the highest base", ACX_AT(1, 65535, 128), "00 03 00 00 A2 08 02 00 FF " END, LOADED(1, 1), "FFFF: A2"},
     {"the fixups of zero page", ACX_AT(1, 0x1234, 0x40), "0A 07 02 00 01 02 03 04 05 03 01 00 05 01 01 07 01 02 09 02 04 CC " END, LOADED(5, 4), "0042: 35 42 37 16 18", "0041: 00 03 03 03 03 03 00"},
 
+    {"a vector in page 2", ACX_AT(1, 8192, 128), VECTOR END, LOADED(2, 1), "0200: 00 20", "01FF: 00 03 03 00"},
+    {"a vector in page 2, listed by 07", ACX_AT(1, 8192, 128), "01 04 00 02 00 00 07 01 00 " END, REFUSED(18, 6)},
+    {"a vector that points into the code", ACX_AT(1, 8192, 128), CODE_3 "01 04 00 02 02 00 06 01 00 0B 02 00 00", STARTED(8192, 5, 1), "2000: 4C 03 00; 0200: 02 20"},
+    {"the fixups of absolute code", ACX_AT(1, 0x1234, 0x40), "01 07 02 02 01 02 03 04 05 02 01 00 04 01 01 06 01 02 08 02 04 CC " END, LOADED(5, 4), "0202: 35 42 37 16 18", "0201: 00 03 03 03 03 03 00"},
+    {"absolute code in page 0 goes by its type, 04", ACX_AT(1, 8192, 128), "01 03 80 00 77 04 01 00 " END, LOADED(1, 1), "0080: F7"},
+    {"absolute code in page 0 goes by its type, 05", ACX_AT(1, 8192, 128), "01 03 80 00 77 05 01 00 " END, REFUSED(18, 5)},
+    {"a vector at 65,534", ACX_AT(1, 8192, 128), "01 04 FE FF 00 00 06 01 00 " END, LOADED(2, 1), "FFFE: 00 20", "FFFD: 00 03 03"},
+    {"a vector at 65,535", ACX_AT(1, 8192, 128), "01 03 FF FF 77 06 01 00 " END, REFUSED(12, 5)},
+    {"two pieces over one vector", ACX_AT(1, 8192, 128), VECTOR "01 04 01 02 00 00 06 01 00 " END, REFUSED(17, 9)},
+    {"a vector listed twice", ACX_AT(1, 8192, 128), VECTOR "02 01 01 " END, REFUSED(13, 9)},
+    {"fixups of the absolute code before, not of older code", DEVICE_DEFAULT, CODE_3 "01 03 00 02 77 02 01 01 " END, REFUSED(12, 12)},
+    {"fixups of an absolute record without code", DEVICE_DEFAULT, CODE_3 "01 02 00 02 02 01 00 " END, REFUSED(12, 11)},
+
     {"start absolute", DEVICE_DEFAULT, CODE_3 "0B 01 FF FF", STARTED(65535, 3, 0)},
     {"no start, whatever its address", ACX_AT(1, 65533, 128), CODE_3 "0B 00 FF FF", LOADED(3, 0)},
     {"start at 65,535", ACX_AT(1, 8192, 128), CODE_3 "0B 02 FF DF", STARTED(65535, 3, 0)},
@@ -130,7 +145,7 @@ static void fixups_after_codes(struct driver *driver)
     static const char *const codes[] = {"00", "0A", "01", "no"};
     for (uint32_t type = 2; type <= 9; type++)
         for (int code = 0; code < 4; code++) {
-            bool suits = (code == 0 && type % 2 == 0) || (code == 1 && type % 2 == 1);
+            bool suits = code == 1 ? type % 2 == 1 : code < 3 && type % 2 == 0;
             bool word = type == 6 || type == 7;
             char name[64], file[96], record[48] = "";
             if (code < 3)

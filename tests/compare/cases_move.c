@@ -1,4 +1,4 @@
-/* Directed cases for the mover: P2 and P5 of document 01's table, both sides of a refusal, overlapping places, live data. */
+/* Directed cases for the mover: P2 and P5 of document 01's table, both sides of a refusal, overlapping places, live data, vectors. */
 #include "directed.h"
 
 #define P1 "00 05 00 00 4C 03 00 06 01 01 0B 02 00 00"
@@ -8,6 +8,10 @@
 #define PLAIN_4 "00 06 00 00 01 02 03 04 " END
 /* A main piece, an absolute one and one in zero page, each with what fields it can have. */
 #define MIXED "00 06 00 00 01 02 03 04 02 01 00 04 01 01 08 02 02 80 01 04 00 30 05 06 0A 04 10 00 07 08 07 01 00 " END
+
+/* A jump vector in page 2; and two bytes more about it. */
+#define VECTOR "01 04 00 02 00 00 06 01 00 "
+#define WIDE_VECTOR "01 06 FF 01 4C 00 00 77 06 01 01 " END
 
 static const struct directed cases[] = {
     {"P2", MOVE(1, 8192, 128, 12416, 128), P1, STARTED(12416, 3, 1), "3080: 4C 83 30; 2000: 4C 03 20", "307F: 00 01 03 03 00; 2000: 00*3", .before = "2000: 4C 03 20"},
@@ -27,6 +31,17 @@ static const struct directed cases[] = {
     {"word in zero page, from main base 65,535", MOVE(1, 65535, 0, 0, 0), "0A 04 00 00 77 78 07 01 00 " END, LOADED(2, 1), "0000: 02 34", .before = "0000: 01 34"},
     {"no piece at all", MOVE(1, 0, 0, 65535, 255), END, LOADED(0, 0), NULL, "0000: 00*65536"},
 
+    {"a live vector", MOVE(1, 8192, 128, 8448, 128), VECTOR END, LOADED(2, 1), "01FF: 11 00 22 33", "01FF: 00 03 03 00", .before = "01FF: 11 00 21 33"},
+    {"a vector moved on", MOVE(1, 8448, 128, 12416, 128), VECTOR END, LOADED(2, 1), "0200: 80 31", .before = "0200: 00 22"},
+    {"a vector moved back", MOVE(1, 8448, 128, 8192, 128), VECTOR END, LOADED(2, 1), "0200: 00 21", .before = "0200: 00 22"},
+    {"a vector below its base", MOVE(1, 8192, 128, 0, 128), VECTOR END, LOADED(2, 1), "0200: 00 F0", .before = "0200: 00 10"},
+    {"a vector while zero page alone moves", MOVE(1, 8192, 0, 8192, 255), VECTOR END, LOADED(2, 1), "0200: 34 12", .before = "0200: 34 12"},
+    {"the bytes beside a vector", MOVE(1, 8192, 128, 12416, 128), WIDE_VECTOR, LOADED(4, 1), "01FF: EA B4 22 99", "01FE: 00 01 03 03 01 00", .before = "01FF: EA 34 12 99"},
+    {"the fixups of absolute code", MOVE(1, 0x20F0, 0x40, 0x4180, 0x44), "01 07 00 30 01 02 03 04 05 02 01 00 04 01 01 06 01 02 08 02 04 80 " END, LOADED(5, 4), "3000: 91 24 C3 64 76", .before = "3000: 01 20 33 44 55"},
+    {"a vector at 65,534", MOVE(1, 8192, 128, 8448, 128), "01 04 FE FF 00 00 06 01 00 " END, LOADED(2, 1), "FFFE: 00 22", .before = "FFFE: 00 21"},
+    {"a vector and the code that it points to", MOVE(1, 8192, 128, 8193, 128), VECTOR PLAIN_4, LOADED(6, 1), "0200: 03 20; 2000: 11 11 22 33 44 99", .before = "0200: 02 20; 2000: 11 22 33 44 88 99"},
+    {"a vector listed by 07", MOVE(1, 8192, 128, 8448, 128), "01 04 00 02 00 00 07 01 00 " END, REFUSED(18, 6), "0200: 00 21", .before = "0200: 00 21"},
+
     {"form 2", MOVE(2, 8192, 128, 8192, 128), P1, REFUSED(2, 0)},
     {"old main base 65,536", MOVE(1, 65536, 128, 8192, 128), P1, REFUSED(2, 0)},
     {"old zero-page base 256", MOVE(1, 8192, 256, 8192, 128), P1, REFUSED(2, 0)},
@@ -42,6 +57,8 @@ static const struct directed cases[] = {
     {"zero page fits at the old only", MOVE(1, 8192, 254, 8192, 255), "0A 04 00 00 77 78 " END, REFUSED_AT_NEW(10, 0)},
     {"onto an absolute piece", MOVE(1, 8192, 128, 0x3000, 128), "01 03 01 30 77 " PLAIN_4, REFUSED_AT_NEW(17, 5)},
     {"off an absolute piece", MOVE(1, 0x3000, 128, 8192, 128), "01 03 01 30 77 " PLAIN_4, REFUSED(17, 5)},
+    {"onto a vector", MOVE(1, 8192, 128, 0x01FD, 128), VECTOR PLAIN_4, REFUSED_AT_NEW(17, 9), "0200: 00 21", .before = "0200: 00 21"},
+    {"up to a vector", MOVE(1, 8192, 128, 0x01FC, 128), VECTOR PLAIN_4, LOADED(6, 1), "01FC: 11 22 33 44 FC 02", .before = "0200: 00 21; 2000: 11 22 33 44"},
     {"onto zero page", MOVE(1, 8192, 128, 125, 128), "0A 03 00 00 77 " PLAIN_4, REFUSED_AT_NEW(17, 5)},
     {"up to zero page", MOVE(1, 8192, 128, 124, 128), "0A 03 00 00 77 " PLAIN_4, LOADED(5, 0)},
     {"start too high at the new", MOVE(1, 8192, 128, 8193, 128), "00 02 00 00 0B 02 FF DF", REFUSED_AT_NEW(20, 4)},

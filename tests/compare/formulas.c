@@ -106,7 +106,8 @@ static void move_field(const struct made_field *field, struct base_pair old, str
         after[1] = (uint8_t)(contents / 256 % 256);
 }
 
-/* "Absolute pieces, vacated and all other bytes keep their contents." */
+/* "vacated and all other bytes keep their contents"; document 02, wish 2, of absolute pieces: "adjusts such fields in place and leaves the
+ * piece's other bytes" */
 void formulas_move(const struct made *made, struct base_pair old, struct base_pair new, uint8_t memory[ADDRESSES])
 {
     uint8_t before[ADDRESSES];

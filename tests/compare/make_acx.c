@@ -179,7 +179,7 @@ struct reach make_acx(const struct making *making)
     for (uint32_t i = 0; i < count; i++) {
         bool used[CODE_MOST + 1] = {false};
         put_code(making, &pieces[i]);
-        for (uint32_t fixups = pick(making, 4); fixups > 0 && (pieces[i].type != 0x01 || slip(making)); fixups--)
+        for (uint32_t fixups = pick(making, 4); fixups > 0; fixups--)
             put_fixup(making, &pieces[i], used);
         if (slip(making))
             put_byte(making, pick(making, 256));

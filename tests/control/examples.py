@@ -13,7 +13,7 @@ def the_examples_are_what_the_script_makes(desk):
     script = os.path.join(EXAMPLES, "make_examples.py")
     subprocess.run([sys.executable, "-B", script, desk.folder], check=True, timeout=60)
     made = desk.listing()
-    same(sorted(made), ["clock.acx", "jump.acx", "names.txt", "score.sdx", "twice.acx"], "files")
+    same(sorted(made), ["clock.acx", "jump.acx", "names.txt", "score.sdx", "signal.acx", "twice.acx"], "files")
     for name, content in made.items():
         same(open(os.path.join(EXAMPLES, name), "rb").read(), content, name)
     same(made["jump.acx"], P1, "jump.acx is P1")
@@ -56,6 +56,27 @@ def a_moved_clock_is_a_fresh_one_with_its_counters(desk):
 
 
 @test
+def a_vector_follows_its_handler(desk):
+    """From red to green while the signal lives, and then from place to place, in either direction, with a refused move in between."""
+    path = os.path.join(EXAMPLES, "signal.acx")
+    same(acx_types(open(path, "rb").read()), [0x00, 0x02, 0x08, 0x01, 0x06], "types")
+    desk.text(ACCEPTED, "acx", path, "--main", "8192", "--out", "image")
+    same(desk.get("image")[0x200:0x202], b"\x00\x20", "the vector as loaded")
+    desk.put("image", with_bytes(desk.get("image"), (0x200, b"\x08\x20")))
+    places = [0x2000, 0x30F5, 0x30FF, 0xFF00, 0x0300]
+    for main, to_main in zip(places, places[1:]):
+        words = ("move", path, "--memory", "image", "--from-main", str(main), "--out", "moved")
+        # onto its own vector
+        desk.text(REFUSED, *words, "--to-main", str(0x1E0))
+        same(desk.get("moved") == desk.get("image"), True, "the image after a refused move")
+        desk.text(ACCEPTED, *words, "--to-main", str(to_main))
+        desk.text(ACCEPTED, "acx", path, "--memory", "image", "--out", "fresh", "--main", str(to_main))
+        fresh = with_bytes(desk.get("fresh"), (0x200, (to_main + 8).to_bytes(2, "little")))
+        same(desk.get("moved") == fresh, True, f"the image after the move to {to_main}")
+        os.replace(desk.path("moved"), desk.path("image"))
+
+
+@test
 def the_score_program_uses_what_sdx_has(desk):
     path, names = os.path.join(EXAMPLES, "score.sdx"), os.path.join(EXAMPLES, "names.txt")
     same(desk.answer(REFUSED, "sdx", path)["number"], 14, "without its names")
@@ -73,7 +94,7 @@ def the_score_program_uses_what_sdx_has(desk):
 
 @test
 def every_cut_of_an_example_is_refused(desk):
-    for command, name, more in (("acx", "clock.acx", ()), ("move", "clock.acx", ("--to-main", "9000")),
+    for command, name, more in (("acx", "clock.acx", ()), ("acx", "signal.acx", ()), ("move", "clock.acx", ("--to-main", "9000")),
                                 ("sdx", "score.sdx", ("--names", os.path.join(EXAMPLES, "names.txt")))):
         file = open(os.path.join(EXAMPLES, name), "rb").read()
         desk.put("before", PATTERN)
@@ -106,20 +127,24 @@ def the_demo_passes(desk):
     more = dict(os.environ, TMPDIR=desk.folder)
     done = subprocess.run([demo, PROGRAM], capture_output=True, timeout=60, env=more)
     same((done.returncode, done.stderr), (0, b""), "exit status and errors")
-    for text in (b"accepted", b"refused with 13", b"[06]", b"SCOREADD"):
+    for text in (b"accepted", b"fd30", b"refused with 13", b"[06]", b"SCOREADD"):
         holds(text in done.stdout, f"{text} is not shown")
     same(desk.listing(), {}, "files left by the demo")
 
 
 @test
 def the_demo_fails_with_a_wrong_program(desk):
-    """One that does nothing, one that loads where it should move, one that accepts what it should refuse: each is found by what it did."""
+    """One that does nothing, one that loads where it should move, one that leaves the vector as it was, one that accepts what it should refuse:
+    each is found by what it did."""
     demo = os.path.join(EXAMPLES, "demo")
     wrong = {
         "nothing": ("exit 0", "the lap counter is '', should be '0000'"),
         "reload": ('[ "$1" = move ] || exec "$program" "$@"\n'
                    'words=${*:2}; words=${words/--from-main 0x2000/}\nwords=${words/--to-main/--main}; words=${words/--to-zero/--zero}\n'
                    'exec "$program" acx $words', "the lap counter after the move is '0000', should be '0900'"),
+        "leave": ('"$program" "$@" || exit $?\n[ "$1 $2" != "move signal.acx" ] || '
+                  'dd if=lights.img of=followed.img bs=1 skip=512 seek=512 count=2 conv=notrunc status=none',
+                  "the vector after the move is '0820', should be 'fd30'"),
         "accept": ('"$program" "$@" || exit 0', "exit status 0, should be 1"),
     }
     for name, (body, said) in wrong.items():

@@ -129,6 +129,28 @@ def the_warning_goes_by_most_of_the_code(desk):
 
 
 @test
+def a_move_given_twice_warns_where_a_vector_tells(desk):
+    """The copy that is left at the old bases looks like a handler, but its vector has gone on."""
+    desk.put("f", bytes.fromhex("00 03 00 00 60 01 04 00 02 00 00 06 01 00 0B 00 00 00"))
+    move = ("move", "f", "--form", "device", "--memory", "image", "--out", "image", "--from-main")
+    twice = "f: warning: the handler seems to have been moved already: %s address bytes at fixed places are those of the new bases\n"
+    # moved by a page; by more, the vector as loaded; and the vector turned to the byte after, so that its high byte alone tells
+    for to_main, live, first, told, second in (("8448", "00 20", "00 21", "1 of 1", "00 22"), ("$30F5", "00 20", "F5 30", "2 of 2", "EA 41"),
+                                               ("$30F5", "01 20", "F6 30", "1 of 2", "EB 41")):
+        desk.text(ACCEPTED, "acx", "f", "--form", "device", "--main", "8192", "--fresh", "--out", "image")
+        desk.put("image", with_bytes(desk.get("image"), (0x200, bytes.fromhex(live))))
+        desk.text(ACCEPTED, *move, "8192", "--to-main", to_main)
+        same(desk.get("image")[0x200:0x202], bytes.fromhex(first), "the vector after a move")
+        desk.text(ACCEPTED, *move, "8192", "--to-main", to_main, warning=twice % told)
+        same(desk.get("image")[0x200:0x202], bytes.fromhex(second), "the vector after the same move again, as the rules say")
+    # a vector that was turned is no cause, and neither is a move to where the handler is
+    desk.text(ACCEPTED, "acx", "f", "--form", "device", "--main", "8192", "--fresh", "--out", "image")
+    desk.put("image", with_bytes(desk.get("image"), (0x200, b"\x34\x12")))
+    desk.text(ACCEPTED, *move, "8192", "--to-main", "8192")
+    desk.text(ACCEPTED, *move, "8192", "--to-main", "$3000")
+
+
+@test
 def a_refusal_writes_the_image_as_it_was(desk):
     desk.put("f", P10)
     desk.put("before", PATTERN)

@@ -130,14 +130,15 @@ static uint32_t code_record(struct reading *reading, uint32_t type)
     return 0;
 }
 
-/* "the last code record before it of the right kind (18): 02, 04, 06, 08 after 00; 03, 05, 07, 09 after 0A; none after 01 or before any
- * code record" */
+/* "the last code record before it of the right kind (18): 02, 04, 06, 08 after 00; 03, 05, 07, 09 after 0A; none ... before any code
+ * record". Document 02, wish 2: "Kinds 02, 04, 06 and 08 are to be accepted after type 01. ... Refusal 18 stays for the other kinds." */
 static bool suits(const struct handler *handler, uint32_t type)
 {
     if (handler->piece_count == 0)
         return false;
     switch (handler->pieces[handler->piece_count - 1].type) {
     case CODE_MAIN:
+    case CODE_ABSOLUTE:
         return type == 0x02 || type == 0x04 || type == 0x06 || type == 0x08;
     case CODE_ZERO:
         return type == 0x03 || type == 0x05 || type == 0x07 || type == 0x09;

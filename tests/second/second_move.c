@@ -19,7 +19,8 @@ static struct outcome judge(uint32_t form, const uint8_t *file, size_t file_leng
 }
 
 /* "Otherwise each byte of a relocatable piece goes, all at once, from old place to new. Fields are adjusted from current contents: the old
- * amount off, the new amount on, by the formulas above. Absolute pieces, vacated and all other bytes keep their contents." */
+ * amount off, the new amount on, by the formulas above. ... vacated and all other bytes keep their contents." Document 02, wish 2, of absolute
+ * pieces: "The mover then adjusts such fields in place and leaves the piece's other bytes." */
 static void move_handler(const struct handler *handler, struct bases old, struct bases new, uint8_t *memory)
 {
     uint8_t before[MEMORY_LENGTH];

@@ -13,7 +13,7 @@ use Rattle.events.specs.Events.{Event, place, marks, blank, Ran, passed}
 use Rattle.events.specs.Walk.{ends, leads, bytesLeft}
 use Rattle.events.specs.declared.Check.{Check}
 use Rattle.events.specs.declared.Check.the-variants.{Passed, Failed}
-use Rattle.records.proofs.Reading.{Moving, lies-as, fixups-after}
+use Rattle.records.proofs.Reading.{AfterCode, lies-as, fixups-after}
 use Rattle.fields.specs.Fields.{fieldsOf}
 use Rattle.fields.specs.declared.Field.{Field}
 use Rattle.fields.specs.declared.Fixup.{Fixup}
@@ -177,7 +177,7 @@ events-fields b fs p ps =
     ∙ sym (append-assoc (events b ps) (place (placeOf b p) (p .code) ∷ adjustments b (placeOf b p) (p .fields)) (adjustments b (placeOf b p) fs))
 
 -- fixups stand after a piece
-pub fields-events : (b : Bases) (fs : List Field) (ps : List Piece) → Moving (lastOf ps)
+pub fields-events : (b : Bases) (fs : List Field) (ps : List Piece) → AfterCode (lastOf ps)
     → events b (withFields fs ps) ≡ events b ps ++ adjustments b (lastPlace b ps) fs
 fields-events b fs [] m = absurd m
 fields-events b fs (p ∷ ps) m = events-fields b fs p ps

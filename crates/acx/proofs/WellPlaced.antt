@@ -11,7 +11,7 @@ use Rattle.events.proofs.Lists.{each-map, each-append, pairwise-append}
 use Rattle.events.specs.Events.{marks, blank}
 use Rattle.events.specs.Lists.{Each}
 use Rattle.events.specs.declared.Check.the-variants.{Passed}
-use Rattle.records.proofs.Reading.{Moving, lies-as, fixups-after}
+use Rattle.records.proofs.Reading.{AfterCode, lies-as, fixups-after}
 use Rattle.fields.specs.Fields.{fieldsOf}
 use Rattle.fields.specs.declared.Field.{Field}
 use Rattle.records.specs.declared.Kind.{Kind}
@@ -63,7 +63,7 @@ module _ (file : List ℕ) (b : Bases) where
       }
 
   -- fields more: each lay in the last code and met none before it
-  well-placed-fields : (fs : List Field) (ps : List Piece) → WellPlaced file b ps → Moving (lastOf ps)
+  well-placed-fields : (fs : List Field) (ps : List Piece) → WellPlaced file b ps → AfterCode (lastOf ps)
       → adjusting b (lastPlace b ps) (lastSize ps) fs (marks (events b ps) blank) .answer ≡ Passed → WellPlaced file b (withFields fs ps)
   well-placed-fields fs [] h m c = absurd m
   well-placed-fields fs (p ∷ ps) h m c =

@@ -12,7 +12,7 @@ use Rattle.acx.proofs.Demand2.{well-placed-of}
 use Rattle.acx.proofs.Rules.{load-judged, by-rules}
 use Rattle.acx.proofs.WellPlaced.{fits-memory, placed-well}
 use Rattle.pieces.proofs.Loads.{laid, play-laid}
-use Rattle.acx.proofs.Same.{Bare, bare, same-pieces}
+use Rattle.acx.proofs.Same.{same-pieces}
 use Rattle.acx.specs.Call.{formOf, load, memoryAfter as playedBy, mapAfter as loadedMap}
 use Rattle.acx.specs.Demand2.{WellPlaced}
 use Rattle.pieces.specs.Pieces.{Piece, events}
@@ -72,10 +72,6 @@ module _ (file : List ℕ) (form : ℕ) (ps : List Piece) (b : Bases) (h : Accep
   -- its code is bytes where the file is
   pub code-bytes : Bytes file → Each (λ p. Bytes (p .code)) ps
   code-bytes y = each-map (λ p x. rw (x .2) (bytes-part file (x .0) _ y)) ps (well-placed-at .from-file)
-
-  -- no piece at a fixed address has fields
-  pub bare-at : Each (λ p. Bare (p .kind) (p .fields)) ps
-  bare-at = bare (formOf form) file b ps (h .0) verdict
 
   -- its events are those of the pieces
   pub events-at : load form b file .events ≡ events b ps

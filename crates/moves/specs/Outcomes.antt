@@ -4,7 +4,7 @@
 use mathlib.Core.Bool.{true, false}
 use mathlib.Core.List.{List}
 use mathlib.Core.Path.{_≡_}
-use Prim.Native.Nat.{ℕ}
+use Prim.Native.Nat.{ℕ, _+_}
 use lib.Dec.{leb}
 use lib.ListN.{length, getD}
 use Rattle.acx.specs.Call.{inRange, Loaded}
@@ -18,21 +18,23 @@ use Rattle.answer.specs.declared.Start.{Start}
 use Rattle.events.specs.Events.{blank}
 use Rattle.events.specs.Lists.{Each}
 use Rattle.events.specs.Sizes.{fileLimit}
-use Rattle.pieces.specs.Pieces.{Piece, size}
+use Rattle.pieces.specs.Pieces.{Piece, size, placeOf, width}
 use Rattle.pieces.specs.Places.{Placed}
+use Rattle.pieces.specs.declared.Bases.{Bases}
 use Rattle.records.specs.declared.Kind.{Kind}
 use Rattle.records.specs.declared.Kind.the-variants.{Main, ZeroPage, Absolute}
-use Rattle.words.specs.Runs.{Bytes}
+use Rattle.words.specs.Runs.{Bytes, Within}
 use Rattle.moves.specs.Call.{Call, sized, Moved}
 use Rattle.moves.specs.Demand3.{Memory, AcceptedAt, PlainKept, FieldsShifted}
 
 -- ---- accepted
 
--- code that a move takes to other addresses
-abbrev pub Relocatable : Kind → Type 0
-Relocatable Main = Unit {0}
-Relocatable ZeroPage = Unit {0}
-Relocatable Absolute = ⊥
+-- As far as a piece goes, a move leaves the byte at an address: the address is no new place of a relocatable piece, and in no field of an
+-- absolute one.
+abbrev pub Unaffected : Kind → Bases → ℕ → Piece → Type 0
+Unaffected Main new x p = ¬ Placed new x p
+Unaffected ZeroPage new x p = ¬ Placed new x p
+Unaffected Absolute new x p = Each (λ f. ¬ Within (placeOf new p + f .index) (width f) x) (p .fields)
 
 -- A call that was accepted with the outcome r: it found memory m, and left m′, the map p′ and the scratch s′.
 pub record AcceptedMove (file : List ℕ) (c : Call) (m : List ℕ) (r : Outcome) (m′ p′ s′ : List ℕ) : Type 0 where
@@ -47,8 +49,9 @@ pub record AcceptedMove (file : List ℕ) (c : Call) (m : List ℕ) (r : Outcome
   pub plain : PlainKept (c .old) (c .new) pieces m m′
   -- "Fields are adjusted from current contents: the old amount off, the new amount on, by the formulas above."
   pub fields : FieldsShifted (c .old) (c .new) pieces m m′
-  -- "Absolute pieces, vacated and all other bytes keep their contents."
-  pub kept : (x : ℕ) → Each (λ p. Relocatable (p .kind) → ¬ Placed (c .new) x p) pieces → getD m′ x 0 ≡ getD m x 0
+  -- ".. vacated and all other bytes keep their contents."; of absolute pieces document 02, wish 2: "The mover then adjusts such fields in place and
+  -- leaves the piece's other bytes."
+  pub kept : (x : ℕ) → Each (λ p. Unaffected (p .kind) (c .new) x p) pieces → getD m′ x 0 ≡ getD m x 0
   -- "The answer and map are those of a load at the new bases": of any call of the loader there that is lent buffers of the right lengths
   pub as-load : (k q : List ℕ) (t : Outcome) (k′ q′ : List ℕ) → Loaded (c .form) (c .new) file true k q t k′ q′ → (r ≡ t) × (p′ ≡ q′)
   -- "all zero after it unless refused with 1"

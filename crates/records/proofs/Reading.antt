@@ -83,19 +83,17 @@ lies-as file at last r e =
     let h : Lies (length file) at r = rw (← e) (read-lies file at last) in
     h .lies
 
--- ---- a fixup record stands only after relocatable code
+-- ---- a fixup record stands only after code
 
--- the last code record is one that moves with a base
-abbrev pub Moving : Last → Type 0
-Moving Nothing = ⊥
-Moving (Of Main) = Unit {0}
-Moving (Of ZeroPage) = Unit {0}
-Moving (Of Absolute) = ⊥
+-- there is a code record before
+abbrev pub AfterCode : Last → Type 0
+AfterCode Nothing = ⊥
+AfterCode (Of kind) = Unit {0}
 
 -- what a record asks of the last code record before it: a fixup record alone asks for anything
 abbrev After : Last → Record → Type 0
 After last (Code kind address from size) = Unit {0}
-After last (Fixups fixup from size) = Moving last
+After last (Fixups fixup from size) = AfterCode last
 After last (End entry next) = Unit {0}
 After last (Faulty fault) = Unit {0}
 
@@ -107,17 +105,12 @@ record Follows (last : Last) (r : Record) : Type 0 where
 free : (last : Last) (f : Fault) → Follows last (Faulty f)
 free last f = record { follows = tt }
 
--- what suits some kind moves
-suits-moving : (kind : Kind) (last : Last) → suits kind last ≡ true → Moving last
-suits-moving Main Nothing e = false≢true e
-suits-moving Main (Of Main) e = tt
-suits-moving Main (Of ZeroPage) e = tt
-suits-moving Main (Of Absolute) e = false≢true e
-suits-moving ZeroPage Nothing e = false≢true e
-suits-moving ZeroPage (Of Main) e = tt
-suits-moving ZeroPage (Of ZeroPage) e = tt
-suits-moving ZeroPage (Of Absolute) e = false≢true e
-suits-moving Absolute last e = absurd (false≢true e)
+-- before any code record no kind suits
+suits-after : (kind : Kind) (last : Last) → suits kind last ≡ true → AfterCode last
+suits-after Main Nothing e = false≢true e
+suits-after ZeroPage Nothing e = false≢true e
+suits-after Absolute Nothing e = false≢true e
+suits-after kind (Of before) e = tt
 
 -- a code record asks for nothing before it
 code-follows : (file : List ℕ) (at : ℕ) (last : Last) (kind : Kind) → Follows last (readCode file at kind)
@@ -126,7 +119,7 @@ code-follows file at last kind =
     let P = Follows last in
     on-need Faulty P (free _) _ _ _ (λ _. on-need Faulty P (free _) _ _ _ (λ _. on-need Faulty P (free _) _ _ _ (λ _. record { follows = tt })))
 
--- a fixup record asks for code that moves
+-- a fixup record asks for code
 fixups-follow : (file : List ℕ) (at : ℕ) (last : Last) (kind : Kind) (fixup : Fixup) → Follows last (readFixups file at last kind fixup)
 unfolding readFixups readItems
 fixups-follow file at last kind fixup =
@@ -135,7 +128,7 @@ fixups-follow file at last kind fixup =
     (λ _. on-need Faulty P (free _) _ _ _
     (λ h. on-need Faulty P (free _) _ _ _
     (λ _. on-need Faulty P (free _) _ _ _
-    (λ _. record { follows = suits-moving kind last h }))))
+    (λ _. record { follows = suits-after kind last h }))))
 
 -- the end record asks for nothing
 end-follows : (file : List ℕ) (at : ℕ) (last : Last) → Follows last (readEnd file at)
@@ -155,8 +148,9 @@ read-follows file at last = on-need Faulty (Follows last) (free _) _ _ _ (λ _. 
     typed end = end-follows file at last
     typed unknown = free _ _
 
--- where a fixup record is read, the last code record moves with a base
-pub fixups-after : (file : List ℕ) (at : ℕ) (last : Last) (fixup : Fixup) (from size : ℕ) → read file at last ≡ Fixups fixup from size → Moving last
+-- where a fixup record is read, there is a code record before
+pub fixups-after : (file : List ℕ) (at : ℕ) (last : Last) (fixup : Fixup) (from size : ℕ) → read file at last ≡ Fixups fixup from size
+    → AfterCode last
 fixups-after file at last fixup from size e =
     let h : Follows last (Fixups fixup from size) = rw (← e) (read-follows file at last) in
     h .follows

@@ -27,7 +27,7 @@ pub data RecordType : Type 0 where
   end : RecordType
   unknown : RecordType
 
--- the types 00 to 0B. "02, 04, 06, 08 after 00; 03, 05, 07, 09 after 0A"
+-- the types 00 to 0B. A fixup's kind of code is that of "02, 04, 06, 08 after 00; 03, 05, 07, 09 after 0A"; `suits` has all that it may follow.
 abbrev pub types : List RecordType
 types =
     code Main
@@ -53,12 +53,13 @@ readCode file at kind =
     (need Faulty (leb (at + 2 + n) (length file)) CutShort
     (Code kind (value 2 file (at + 2)) (at + 4) (n - 2))))
 
--- "the last code record before it of the right kind (18) ..; none after 01 or before any code record"
+-- "the last code record before it of the right kind (18) ..; none .. before any code record". Where document 01 has none after 01 either, document 02,
+-- wish 2: "Kinds 02, 04, 06 and 08 are to be accepted after type 01. .. Refusal 18 stays for the other kinds."
 abbrev pub suits : Kind → Last → Bool
 suits Main Nothing = false
 suits Main (Of Main) = true
 suits Main (Of ZeroPage) = false
-suits Main (Of Absolute) = false
+suits Main (Of Absolute) = true
 suits ZeroPage Nothing = false
 suits ZeroPage (Of Main) = false
 suits ZeroPage (Of ZeroPage) = true

@@ -111,7 +111,7 @@ fn read_fixups(file: &[u8], at: usize, last: Last, kind: Kind, fixup: Fixup) -> 
     read_items(file, at, fixup)
 }
 
-// Whether a fixup record for code of a kind may follow the last code record.
+// Whether a fixup record for code of a kind may follow the last code record. Those for main code serve absolute code too.
 fn suits(kind: Kind, last: Last) -> bool
     ensures { λ r. ⌜ r ≡ suitsOf kind last ⌝ }
 {
@@ -121,7 +121,7 @@ fn suits(kind: Kind, last: Last) -> bool
             Kind::Main => match before {
                 Kind::Main => true,
                 Kind::ZeroPage => false,
-                Kind::Absolute => false,
+                Kind::Absolute => true,
             },
             Kind::ZeroPage => match before {
                 Kind::Main => false,

@@ -26,7 +26,7 @@ use Rattle.answer.specs.declared.Start.{Start}
 use Rattle.events.proofs.Events.{length-marks, length-blank}
 use Rattle.events.specs.Events.{marks, blank, Ran}
 use Rattle.events.specs.Lists.{Each}
-use Rattle.records.proofs.Reading.{Moving, lies-as, fixups-after}
+use Rattle.records.proofs.Reading.{AfterCode, lies-as, fixups-after}
 use Rattle.records.proofs.Record.{the-type}
 use Rattle.fields.specs.Fields.{fieldsOf}
 use Rattle.records.specs.Records.{read}
@@ -88,7 +88,7 @@ code-gathered old new m t₀ t ps kind address code n l e =
     ∙ ap (λ (r : List ℕ). put r (placeAt new kind address) (part m (placeAt old kind address) (length code))) e
 
 -- fields more
-fields-gathered : (old new : Bases) (m t₀ : List ℕ) (fs : List Field) (ps : List Piece) (t : List ℕ) → Moving (lastOf ps)
+fields-gathered : (old new : Bases) (m t₀ : List ℕ) (fs : List Field) (ps : List Piece) (t : List ℕ) → AfterCode (lastOf ps)
     → lastPlace old ps + lastSize ps ≤ length m
     → lastPlace new ps + lastSize ps ≤ length t
     → t ≡ transfer old new ps m t₀
