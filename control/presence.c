@@ -70,7 +70,7 @@ void warn_if_absent(const struct options *options, const struct presence *presen
     if (2 * zero_page->differing > zero_page->bytes)
         warn(shown_name(options->file), 0, "the handler's zero-page part does not seem to be at $%02X: %zu of %zu code bytes differ there",
              options->from_zero.value, zero_page->differing, zero_page->bytes);
-    if (fixed->bytes > 0 && 2 * fixed->differing <= fixed->bytes)
+    if (has_copy(presence) && fixed->bytes > 0 && 2 * fixed->differing <= fixed->bytes)
         warn(shown_name(options->file), 0, "the handler seems to have been moved already: %zu of %zu address bytes at fixed places are those "
              "of the new bases", fixed->bytes - fixed->differing, fixed->bytes);
 }

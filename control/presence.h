@@ -23,7 +23,7 @@ struct presence {
 bool find_handler(const struct options *options, const struct buffers *buffers, struct presence *presence);
 
 /* Warns where the handler does not seem to be: most of the bytes differ. And where it seems to have been moved before, since a vector at a
- * fixed address would then be adjusted twice: half of these bytes or more are those of the new bases. */
+ * fixed address would then be adjusted twice: there is a copy at the new bases, and half of these bytes or more are as there. */
 void warn_if_absent(const struct options *options, const struct presence *presence);
 
 /* Whether a copy of the handler seems to have been at the new bases: most of the bytes are there. */

@@ -268,7 +268,7 @@ def files_for_every_refusal():
         15: (["sdx"], block + new_name * 33, 10 + 32 * len(new_name)),
         16: (["sdx"], block + bytes.fromhex("FC FF 01 02 10") + b"NEWNAMES", 10),
         17: (["acx", *device], bytes.fromhex("01 03 00 20 00 01 03 00 20 00"), 5),
-        18: (["acx", *device], bytes.fromhex("01 03 00 20 00 06 01 00"), 5),
+        18: (["acx", *device], bytes.fromhex("01 03 00 20 00 07 01 00"), 5),
         19: (["acx", *device], bytes.fromhex("0B 00 00 00 00"), 0),
         20: (["acx", *device], bytes.fromhex("0B 02 00 FF"), 0),
     }

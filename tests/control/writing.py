@@ -143,11 +143,14 @@ def a_move_given_twice_warns_where_a_vector_tells(desk):
         same(desk.get("image")[0x200:0x202], bytes.fromhex(first), "the vector after a move")
         desk.text(ACCEPTED, *move, "8192", "--to-main", to_main, warning=twice % told)
         same(desk.get("image")[0x200:0x202], bytes.fromhex(second), "the vector after the same move again, as the rules say")
-    # a vector that was turned is no cause, and neither is a move to where the handler is
-    desk.text(ACCEPTED, "acx", "f", "--form", "device", "--main", "8192", "--fresh", "--out", "image")
-    desk.put("image", with_bytes(desk.get("image"), (0x200, b"\x34\x12")))
-    desk.text(ACCEPTED, *move, "8192", "--to-main", "8192")
-    desk.text(ACCEPTED, *move, "8192", "--to-main", "$3000")
+    # a vector that was turned is no cause, though it be to where a load at the new bases would have it; nor is a move to where the handler is
+    for live, to_main in (("34 12", "$3000"), ("00 30", "$3000"), ("34 12", "8192"), ("00 20", "8192")):
+        desk.text(ACCEPTED, "acx", "f", "--form", "device", "--main", "8192", "--fresh", "--out", "image")
+        desk.put("image", with_bytes(desk.get("image"), (0x200, bytes.fromhex(live))))
+        desk.text(ACCEPTED, *move, "8192", "--to-main", to_main)
+    # nor is one that goes on, or back to where a copy was left
+    for from_main, to_main in ((8192, 0x30F5), (0x30F5, 0x30F6), (0x30F6, 8192), (8192, 0x30F5), (0x30F5, 0x4000)):
+        desk.text(ACCEPTED, *move, str(from_main), "--to-main", str(to_main))
 
 
 @test

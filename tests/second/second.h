@@ -1,4 +1,4 @@
-/* The second implementation: the five calls of include/tekoweapa.h once more, written in C from document 01 alone. It shares no code with
+/* The second implementation: the five calls of include/tekoweapa.h once more, written in C from documents 01 and 02 alone. It shares no code with
  * the product, and is kept plain rather than fast, to be read beside the document. compare.c runs both and compares them. */
 #ifndef SECOND_H
 #define SECOND_H

@@ -29,8 +29,7 @@ use Rattle.moves.specs.Demand3.{Memory, AcceptedAt, PlainKept, FieldsShi
 
 -- ---- accepted
 
--- As far as a piece goes, a move leaves the byte at an address: the address is no new place of a relocatable piece, and in no field of an
--- absolute one.
+-- a move has no cause in a piece to change the byte at x: x is no new place of the piece, if that is relocatable, and in no field of it, if absolute
 abbrev pub Unaffected : Kind → Bases → ℕ → Piece → Type 0
 Unaffected Main new x p = ¬ Placed new x p
 Unaffected ZeroPage new x p = ¬ Placed new x p
