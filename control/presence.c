@@ -31,13 +31,13 @@ static void compare(const struct load *load, size_t address, const uint8_t *imag
     }
 }
 
-/* Compares a byte of a vector, which has one address at all bases, if it tells at which of them the handler is. */
-static void compare_fixed(const struct load *old, const struct load *new, size_t address, const uint8_t *image, struct likeness *likeness)
+/* Compares an address byte, if there is one that tells at which of the bases the handler is. */
+static void compare_field(const struct load *old, const struct load *new, size_t address, const uint8_t *image, struct presence *presence)
 {
-    bool fixed = old->map[address] == TKW_ADJUSTED && new->map[address] == TKW_ADJUSTED;
-    if (fixed && old->memory[address] != new->memory[address]) {
-        likeness->bytes++;
-        likeness->differing += new->memory[address] != image[address];
+    bool both = old->map[address] == TKW_ADJUSTED && new->map[address] == TKW_ADJUSTED;
+    if (both && old->memory[address] != new->memory[address]) {
+        presence->fields_of_old += old->memory[address] == image[address];
+        presence->fields_of_new += new->memory[address] == image[address];
     }
 }
 
@@ -53,7 +53,7 @@ bool find_handler(const struct options *options, const struct buffers *buffers, 
         compare(&loads[OLD], address, buffers->memory, address < 256 ? &presence->zero_page : &presence->main);
         if (loads[OLD].map[address] == TKW_UNTOUCHED)
             compare(&loads[NEW], address, buffers->memory, &presence->at_new);
-        compare_fixed(&loads[OLD], &loads[NEW], address, buffers->memory, &presence->fixed);
+        compare_field(&loads[OLD], &loads[NEW], address, buffers->memory, presence);
     }
     free(loads);
     return true;
@@ -63,16 +63,15 @@ void warn_if_absent(const struct options *options, const struct presence *presen
 {
     const struct likeness *main = &presence->main;
     const struct likeness *zero_page = &presence->zero_page;
-    const struct likeness *fixed = &presence->fixed;
     if (2 * main->differing > main->bytes)
         warn(shown_name(options->file), 0, "the handler does not seem to be at $%04X: %zu of %zu code bytes differ there",
              options->from_main.value, main->differing, main->bytes);
     if (2 * zero_page->differing > zero_page->bytes)
         warn(shown_name(options->file), 0, "the handler's zero-page part does not seem to be at $%02X: %zu of %zu code bytes differ there",
              options->from_zero.value, zero_page->differing, zero_page->bytes);
-    if (has_copy(presence) && fixed->bytes > 0 && 2 * fixed->differing <= fixed->bytes)
-        warn(shown_name(options->file), 0, "the handler seems to have been moved already: %zu of %zu address bytes at fixed places are those "
-             "of the new bases", fixed->bytes - fixed->differing, fixed->bytes);
+    if (has_copy(presence) && presence->fields_of_new > presence->fields_of_old)
+        warn(shown_name(options->file), 0, "the handler seems to have been moved already (address bytes as at the new bases: %zu; as at the "
+             "old: %zu)", presence->fields_of_new, presence->fields_of_old);
 }
 
 bool has_copy(const struct presence *presence)

@@ -174,8 +174,8 @@ uint32_t tkw_acx_load_default(uint32_t form, const uint8_t *file, size_t file_le
                               uint8_t *answer, size_t answer_length);
 
 /* Moves an ACX handler that lives in memory at the old bases to the new ones: its bytes as they are now, its address fields adjusted from
- * their current contents. A piece at a fixed address stays, and its fields are adjusted there. Refused as a load at the old bases would be (side 0), then as one at the new (side 1). Answer and map are those of
- * a load at the new bases. */
+ * their current contents. A piece at a fixed address stays, and its fields are adjusted there. Refused as a load at the old bases would be
+ * (side 0), then as one at the new (side 1). Answer and map are those of a load at the new bases. */
 uint32_t tkw_acx_move(uint32_t form, const uint8_t *file, size_t file_length, uint32_t old_main, uint32_t old_zero,
                       uint32_t new_main, uint32_t new_zero,
                       uint8_t *memory, size_t memory_length, uint8_t *map, size_t map_length,

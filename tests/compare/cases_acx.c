@@ -158,26 +158,33 @@ static void fixups_after_codes(struct driver *driver)
         }
 }
 
-/* Lengths 0, 1, 2, 253, 254 and 255 of every fixup kind, with all the bytes there. Bytes are listed at 0, 1, 2 and so on, words at 0, 2,
- * 4 and so on, of 253 code bytes: of 127 words the last lies half outside. */
+/* A fixup record of this length after code of this type, with all the bytes there. Bytes are listed at 0, 1, 2 and so on, words at 0, 2, 4
+ * and so on, of 253 code bytes: of 127 words the last lies half outside. */
+static void fixup_length(struct driver *driver, const char *code, uint32_t type, uint32_t length)
+{
+    bool word = type == 6 || type == 7, pairs = type == 8 || type == 9;
+    bool allowed = pairs ? length % 2 == 0 && length <= 254 : length >= 1 && length <= 253;
+    uint32_t number = !allowed ? 9 : word && length == 253 ? 12 : 0;
+    char name[64], file[2048];
+    snprintf(name, sizeof name, "fixup %02X of length %u after %s code", type, length, code);
+    int at = snprintf(file, sizeof file, "%s FF 00 00 5A*253 %02X %02X ", code, type, length);
+    for (uint32_t j = 0; j < length; j++)
+        at += snprintf(file + at, sizeof file - (size_t)at, "%02X ", (word ? 2 * j : pairs ? j / 2 : j) % 256);
+    snprintf(file + at, sizeof file - (size_t)at, END);
+    struct directed yes = {name, ACX_AT(1, 8192, 3), file, LOADED(253, pairs ? length / 2 : length)};
+    struct directed no = {name, ACX_AT(1, 8192, 3), file, REFUSED(number, 257)};
+    run_directed(driver, number == 0 ? &yes : &no);
+}
+
+/* Lengths 0, 1, 2, 253, 254 and 255 of every fixup kind, after all code that it suits. */
 static void fixup_lengths(struct driver *driver)
 {
     static const uint32_t lengths[] = {0, 1, 2, 253, 254, 255};
     for (uint32_t type = 2; type <= 9; type++)
         for (size_t i = 0; i < sizeof lengths / sizeof lengths[0]; i++) {
-            uint32_t length = lengths[i];
-            bool word = type == 6 || type == 7, pairs = type == 8 || type == 9;
-            bool allowed = pairs ? length % 2 == 0 && length <= 254 : length >= 1 && length <= 253;
-            uint32_t number = !allowed ? 9 : word && length == 253 ? 12 : 0;
-            char name[64], file[2048];
-            snprintf(name, sizeof name, "fixup %02X of length %u", type, length);
-            int at = snprintf(file, sizeof file, "%s FF 00 00 5A*253 %02X %02X ", type % 2 == 0 ? "00" : "0A", type, length);
-            for (uint32_t j = 0; j < length; j++)
-                at += snprintf(file + at, sizeof file - (size_t)at, "%02X ", (word ? 2 * j : pairs ? j / 2 : j) % 256);
-            snprintf(file + at, sizeof file - (size_t)at, END);
-            struct directed yes = {name, ACX_AT(1, 8192, 3), file, LOADED(253, pairs ? length / 2 : length)};
-            struct directed no = {name, ACX_AT(1, 8192, 3), file, REFUSED(number, 257)};
-            run_directed(driver, number == 0 ? &yes : &no);
+            fixup_length(driver, type % 2 == 0 ? "00" : "0A", type, lengths[i]);
+            if (type % 2 == 0)
+                fixup_length(driver, "01", type, lengths[i]);
         }
 }
 

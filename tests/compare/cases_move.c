@@ -6,8 +6,8 @@
 #define END "0B 00 00 00"
 /* Four bytes, none of them a field. */
 #define PLAIN_4 "00 06 00 00 01 02 03 04 " END
-/* A main piece, an absolute one and one in zero page, each with what fields it can have. */
-#define MIXED "00 06 00 00 01 02 03 04 02 01 00 04 01 01 08 02 02 80 01 04 00 30 05 06 0A 04 10 00 07 08 07 01 00 " END
+/* A main piece, an absolute one and one in zero page, each with fields. */
+#define MIXED "00 06 00 00 01 02 03 04 02 01 00 04 01 01 08 02 02 80 01 04 00 30 05 06 06 01 00 0A 04 10 00 07 08 07 01 00 " END
 
 /* A jump vector in page 2; and two bytes more about it. */
 #define VECTOR "01 04 00 02 00 00 06 01 00 "
@@ -24,7 +24,7 @@ static const struct directed cases[] = {
     {"a live word", MOVE(1, 8192, 128, 12416, 128), P1, STARTED(12416, 3, 1), "3080: EA 81 46", .before = "2000: EA 01 36"},
     {"a word below its base", MOVE(1, 8192, 128, 0, 128), P1, STARTED(0, 3, 1), "0000: 4C 00 F0", .before = "2000: 4C 00 10"},
     {"pieces in another order than their places", MOVE(1, 8192, 128, 8194, 128), "00 04 02 00 03 04 00 04 00 00 01 02 " END, LOADED(4, 0), "2002: 11 22 33 44", .before = "2000: 11 22 33 44"},
-    {"pieces of each kind", MOVE(1, 0x20F0, 0x40, 0x4180, 0x44), MIXED, LOADED(8, 4), "4180: 91 24 54 44; 3000: 55 66; 0054: 07 29; 20F0: 01 20 33 44; 0050: 77 08", "3000: 01 01 00; 0050: 00*4 03 03 00", .before = "20F0: 01 20 33 44; 3000: 55 66; 0050: 77 08"},
+    {"pieces of each kind", MOVE(1, 0x20F0, 0x40, 0x4180, 0x44), MIXED, LOADED(8, 5), "4180: 91 24 54 44; 3000: E5 86; 0054: 07 29; 20F0: 01 20 33 44; 0050: 77 08", "3000: 03 03 00; 0050: 00*4 03 03 00", .before = "20F0: 01 20 33 44; 3000: 55 66; 0050: 77 08"},
     {"zero page alone moves", MOVE(1, 8192, 0, 8192, 255), "0A 03 00 00 77 05 01 00 " END, LOADED(1, 1), "00FF: 0F", .before = "0000: 10"},
     {"high byte up to the next page", MOVE(1, 0x2000, 0, 0x2001, 0), "00 03 00 00 77 08 02 00 FF " END, LOADED(1, 1), "2001: 21", .before = "2000: 20"},
     {"high byte within its page", MOVE(1, 0x2001, 0, 0x20FF, 0), "00 03 00 00 77 08 02 00 FF " END, LOADED(1, 1), "20FF: 21", .before = "2001: 21"},

@@ -1,4 +1,4 @@
-/* Document 01's formulas for an ACX handler, written from its sentences alone: neither the product nor the second implementation is used,
+/* Document 01's formulas for an ACX handler, with wish 2 of document 02, written from their sentences alone: neither the product nor the second implementation is used,
  * and no file is read. What they are applied to is what make_acx put into the file. */
 #ifndef FORMULAS_H
 #define FORMULAS_H

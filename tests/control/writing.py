@@ -133,10 +133,10 @@ def a_move_given_twice_warns_where_a_vector_tells(desk):
     """The copy that is left at the old bases looks like a handler, but its vector has gone on."""
     desk.put("f", bytes.fromhex("00 03 00 00 60 01 04 00 02 00 00 06 01 00 0B 00 00 00"))
     move = ("move", "f", "--form", "device", "--memory", "image", "--out", "image", "--from-main")
-    twice = "f: warning: the handler seems to have been moved already: %s address bytes at fixed places are those of the new bases\n"
+    twice = "f: warning: the handler seems to have been moved already (address bytes as at the new bases: %d; as at the old: 0)\n"
     # moved by a page; by more, the vector as loaded; and the vector turned to the byte after, so that its high byte alone tells
-    for to_main, live, first, told, second in (("8448", "00 20", "00 21", "1 of 1", "00 22"), ("$30F5", "00 20", "F5 30", "2 of 2", "EA 41"),
-                                               ("$30F5", "01 20", "F6 30", "1 of 2", "EB 41")):
+    for to_main, live, first, told, second in (("8448", "00 20", "00 21", 1, "00 22"), ("$30F5", "00 20", "F5 30", 2, "EA 41"),
+                                               ("$30F5", "01 20", "F6 30", 1, "EB 41")):
         desk.text(ACCEPTED, "acx", "f", "--form", "device", "--main", "8192", "--fresh", "--out", "image")
         desk.put("image", with_bytes(desk.get("image"), (0x200, bytes.fromhex(live))))
         desk.text(ACCEPTED, *move, "8192", "--to-main", to_main)
@@ -148,9 +148,24 @@ def a_move_given_twice_warns_where_a_vector_tells(desk):
         desk.text(ACCEPTED, "acx", "f", "--form", "device", "--main", "8192", "--fresh", "--out", "image")
         desk.put("image", with_bytes(desk.get("image"), (0x200, bytes.fromhex(live))))
         desk.text(ACCEPTED, *move, "8192", "--to-main", to_main)
-    # nor is one that goes on, or back to where a copy was left
+    # nor is one that goes on, or back to where a copy was left, with a vector whose low byte was turned to that of the copy
     for from_main, to_main in ((8192, 0x30F5), (0x30F5, 0x30F6), (0x30F6, 8192), (8192, 0x30F5), (0x30F5, 0x4000)):
         desk.text(ACCEPTED, *move, str(from_main), "--to-main", str(to_main))
+        desk.put("image", with_bytes(desk.get("image"), (0x200, b"\x00"), (0x201, bytes([to_main >> 8]))))
+
+
+@test
+def a_move_given_twice_warns_where_its_places_overlap(desk):
+    """The clock has no vector, but moved by 32 bytes it has address fields where others were; and most of its code is no longer at the old bases."""
+    clock = f"{EXAMPLES}/clock.acx"
+    desk.text(ACCEPTED, "acx", clock, "--main", "$2000", "--out", "image")
+    move = ("move", clock, "--memory", "image", "--out", "image", "--from-main", "$2000", "--to-main", "$2020")
+    desk.text(ACCEPTED, *move)
+    again = desk.run(*move)
+    same((again.returncode, again.stderr.count(b": warning: ")), (ACCEPTED, 2), "exit status and warnings")
+    for warning in (b"does not seem to be at $2000: 47 of 71 code bytes differ there\n",
+                    b"seems to have been moved already (address bytes as at the new bases: 7; as at the old: 0)\n"):
+        holds(warning in again.stderr, f"{warning} is not among {again.stderr}")
 
 
 @test

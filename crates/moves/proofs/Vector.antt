@@ -121,7 +121,7 @@ beside-kept m b start i j k l m′ p′ s′ w =
     let e : x .pieces ≡ pieces = same-at hooked 1 (x .pieces) pieces (at 8192) (at 8192) (x .at-old) (accepted-at hooked pieces 8192 (loads .0)) in
     x .kept 0x0202 (rw e (((λ w. omega arith), tt), ((λ w. omega arith), tt)))
 
--- a vector that was changed while it lives, from 2000 to 2100, follows the routine to 2200, where a load would leave 2100
+-- a vector that was changed from 2000 to 2100 while it lives goes on to 2200 when the routine goes from 2000 to 2100; a load there would leave 2100
 pub follows : memoryAfter hooked (asks 1 8192 8448 blank true) (put blank 0x0200 (0x00 ∷ 0x21 ∷ 0x09 ∷ [])) ≡ put blank 0x0200 (0x00 ∷ 0x22 ∷ 0x09 ∷ [])
 unfolding hooked number digits value store on off change part put allZero contains fieldsOf need readCode readItems readFixups readEnd read marks blank amountOf edited adjustments events placing adjusting ending applied checked turn recordsFrom walk from opening judged load carried transfer moved ruling memoryAfter
 follows = refl

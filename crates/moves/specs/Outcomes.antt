@@ -29,7 +29,7 @@ use Rattle.moves.specs.Demand3.{Memory, AcceptedAt, PlainKept, FieldsShi
 
 -- ---- accepted
 
--- a move has no cause in a piece to change the byte at x: x is no new place of the piece, if that is relocatable, and in no field of it, if absolute
+-- as far as piece p goes, a move leaves the byte at x: x is no new place of p, if p is relocatable, and in no field of p, if p is absolute
 abbrev pub Unaffected : Kind → Bases → ℕ → Piece → Type 0
 Unaffected Main new x p = ¬ Placed new x p
 Unaffected ZeroPage new x p = ¬ Placed new x p
@@ -48,8 +48,8 @@ pub record AcceptedMove (file : List ℕ) (c : Call) (m : List ℕ) (r : Outcome
   pub plain : PlainKept (c .old) (c .new) pieces m m′
   -- "Fields are adjusted from current contents: the old amount off, the new amount on, by the formulas above."
   pub fields : FieldsShifted (c .old) (c .new) pieces m m′
-  -- ".. vacated and all other bytes keep their contents."; of absolute pieces document 02, wish 2: "The mover then adjusts such fields in place and
-  -- leaves the piece's other bytes."
+  -- Every byte that is in no new place of a relocatable piece and in no field of an absolute one stays: "vacated and all other bytes keep their
+  -- contents", and of absolute pieces document 02, wish 2: "The mover then adjusts such fields in place and leaves the piece's other bytes."
   pub kept : (x : ℕ) → Each (λ p. Unaffected (p .kind) (c .new) x p) pieces → getD m′ x 0 ≡ getD m x 0
   -- "The answer and map are those of a load at the new bases": of any call of the loader there that is lent buffers of the right lengths
   pub as-load : (k q : List ℕ) (t : Outcome) (k′ q′ : List ℕ) → Loaded (c .form) (c .new) file true k q t k′ q′ → (r ≡ t) × (p′ ≡ q′)

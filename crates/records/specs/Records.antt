@@ -27,7 +27,8 @@ pub data RecordType : Type 0 where
   end : RecordType
   unknown : RecordType
 
--- the types 00 to 0B. A fixup's kind of code is that of "02, 04, 06, 08 after 00; 03, 05, 07, 09 after 0A"; `suits` has all that it may follow.
+-- the types 00 to 0B. A fixup type has the relocatable code that it is for, "02, 04, 06, 08 after 00; 03, 05, 07, 09 after 0A"; `suits` says what it
+-- may follow.
 abbrev pub types : List RecordType
 types =
     code Main
