@@ -40,11 +40,11 @@ form-device (suc n) h = refl
 
 module _ (form : Form) (file : List ℕ) (b : Bases) (write : Bool) (m : List ℕ) (c : Check) (o : c ≡ opening form file) where
   -- a wrong opening is the refusal
-  pub file-refused : (fault : Fault) (r : Outcome) (p′ : List ℕ) → c ≡ Failed fault → r ≡ Refused fault 0 0 → p′ ≡ blank
+  pub file-refused : (fault : Fault) (offset : ℕ) (r : Outcome) (p′ : List ℕ) → c ≡ Failed fault offset → r ≡ Refused fault offset 0 → p′ ≡ blank
       → Did Outcome (reported (judged form file b)) write m blank r m p′
   unfolding judged
-  file-refused fault r p′ e er ep =
-      let f : opening form file ≡ Failed fault = sym o ∙ e in
+  file-refused fault offset r p′ e er ep =
+      let f : opening form file ≡ Failed fault offset = sym o ∙ e in
       rw (f, er, ep) (did-none _ write m blank)
 
   -- behind a right one the records decide
@@ -100,7 +100,7 @@ load-admitted form b file ps start e = by (inRange form b) (leb (length file) 65
     o = judged (formOf form) file b
 
     by : (c d : Bool) → inRange form b ≡ c → leb (length file) 65536 ≡ d
-        → need atOnce c SettingOutOfRange (need atOnce d FileTooLong o) .answer ≡ accepted ps start
+        → need atOnce c SettingOutOfRange 0 (need atOnce d FileTooLong 0 o) .answer ≡ accepted ps start
         → Admitted form b file
     by true true h k e = record { range = h; fits = leb-true _ _ k; by-rules = rw (h, k) refl }
     by true false h k e = absurd (refused-accepted e)
@@ -125,17 +125,17 @@ pub record Few (n : ℕ) (o : Ran Verdict) : Type 0 where
   pub placed : placedOf (reported o .answer) ≤ n
   pub adjusted : adjustedOf (reported o .answer) ≤ n
 
-few-need : (n : ℕ) (c : Bool) (fault : Fault) (o : Ran Verdict) → Few n o → Few n (need atOnce c fault o)
+few-need : (n : ℕ) (c : Bool) (fault : Fault) (offset : ℕ) (o : Ran Verdict) → Few n o → Few n (need atOnce c fault offset o)
 unfolding need
-few-need n true fault o h = h
-few-need n false fault o h = record { placed = omega arith; adjusted = omega arith }
+few-need n true fault offset o h = h
+few-need n false fault offset o h = record { placed = omega arith; adjusted = omega arith }
 
 -- of a load
 pub load-few : (form : ℕ) (b : Bases) (file : List ℕ) → Few (length file) (load form b file)
 unfolding load
 load-few form b file =
     let k = judged-counts (formOf form) file b in
-    few-need _ _ _ _ (few-need _ _ _ _ (record { placed = k .0; adjusted = k .1 }))
+    few-need _ _ _ _ _ (few-need _ _ _ _ _ (record { placed = k .0; adjusted = k .1 }))
 
 -- ---- a call with the right buffers: first checked, then carried out
 

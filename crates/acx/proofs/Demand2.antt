@@ -109,10 +109,10 @@ load-reports form b file ps start h =
     ∙ ap (λ (n : ℕ). Accepted start (total size ps) n 0 0) (adjusted-total b ps)
 
 -- an outcome that is accepted held its check
-need-held : (c : Bool) (fault : Fault) (o : Ran Verdict) → isRefused (reported (need atOnce c fault o) .answer) ≡ false → c ≡ true
+need-held : (c : Bool) (fault : Fault) (offset : ℕ) (o : Ran Verdict) → isRefused (reported (need atOnce c fault offset o) .answer) ≡ false → c ≡ true
 unfolding need
-need-held true fault o e = refl
-need-held false fault o e = absurd (false≢true (sym e))
+need-held true fault offset o e = refl
+need-held false fault offset o e = absurd (false≢true (sym e))
 
 -- what the right lengths are
 pub right-lengths : (x : Bool) (m p : List ℕ) → x && sized m p ≡ true → (x ≡ true) × (length m ≡ 65536) × (length p ≡ 65536)
@@ -126,7 +126,7 @@ module _ (form : ℕ) (b : Bases) (file : List ℕ) (x : Bool) (m p : List ℕ) 
   -- an acceptance had buffers of the right lengths
   held : isRefused r ≡ false → x && sized m p ≡ true
   unfolding call
-  held e = need-held (x && sized m p) WrongBuffer (load form b file) (ap isRefused (sym (d .outcome)) ∙ e)
+  held e = need-held (x && sized m p) WrongBuffer 0 (load form b file) (ap isRefused (sym (d .outcome)) ∙ e)
 
   -- an acceptance leaves what demand 2 says
   call-demand2 : (start : Start) (placed adjusted names low : ℕ) → r ≡ Accepted start placed adjusted names low

@@ -1,84 +1,114 @@
--- No file is refused with 1, 2 or 3: these are left to lengths and settings. So each has its one cause.
+-- What a file is refused with: not 1, 2 or 3, which are left to lengths and settings, so that each has its one cause; and at an offset of the file.
 -- Assumes nothing.
-use mathlib.Core.Bool.{Bool, true, false, false≢true}
+use mathlib.Core.Bool.{Bool, true, false≢true}
 use mathlib.Core.List.{List}
 use mathlib.Core.Path.{_≡_, refl, sym, ap, _∙_}
-use Prim.Native.Nat.{ℕ}
+use Prim.Native.Nat.{ℕ, _≤_}
+use native.Mathlib.Omega.{arith}
 use lib.Dec.{leb}
 use lib.ListN.{length}
 use Rattle.answer.proofs.Causes.{causes-of}
-use Rattle.answer.proofs.Faults.{isEarly, Late, earlyOutcome}
+use Rattle.answer.proofs.Checks.{on-need}
+use Rattle.answer.proofs.Faults.{OfFile, ByFile, offset-within}
 use Rattle.answer.specs.Causes.{Causes}
 use Rattle.answer.specs.Checks.{need}
+use Rattle.answer.specs.Report.{offsetOf}
 use Rattle.answer.specs.declared.Fault.{Fault}
 use Rattle.answer.specs.declared.Fault.the-variants.{WrongBuffer}
 use Rattle.answer.specs.declared.Outcome.the-variants.{Refused}
-use Rattle.events.proofs.Faults.{earlyCheck, earlyRan, earlyTurn, late-ran, late-answer, late-runs}
-use Rattle.events.specs.Events.{Event, Ran}
+use Rattle.events.proofs.Faults.{CheckFaults, Checks, Ending, from-ends}
+use Rattle.events.specs.Events.{Event, blank, Ran}
 use Rattle.events.specs.declared.Check.{Check}
 use Rattle.events.specs.declared.Check.the-variants.{Passed, Failed}
-use Rattle.pieces.proofs.Faults.{earlyRecord, read-late, applied-late}
+use Rattle.pieces.proofs.Faults.{applied-faults}
 use Rattle.pieces.specs.declared.Bases.{Bases}
+use Rattle.records.proofs.Reading.{Where, lies-as}
 use Rattle.records.specs.declared.Record.{Record}
 use Rattle.records.specs.declared.Record.the-variants.{Code, Fixups, End, Faulty}
 use Rattle.events.specs.Sizes.{fileLimit}
 use Rattle.acx.specs.Call.{formOf, inRange, load, call}
-use Rattle.acx.specs.Walk.{Verdict, accepted, refused, Progress, lastOf, recordAt, checked, judge, turn, recordsFrom, recordsOf, opening, opened, judged, report, reported}
+use Rattle.acx.specs.Walk.{Verdict, accepted, refused, atOnce, Progress, lastOf, lastPlace, lastSize, recordAt, checked, judge, turn, recordsFrom, recordsOf, opening, opened, judged, report, reported}
 use Rattle.acx.specs.declared.Form.{Form}
 use Rattle.acx.specs.declared.Form.the-variants.{Disk, Device}
 
--- whether a verdict is a refusal with 1, 2 or 3
-abbrev earlyVerdict : Verdict → Bool
-earlyVerdict (accepted ps start) = false
-earlyVerdict (refused fault at) = isEarly fault
+-- a verdict is no refusal, or one that the file decides
+abbrev VerdictFaults : ℕ → Verdict → Type 0
+VerdictFaults len (accepted ps start) = Unit {0}
+VerdictFaults len (refused fault offset) = OfFile len fault offset
+
+-- (the same as a record)
+record Verdicts (len : ℕ) (v : Verdict) : Type 0 where
+  faults : VerdictFaults len v
 
 -- where a record leads
-judge-late : (file : List ℕ) (b : Bases) (s : Progress) (c : Check) (r : Record) → Late earlyCheck c → Late earlyRecord r
-    → Late (earlyTurn earlyVerdict) (judge file b s c r)
-judge-late file b s (Failed fault) r k l = search late-runs
-judge-late file b s Passed (Code kind address from n) k l = search late-runs
-judge-late file b s Passed (Fixups fixup from n) k l = search late-runs
-judge-late file b s Passed (End entry next) k l = search late-runs
-judge-late file b s Passed (Faulty fault) k l = search late-runs
+judge-faults : (len : ℕ) (file : List ℕ) (b : Bases) (s : Progress) (c : Check) (r : Record) → CheckFaults len c → Where len (s .at) r
+    → Ending (Verdicts len) (judge file b s c r)
+judge-faults len file b s (Failed fault offset) r k l = record { faults = k }
+judge-faults len file b s Passed (Code kind address from n) k l = tt
+judge-faults len file b s Passed (Fixups fixup from n) k l = tt
+judge-faults len file b s Passed (End entry next) k l = record { faults = tt }
+judge-faults len file b s Passed (Faulty fault offset) k l = record { faults = l }
 
 -- so every turn of a file, and all its records
-turn-late : (file : List ℕ) (b : Bases) (s : Progress) (map : List ℕ) → Late (earlyRan (earlyTurn earlyVerdict)) (turn file b s map)
+turn-faults : (file : List ℕ) (b : Bases) (s : Progress) (map : List ℕ) → Ending (Verdicts (length file)) (turn file b s map .answer)
 unfolding turn checked
-turn-late file b s map =
-    let r = read-late file (s .at) (lastOf (s .pieces)) in
-    late-ran _ _ _ (judge-late file b s _ _ (late-answer _ _ (applied-late file b _ _ (recordAt file s) map r)) r)
+turn-faults file b s map =
+    let r = recordAt file s in
+    let w = lies-as file (s .at) (lastOf (s .pieces)) r refl in
+    let k = applied-faults file (s .at) b (lastPlace b (s .pieces)) (lastSize (s .pieces)) r map w in
+    judge-faults (length file) file b s (checked file b s map .answer) r (k .faults) w
 
-records-late : (file : List ℕ) (b : Bases) (at : ℕ) → Late (earlyRan earlyVerdict) (recordsOf file b at)
+records-faults : (file : List ℕ) (b : Bases) (at : ℕ) → Verdicts (length file) (recordsOf file b at .answer)
 unfolding recordsFrom
-records-late file b at = search (late-runs, turn-late)
+records-faults file b at =
+    from-ends (Verdicts (length file)) (turn file b) _ (λ s. record { faults = record { late = refl; within = omega arith } }) (turn-faults file b) _ _ blank
 
 -- the opening
-opening-late : (form : Form) (file : List ℕ) → Late earlyCheck (opening form file)
+pub opening-faults : (form : Form) (file : List ℕ) → Checks (length file) (opening form file)
 unfolding opening
-opening-late Disk file = search late-runs
-opening-late Device file = search late-runs
+opening-faults Disk file =
+    on-need Failed (Checks (length file)) _ _ _ _ (record { faults = record { late = refl; within = omega arith } })
+    (λ _. on-need Failed (Checks (length file)) _ _ _ _ (record { faults = record { late = refl; within = omega arith } })
+    (λ _. record { faults = tt }))
+opening-faults Device file = record { faults = tt }
 
-opened-late : (c : Check) (rest : Ran Verdict) → Late earlyCheck c → Late (earlyRan earlyVerdict) rest
-    → Late (earlyRan earlyVerdict) (opened c rest)
-opened-late Passed rest h i = i
-opened-late (Failed fault) rest h i = search late-runs
+opened-faults : (len : ℕ) (c : Check) (rest : Ran Verdict) → CheckFaults len c → Verdicts len (rest .answer) → Verdicts len (opened c rest .answer)
+opened-faults len Passed rest h i = i
+opened-faults len (Failed fault offset) rest h i = record { faults = h }
 
 -- the whole file
-judged-late : (form : Form) (file : List ℕ) (b : Bases) → Late (earlyRan earlyVerdict) (judged form file b)
+judged-faults : (form : Form) (file : List ℕ) (b : Bases) → Verdicts (length file) (judged form file b .answer)
 unfolding judged
-judged-late form file b = search (late-runs, opened-late, opening-late, records-late)
+judged-faults form file b = opened-faults _ (opening form file) _ (opening-faults form file .faults) (records-faults file b _)
 
-report-late : (v : Verdict) (es : List Event) → Late earlyVerdict v → Late earlyOutcome (report v es)
-report-late (accepted ps start) es h = search late-runs
-report-late (refused fault at) es h = search late-runs
+report-faults : {len : ℕ} (v : Verdict) (es : List Event) → Verdicts len v → ByFile len (report v es)
+report-faults (accepted ps start) es h = record { decided = tt }
+report-faults (refused fault offset) es h = record { decided = h .faults }
+
+-- the offset of what is reported is no larger
+abbrev OffsetFits : ℕ → Ran Verdict → Type 0
+OffsetFits len o = offsetOf (reported o .answer) ≤ len
+
+-- so the offset of every call is in the file, or its length
+pub call-offset : (form : ℕ) (b : Bases) (file : List ℕ) (right : Bool) → offsetOf (reported (call form b file right) .answer) ≤ length file
+unfolding call load
+call-offset form b file right =
+    on-need atOnce (OffsetFits (length file)) _ _ _ _ (omega arith)
+    (λ _. on-need atOnce (OffsetFits (length file)) _ _ _ _ (omega arith)
+    (λ _. on-need atOnce (OffsetFits (length file)) _ _ _ _ (omega arith)
+    (λ _. offset-within _ (report-faults _ (judged (formOf form) file b .events) (judged-faults (formOf form) file b)))))
+
+pub load-offset : (form : ℕ) (b : Bases) (file : List ℕ) → offsetOf (reported (load form b file) .answer) ≤ length file
+unfolding call need
+load-offset form b file = call-offset form b file true
 
 -- why a call is refused with 1, 2 or 3
 pub call-causes : (form : ℕ) (b : Bases) (file : List ℕ) (right : Bool)
     → Causes right (inRange form b) (leb (length file) fileLimit) (reported (call form b file right) .answer)
 unfolding call load need
 call-causes form b file right =
-    causes-of right (inRange form b) (leb (length file) fileLimit) (λ h. rw h refl) (λ h i. rw (h, i) refl) (λ h i j. rw (h, i, j) refl)
-    (λ h i j. rw (h, i, j) (report-late _ _ (late-answer _ _ (judged-late (formOf form) file b))))
+    causes-of (length file) right (inRange form b) (leb (length file) fileLimit) (λ h. rw h refl) (λ h i. rw (h, i) refl) (λ h i j. rw (h, i, j) refl)
+    (λ h i j. rw (h, i, j) (report-faults _ _ (judged-faults (formOf form) file b)))
 
 -- so a load with the right buffers is refused with 2 or 3 exactly for its cause
 pub load-causes : (form : ℕ) (b : Bases) (file : List ℕ)

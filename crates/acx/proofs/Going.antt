@@ -2,7 +2,7 @@
 -- Assumes nothing.
 use mathlib.Core.Bool.{Bool}
 use mathlib.Core.List.{List, [], _∷_, _++_, append-nil}
-use mathlib.Core.Path.{_≡_, refl, sym, ap, _∙_, subst}
+use mathlib.Core.Path.{_≡_, refl, sym, ap, _∙_}
 use Prim.Native.Nat.{ℕ, _+_, _≤_}
 use types.Run.{OneOf}
 use denote.Enum.Declared.{tagOf}
@@ -14,9 +14,11 @@ use Rattle.answer.specs.declared.Outcome.{Outcome}
 use Rattle.answer.specs.declared.Outcome.the-variants.{Accepted, Refused}
 use Rattle.events.proofs.Checks.{failed-passed, need-passed}
 use Rattle.events.proofs.Events.{reached-none, reached-more}
+use Rattle.events.proofs.Faults.{check-within}
 use Rattle.events.specs.Events.{Event, marks, blank, placedIn, adjustedIn, Ran, Reached, Did}
 use Rattle.events.specs.declared.Check.{Check}
 use Rattle.events.specs.declared.Check.the-variants.{Passed, Failed}
+use Rattle.records.proofs.Reading.{lies-as}
 use Rattle.records.proofs.Record.{the-type}
 use Rattle.records.specs.Records.{read}
 use Rattle.records.specs.declared.Entry.{Entry}
@@ -24,6 +26,7 @@ use Rattle.records.specs.declared.Record.{Record}
 use Rattle.records.specs.declared.Record.the-variants.{End}
 use Rattle.acx.proofs.Cursors.{Tracks, tracks-first, tracks-found, tracks-ends, tracks-on, tracks-further, tracks-ends-by, onward-by-tag}
 use Rattle.acx.proofs.Turning.{turn-is, end-none, events-after}
+use Rattle.pieces.proofs.Faults.{applied-faults}
 use Rattle.pieces.specs.AtBases.{startOf, ending, applied, EndsBy}
 use Rattle.acx.specs.Rules.{Onward}
 use Rattle.acx.specs.Cursor.{firstCursor, advanced}
@@ -48,7 +51,7 @@ module _ {file : List ℕ} {b : Bases} {first : ℕ} {write : Bool} {m₀ : List
 
   module _ {c : Cursor} {m p : List ℕ} (x : Going file b first write m₀ c m p) where
     module _ {found : Record} {r : Check} {m′ p′ : List ℕ} (is : found ≡ read file (c .at) (c .last))
-        (d : Did Check (applied file b (c .place) (c .size) found p) write m p r m′ p′) where
+        (d : Did Check (applied file (c .at) b (c .place) (c .size) found p) write m p r m′ p′) where
       -- the definition's progress, its events and what they left in the map
       abbrev here : Progress
       here = x .progress
@@ -62,12 +65,12 @@ module _ {file : List ℕ} {b : Bases} {first : ℕ} {write : Bool} {m₀ : List
       found-is : recordAt file here ≡ found
       found-is = tracks-found (x .came) is
 
-      checked-is : checked file b here there ≡ applied file b (c .place) (c .size) found p
+      checked-is : checked file b here there ≡ applied file (c .at) b (c .place) (c .size) found p
       unfolding checked
       checked-is =
-          ap (λ (k : Cursor). applied file b (k .place) (k .size) (recordAt file here) there) (sym (x .came .here))
-          ∙ ap (λ (q : Record). applied file b (c .place) (c .size) q there) found-is
-          ∙ ap (λ (l : List ℕ). applied file b (c .place) (c .size) found l) (sym (x .reached .map))
+          ap (λ (k : Cursor). applied file (k .at) b (k .place) (k .size) (recordAt file here) there) (sym (x .came .here))
+          ∙ ap (λ (q : Record). applied file (c .at) b (c .place) (c .size) q there) found-is
+          ∙ ap (λ (l : List ℕ). applied file (c .at) b (c .place) (c .size) found l) (sym (x .reached .map))
 
       answer-is : checked file b here there .answer ≡ r
       answer-is = ap (λ (o : Ran Check). o .answer) checked-is ∙ sym (d .answer)
@@ -75,22 +78,25 @@ module _ {file : List ℕ} {b : Bases} {first : ℕ} {write : Bool} {m₀ : List
       now : Reached (before ++ checked file b here there .events) write m₀ blank m′ p′
       now = rw checked-is (reached-more before write m₀ blank m p m′ p′ _ r (x .reached) d)
 
-      -- a fault ends the walk there
-      pub going-fails : {fault : Fault} → r ≡ Failed fault
-          → Did Outcome (reported (recordsOf file b first)) write m₀ blank (Refused fault (c .at) 0) m′ p′
-      going-fails {fault} e =
-          let o = tracks-ends (x .came) _ (turn-is file b here there (Failed fault) _ (answer-is ∙ e) refl) in
-          subst (λ (a : ℕ). Did Outcome (reported (recordsOf file b first)) write m₀ blank (Refused fault a 0) m′ p′)
-          (sym (ap (λ (k : Cursor). k .at) (x .came .here)))
-          (rw o (record { answer = refl; reached = now }))
+      -- a fault ends the walk
+      pub going-fails : {fault : Fault} {offset : ℕ} {q : Outcome} → r ≡ Failed fault offset → q ≡ Refused fault offset 0
+          → Did Outcome (reported (recordsOf file b first)) write m₀ blank q m′ p′
+      going-fails {fault} {offset} e eq =
+          let o = tracks-ends (x .came) _ (turn-is file b here there (Failed fault offset) _ (answer-is ∙ e) refl) in
+          rw o (record { answer = eq; reached = now })
+
+      -- at an offset of the file
+      pub going-offset : {fault : Fault} {offset : ℕ} → r ≡ Failed fault offset → offset ≤ length file
+      going-offset e =
+          check-within (applied-faults file (c .at) b (c .place) (c .size) found p (lies-as file (c .at) (c .last) found (sym is))) (sym (d .answer) ∙ e)
 
       -- the start of an end record that passed is an address
       pub going-start : {entry : Entry} {next : ℕ} → r ≡ Passed → found ≡ End entry next → address (startOf b entry) ≤ 65535
       unfolding applied ending
       going-start {entry} {next} e f =
-          let a : applied file b (c .place) (c .size) (End entry next) p .answer ≡ Passed =
-          ap (λ (q : Record). applied file b (c .place) (c .size) q p .answer) (sym f) ∙ sym (d .answer) ∙ e in
-          leb-true _ _ (need-passed _ _ _ a .0)
+          let a : applied file (c .at) b (c .place) (c .size) (End entry next) p .answer ≡ Passed =
+          ap (λ (q : Record). applied file (c .at) b (c .place) (c .size) q p .answer) (sym f) ∙ sym (d .answer) ∙ e in
+          leb-true _ _ (need-passed _ _ _ _ a .0)
 
       -- such a record ends the walk with an acceptance
       pub going-ends : {entry : Entry} {next : ℕ} → r ≡ Passed → found ≡ End entry next
@@ -127,4 +133,4 @@ module _ {file : List ℕ} {b : Bases} {first : ℕ} {write : Bool} {m₀ : List
       unfolding applied
       going-onward e t =
           onward-by-tag found t
-          (λ fault f. failed-passed (sym (ap (λ (q : Record). applied file b (c .place) (c .size) q p .answer) f) ∙ sym (d .answer) ∙ e))
+          (λ fault offset f. failed-passed (sym (ap (λ (q : Record). applied file (c .at) b (c .place) (c .size) q p .answer) f) ∙ sym (d .answer) ∙ e))

@@ -16,7 +16,7 @@ use Rattle.events.specs.Events.{Event}
 use Rattle.events.specs.Sizes.{fileLimit}
 use Rattle.pieces.specs.declared.Bases.{Bases}
 use Rattle.acx.proofs.Calling.{refused-memory, refused-map, loaded-right}
-use Rattle.acx.proofs.Faults.{call-causes, load-causes, load-late}
+use Rattle.acx.proofs.Faults.{call-offset, call-causes, load-causes, load-late}
 use Rattle.acx.proofs.Rules.{by-rules}
 use Rattle.acx.specs.Call.{inRange, sized, load, call, Loaded}
 use Rattle.acx.specs.Refusals.{RefusedCall, Refusals, RefusalsClaim}
@@ -83,6 +83,7 @@ refusals form b file right m p r m′ p′ d =
           (by-rules form b file .refuses-only fault at (k .0), k .1);
       all = λ h fault at c. loaded-right h d .0
           ∙ ap (λ (v : Verdict). report v (load form b file .events)) (by-rules form b file .refuses fault at c);
+      offset-fits = rw (d .outcome) (call-offset form b file right);
       leaves = λ fault at side e. by fault at side e right refl;
     }
   where

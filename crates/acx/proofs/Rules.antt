@@ -61,7 +61,7 @@ module _ (file : List ℕ) (b : Bases) where
   records-traced : (at : ℕ) → EndsAt (turn file b) (Trace (NextRecord file b) (begun at)) blank (recordsOf file b at)
   unfolding recordsFrom
   records-traced at =
-      walk-traced (turn file b) (λ z. refused CutShort (z .at)) (λ z. bytesLeft file (z .at)) (turn-falls file b) blank (NextRecord file b) turn-step
+      walk-traced (turn file b) (λ z. refused CutShort (length file)) (λ z. bytesLeft file (z .at)) (turn-falls file b) blank (NextRecord file b) turn-step
       (begun at)
 
   trace-records : (at : ℕ) (s : Progress) (es : List Event) (v : Verdict) → Trace (NextRecord file b) (begun at) s es
@@ -70,7 +70,7 @@ module _ (file : List ℕ) (b : Bases) where
   unfolding recordsFrom
   trace-records at s es v t e =
       ap (λ (o : Ran Verdict). o .answer)
-      (trace-ends (turn file b) (λ z. refused CutShort (z .at)) (λ z. bytesLeft file (z .at)) (turn-falls file b) blank (NextRecord file b) step-turn
+      (trace-ends (turn file b) (λ z. refused CutShort (length file)) (λ z. bytesLeft file (z .at)) (turn-falls file b) blank (NextRecord file b) step-turn
       t v e)
 
 -- ---- the file
@@ -102,42 +102,38 @@ module _ (form : Form) (file : List ℕ) (b : Bases) where
 
   -- a turn refuses a file where its record does not pass
   turn-failed : (s : Progress) (es : List Event) (fault : Fault) (at : ℕ) → turn file b s (marks es blank) .answer ≡ ends (refused fault at)
-      → (checked file b s (marks es blank) .answer ≡ Failed fault) × (s .at ≡ at)
+      → checked file b s (marks es blank) .answer ≡ Failed fault at
   unfolding checked applied
   turn-failed s es fault at e =
       by (checked file b s (marks es blank) .answer) (recordAt file s) refl refl (sym (turn-is file b s (marks es blank) _ _ refl refl) ∙ e)
     where
       by : (c : Check) (r : Record) → checked file b s (marks es blank) .answer ≡ c → recordAt file s ≡ r → judge file b s c r ≡ ends (refused fault at)
-          → (checked file b s (marks es blank) .answer ≡ Failed fault) × (s .at ≡ at)
-      by (Failed f) r c i e =
-          let v : refused f (s .at) ≡ refused fault at = ends-same e in
-          let k : f ≡ fault = cc in
-          (c ∙ ap Failed k, cc)
+          → checked file b s (marks es blank) .answer ≡ Failed fault at
+      by (Failed f i) r c j e =
+          let v : refused f i ≡ refused fault at = ends-same e in
+          let w : Failed f i ≡ Failed fault at = cc in
+          c ∙ w
       by Passed (Code kind address from n) c i e = absurd (ends-leads (sym e))
       by Passed (Fixups fixup from n) c i e = absurd (ends-leads (sym e))
       by Passed (End entry next) c i e = absurd (refused-accepted (sym (ends-same e)))
-      by Passed (Faulty f) c i e = absurd (failed-passed (rw i at c))
+      by Passed (Faulty f offset) c i e = absurd (failed-passed (rw i at c))
 
   pub failed : (fault : Fault) (at : ℕ) → judged form file b .answer ≡ refused fault at → Fails form file b fault at
   unfolding judged
   failed fault at e = by (opening form file) refl e
     where
       by : (c : Check) → opening form file ≡ c → opened c (recordsOf file b (openingSize form)) .answer ≡ refused fault at → Fails form file b fault at
-      by (Failed f) o e =
-          let k : f ≡ fault = cc in
-          let l : 0 ≡ at = cc in
-          subst (Fails form file b fault) l (in-opening (o ∙ ap Failed k))
+      by (Failed f i) o e = let w : Failed f i ≡ Failed fault at = cc in in-opening (o ∙ w)
       by Passed o e =
           let x = records-traced file b (openingSize form) in
-          let t = turn-failed (x .state) (x .before) fault at (x .answer ∙ ap ends e) in
-          subst (Fails form file b fault) (t .1) (in-record o (x .held) (t .0))
+          in-record o (x .held) (turn-failed (x .state) (x .before) fault at (x .answer ∙ ap ends e))
 
   pub fails-judged : (fault : Fault) (at : ℕ) → Fails form file b fault at → judged form file b .answer ≡ refused fault at
   unfolding judged
   fails-judged fault at (in-opening o) = ap (λ (c : Check). opened c (recordsOf file b (openingSize form)) .answer) o
   fails-judged fault at (in-record {s = s} {es = es} o t c) =
       ap (λ (q : Ran Verdict). q .answer) (judged-records o)
-      ∙ trace-records file b (openingSize form) s es (refused fault (s .at)) t (turn-is file b s (marks es blank) (Failed fault) _ c refl)
+      ∙ trace-records file b (openingSize form) s es (refused fault at) t (turn-is file b s (marks es blank) (Failed fault at) _ c refl)
 
 -- ---- a load
 
@@ -165,7 +161,7 @@ module _ (form : ℕ) (b : Bases) (file : List ℕ) where
           subst (Refuses form b file fault) l (subst (λ (g : Fault). Refuses form b file g 0) k h)
 
       by : (c d : Bool) → inRange form b ≡ c → leb (length file) 65536 ≡ d
-          → need atOnce c SettingOutOfRange (need atOnce d FileTooLong (judged (formOf form) file b)) .answer ≡ refused fault at
+          → need atOnce c SettingOutOfRange 0 (need atOnce d FileTooLong 0 (judged (formOf form) file b)) .answer ≡ refused fault at
           → Refuses form b file fault at
       by true true h k e = by-file h (leb-true _ _ k) (failed (formOf form) file b fault at e)
       by true false h k e = at-once (too-long h (leb-false _ _ k)) e

@@ -14,7 +14,7 @@ use Rattle.events.specs.Walk.{ends, leads, bytesLeft}
 use Rattle.events.specs.declared.Check.{Check}
 use Rattle.events.specs.declared.Check.the-variants.{Passed, Failed}
 use Rattle.records.proofs.Reading.{AfterCode, lies-as, fixups-after}
-use Rattle.fields.specs.Fields.{fieldsOf}
+use Rattle.fields.specs.Fields.{itemSize, fieldsOf}
 use Rattle.fields.specs.declared.Field.{Field}
 use Rattle.fields.specs.declared.Fixup.{Fixup}
 use Rattle.records.specs.declared.Entry.{Entry}
@@ -49,7 +49,7 @@ pub further : (file : List ℕ) (s : Progress) (r : Record) → recordAt file s 
 further file s (Code kind address from n) e o = let w = lies-as file (s .at) (lastOf (s .pieces)) _ e in (omega (arith, w .0), w .1)
 further file s (Fixups fixup from n) e o = let w = lies-as file (s .at) (lastOf (s .pieces)) _ e in (omega (arith, w .0), w .1)
 further file s (End entry next) e o = absurd o
-further file s (Faulty fault) e o = absurd o
+further file s (Faulty fault offset) e o = absurd o
 
 -- a turn that leads on is a record that passed
 pub record Led (file : List ℕ) (b : Bases) (s : Progress) (map : List ℕ) (z : Progress) : Type 0 where
@@ -79,30 +79,30 @@ module _ (file : List ℕ) (b : Bases) (s : Progress) (map : List ℕ) where
       goes (Code kind address from n) o = refl
       goes (Fixups fixup from n) o = refl
       goes (End entry next) o = absurd o
-      goes (Faulty fault) o = absurd o
+      goes (Faulty fault offset) o = absurd o
 
   -- and nothing else does
   pub turn-led : (z : Progress) → turn file b s map .answer ≡ leads z → Led file b s map z
   turn-led z e = by (checked file b s map .answer) (recordAt file s) refl refl (sym (turn-is _ _ refl refl) ∙ e)
     where
       by : (c : Check) (r : Record) → checked file b s map .answer ≡ c → recordAt file s ≡ r → judge file b s c r ≡ leads z → Led file b s map z
-      by (Failed fault) r c i e = absurd (ends-leads e)
+      by (Failed fault offset) r c i e = absurd (ends-leads e)
       by Passed (Code kind address from n) c i e = record { found = _; is = i; on = tt; passed = c; to = leads-same e }
       by Passed (Fixups fixup from n) c i e = record { found = _; is = i; on = tt; passed = c; to = leads-same e }
       by Passed (End entry next) c i e = absurd (ends-leads e)
-      by Passed (Faulty fault) c i e = absurd (ends-leads e)
+      by Passed (Faulty fault offset) c i e = absurd (ends-leads e)
 
   -- the end record does nothing
   pub end-none : (entry : Entry) (next : ℕ) → recordAt file s ≡ End entry next → checked file b s map .events ≡ []
   unfolding checked applied
-  end-none entry next e = rw e (ending-none b entry next (length file))
+  end-none entry next e = rw e (ending-none (s .at + 2) b entry next (length file))
 
   -- and where it passes it ends the file
   end-ends : (entry : Entry) (next : ℕ) → recordAt file s ≡ End entry next → checked file b s map .answer ≡ Passed → next ≡ length file
   unfolding checked applied
   end-ends entry next e c =
       let w = lies-as file (s .at) (lastOf (s .pieces)) _ e in
-      omega (arith, w .1, ending-last b entry next (length file) (rw e at c))
+      omega (arith, w .1, ending-last (s .at + 2) b entry next (length file) (rw e at c))
 
 module _ (file : List ℕ) (b : Bases) (s : Progress) (es : List Event) where
   abbrev map : List ℕ
@@ -114,7 +114,7 @@ module _ (file : List ℕ) (b : Bases) (s : Progress) (es : List Event) where
     where
       by : (c : Check) (r : Record) → checked file b s map .answer ≡ c → recordAt file s ≡ r → judge file b s c r ≡ ends (accepted ps start)
           → EndRecord file b s es ps start
-      by (Failed fault) r c i e = absurd (refused-accepted (ends-same e))
+      by (Failed fault offset) r c i e = absurd (refused-accepted (ends-same e))
       by Passed (Code kind address from n) c i e = absurd (ends-leads (sym e))
       by Passed (Fixups fixup from n) c i e = absurd (ends-leads (sym e))
       by Passed (End entry next) c i e =
@@ -126,7 +126,7 @@ module _ (file : List ℕ) (b : Bases) (s : Progress) (es : List Event) where
             pieces = cc;
             start-is = cc;
           }
-      by Passed (Faulty fault) c i e = absurd (refused-accepted (ends-same e))
+      by Passed (Faulty fault offset) c i e = absurd (refused-accepted (ends-same e))
 
   -- and at every end record that passes and ends the file
   pub turn-accepts : (ps : List Piece) (start : Start) → EndRecord file b s es ps start → turn file b s map .answer ≡ ends (accepted ps start)
@@ -147,24 +147,24 @@ turn-falls file b s z map e =
 module _ (file : List ℕ) (b : Bases) (s : Progress) (map : List ℕ) where
   -- code found room and nothing placed there
   pub code-passed : (kind : Kind) (address from n : ℕ) → recordAt file s ≡ Code kind address from n → checked file b s map .answer ≡ Passed
-      → placing (placeAt b kind address) (limitOf kind) (part file from n) map .answer ≡ Passed
+      → placing (s .at + 2) (placeAt b kind address) (limitOf kind) (part file from n) map .answer ≡ Passed
   unfolding checked applied
   code-passed kind address from n e c = rw e at c
 
   code-events : (kind : Kind) (address from n : ℕ) → recordAt file s ≡ Code kind address from n
-      → checked file b s map .events ≡ placing (placeAt b kind address) (limitOf kind) (part file from n) map .events
+      → checked file b s map .events ≡ placing (s .at + 2) (placeAt b kind address) (limitOf kind) (part file from n) map .events
   unfolding checked applied
   code-events kind address from n e = rw e refl
 
   -- each field lay in the last code and met none before it
   pub fixups-passed : (fixup : Fixup) (from n : ℕ) → recordAt file s ≡ Fixups fixup from n → checked file b s map .answer ≡ Passed
-      → adjusting b (lastPlace b (s .pieces)) (lastSize (s .pieces)) (fieldsOf fixup (part file from n)) map .answer ≡ Passed
+      → adjusting from (itemSize fixup) b (lastPlace b (s .pieces)) (lastSize (s .pieces)) (fieldsOf fixup (part file from n)) map .answer ≡ Passed
   unfolding checked applied
   fixups-passed fixup from n e c = rw e at c
 
   fixups-events : (fixup : Fixup) (from n : ℕ) → recordAt file s ≡ Fixups fixup from n
       → checked file b s map .events
-      ≡ adjusting b (lastPlace b (s .pieces)) (lastSize (s .pieces)) (fieldsOf fixup (part file from n)) map .events
+      ≡ adjusting from (itemSize fixup) b (lastPlace b (s .pieces)) (lastSize (s .pieces)) (fieldsOf fixup (part file from n)) map .events
   unfolding checked applied
   fixups-events fixup from n e = rw e refl
 
@@ -190,10 +190,10 @@ events-after file b s map (Code kind address from n) e o c =
     let p : Piece = record { kind = kind; address = address; code = part file from n; fields = [] } in
     events-code b p (s .pieces) refl
     ∙ ap (λ (es : List Event). events b (s .pieces) ++ es)
-    (sym (code-events file b s map kind address from n e ∙ placing-passed _ _ _ _ (code-passed file b s map kind address from n e c) .2))
+    (sym (code-events file b s map kind address from n e ∙ placing-passed _ _ _ _ _ (code-passed file b s map kind address from n e c) .2))
 events-after file b s map (Fixups fixup from n) e o c =
     fields-events b (fieldsOf fixup (part file from n)) (s .pieces) (fixups-after file (s .at) (lastOf (s .pieces)) fixup from n e)
     ∙ ap (λ (es : List Event). events b (s .pieces) ++ es)
-    (sym (fixups-events file b s map fixup from n e ∙ adjusting-all b _ _ _ _ (fixups-passed file b s map fixup from n e c)))
+    (sym (fixups-events file b s map fixup from n e ∙ adjusting-all _ _ b _ _ _ _ (fixups-passed file b s map fixup from n e c)))
 events-after file b s map (End entry next) e o c = absurd o
-events-after file b s map (Faulty fault) e o c = absurd o
+events-after file b s map (Faulty fault offset) e o c = absurd o

@@ -12,7 +12,7 @@ use Rattle.events.specs.Events.{marks, blank}
 use Rattle.events.specs.Lists.{Each}
 use Rattle.events.specs.declared.Check.the-variants.{Passed}
 use Rattle.records.proofs.Reading.{AfterCode, lies-as, fixups-after}
-use Rattle.fields.specs.Fields.{fieldsOf}
+use Rattle.fields.specs.Fields.{itemSize, fieldsOf}
 use Rattle.fields.specs.declared.Field.{Field}
 use Rattle.records.specs.declared.Kind.{Kind}
 use Rattle.records.specs.declared.Record.{Record}
@@ -52,7 +52,7 @@ module _ (file : List ℕ) (b : Bases) where
       let p : Piece = record { kind = kind; address = address; code = part file from n; fields = [] } in
       let w = lies-as file (s .at) (lastOf ps) _ e in
       let l : length (part file from n) ≡ n = length-part file from n (w .1) in
-      let x = placing-passed _ _ _ _ (code-passed file b s _ kind address from n e c) in
+      let x = placing-passed _ _ _ _ _ (code-passed file b s _ kind address from n e c) in
       let some = marks-some b ps blank (h .inside) (fits-memory b (length blank) ps length-blank (h .fits)) (h .apart) in
       record {
         fits = (x .0, h .fits);
@@ -63,14 +63,14 @@ module _ (file : List ℕ) (b : Bases) where
       }
 
   -- fields more: each lay in the last code and met none before it
-  well-placed-fields : (fs : List Field) (ps : List Piece) → WellPlaced file b ps → AfterCode (lastOf ps)
-      → adjusting b (lastPlace b ps) (lastSize ps) fs (marks (events b ps) blank) .answer ≡ Passed → WellPlaced file b (withFields fs ps)
-  well-placed-fields fs [] h m c = absurd m
-  well-placed-fields fs (p ∷ ps) h m c =
+  well-placed-fields : (at step : ℕ) (fs : List Field) (ps : List Piece) → WellPlaced file b ps → AfterCode (lastOf ps)
+      → adjusting at step b (lastPlace b ps) (lastSize ps) fs (marks (events b ps) blank) .answer ≡ Passed → WellPlaced file b (withFields fs ps)
+  well-placed-fields at step fs [] h m c = absurd m
+  well-placed-fields at step fs (p ∷ ps) h m c =
       let fits = fits-memory b (length blank) (p ∷ ps) length-blank (h .fits) in
       let threes = marks-fields b (p ∷ ps) blank (h .inside) fits (h .apart) in
       let room : placeOf b p + size p ≤ length (marks (events b (p ∷ ps)) blank) = rw (length-marks (events b (p ∷ ps)) blank) (fits .0) in
-      let x = fields-fresh b (placeOf b p) (size p) fs (p .fields) (marks (events b (p ∷ ps)) blank) room (threes .0) c in
+      let x = fields-fresh at step b (placeOf b p) (size p) fs (p .fields) (marks (events b (p ∷ ps)) blank) room (threes .0) c in
       record {
         fits = h .fits;
         apart = h .apart;
@@ -84,10 +84,10 @@ module _ (file : List ℕ) (b : Bases) where
       → WellPlaced file b (stepped file s r .pieces)
   well-placed-on s (Code kind address from n) h e o c = well-placed-code s kind address from n h e c
   well-placed-on s (Fixups fixup from n) h e o c =
-      well-placed-fields (fieldsOf fixup (part file from n)) (s .pieces) h (fixups-after file (s .at) (lastOf (s .pieces)) fixup from n e)
+      well-placed-fields from (itemSize fixup) (fieldsOf fixup (part file from n)) (s .pieces) h (fixups-after file (s .at) (lastOf (s .pieces)) fixup from n e)
       (fixups-passed file b s _ fixup from n e c)
   well-placed-on s (End entry next) h e o c = absurd o
-  well-placed-on s (Faulty fault) h e o c = absurd o
+  well-placed-on s (Faulty fault offset) h e o c = absurd o
 
   -- an accepted file: its pieces are well placed, what was placed and adjusted is in its bytes, and its events are those of the pieces
   pub placed-well : (form : Form) (ps : List Piece) (start : Start) → judged form file b .answer ≡ accepted ps start

@@ -31,7 +31,7 @@ abbrev pub Onward : Record → Type 0
 Onward (Code kind address from n) = Unit {0}
 Onward (Fixups fixup from n) = Unit {0}
 Onward (End entry next) = ⊥
-Onward (Faulty fault) = ⊥
+Onward (Faulty fault offset) = ⊥
 
 -- The record at which a load stands at s passes, over the map as the events es left it, and leads on to z by the events fs.
 pub record NextRecord (file : List ℕ) (b : Bases) (s : Progress) (es : List Event) (z : Progress) (fs : List Event) : Type 0 where
@@ -57,13 +57,13 @@ pub record Follows (form : Form) (file : List ℕ) (b : Bases) (ps : List Piece)
   pub records : Trace (NextRecord file b) (begun (openingSize form)) last events
   pub end : EndRecord file b last events ps start
 
--- A file breaks a rule first with this fault, at this offset: in its opening, or in the record there after others that passed.
+-- A file breaks a rule first with this fault, at this offset: in its opening, or in a record after others that passed.
 pub data Fails (form : Form) (file : List ℕ) (b : Bases) : Fault → ℕ → Type 0 where
-  in-opening : {fault : Fault} → opening form file ≡ Failed fault → Fails form file b fault 0
-  in-record : {fault : Fault} {s : Progress} {es : List Event} → opening form file ≡ Passed
+  in-opening : {fault : Fault} {offset : ℕ} → opening form file ≡ Failed fault offset → Fails form file b fault offset
+  in-record : {fault : Fault} {offset : ℕ} {s : Progress} {es : List Event} → opening form file ≡ Passed
       → Trace (NextRecord file b) (begun (openingSize form)) s es
-      → checked file b s (marks es blank) .answer ≡ Failed fault
-      → Fails form file b fault (s .at)
+      → checked file b s (marks es blank) .answer ≡ Failed fault offset
+      → Fails form file b fault offset
 
 -- ---- a load of it, with the right buffers
 

@@ -30,7 +30,7 @@ use Rattle.pieces.specs.declared.Bases.{Bases}
 use Rattle.acx.specs.declared.Form.{Form}
 use Rattle.acx.specs.declared.Form.the-variants.{Disk, Device}
 
--- what a file comes to: the pieces of the handler, latest first, and its start; or its first fault and where that arose
+-- what a file comes to: the pieces of the handler, latest first, and its start; or its first fault and the offset of the first byte at fault
 pub data Verdict : Type 0 where
   accepted : List Piece → Start → Verdict
   refused : Fault → ℕ → Verdict
@@ -39,7 +39,10 @@ pub data Verdict : Type 0 where
 
 -- "Disk form opens F0 FF (under two bytes 5, else 4); device form has no opening." (F0 FF, low byte first, is the word FFF0)
 unfoldable pub opening : Form → List ℕ → Check
-opening Disk file = need Failed (leb 2 (length file)) CutShort (need Failed (eqb (value 2 file 0) 0xFFF0) WrongOpening Passed)
+opening Disk file =
+    need Failed (leb 2 (length file)) CutShort (length file)
+    (need Failed (eqb (value 2 file 0) 0xFFF0) WrongOpening 0
+    Passed)
 opening Device file = Passed
 
 -- where the records begin
@@ -79,7 +82,7 @@ recordAt file s = read file (s .at) (lastOf (s .pieces))
 
 -- what it comes to at the bases, over a map
 unfoldable pub checked : List ℕ → Bases → Progress → List ℕ → Ran Check
-checked file b s map = applied file b (lastPlace b (s .pieces)) (lastSize (s .pieces)) (recordAt file s) map
+checked file b s map = applied file (s .at) b (lastPlace b (s .pieces)) (lastSize (s .pieces)) (recordAt file s) map
 
 -- the fields of a fixup record are the last piece's
 abbrev pub withFields : List Field → List Piece → List Piece
@@ -92,15 +95,15 @@ stepped file s (Code kind address from n) =
     record { at = from + n; pieces = record { kind = kind; address = address; code = part file from n; fields = [] } ∷ s .pieces }
 stepped file s (Fixups fixup from n) = record { at = from + n; pieces = withFields (fieldsOf fixup (part file from n)) (s .pieces) }
 stepped file s (End entry next) = s
-stepped file s (Faulty fault) = s
+stepped file s (Faulty fault offset) = s
 
 -- where a record leads: on to the next; or the walk ends, accepted at the end record, refused at a fault
 abbrev pub judge : List ℕ → Bases → Progress → Check → Record → Turn Progress Verdict
-judge file b s (Failed fault) r = ends (refused fault (s .at))
+judge file b s (Failed fault offset) r = ends (refused fault offset)
 judge file b s Passed (Code kind address from n) = leads (stepped file s (Code kind address from n))
 judge file b s Passed (Fixups fixup from n) = leads (stepped file s (Fixups fixup from n))
 judge file b s Passed (End entry next) = ends (accepted (s .pieces) (startOf b entry))
-judge file b s Passed (Faulty fault) = ends (refused fault (s .at))
+judge file b s Passed (Faulty fault offset) = ends (refused fault offset)
 
 -- one record: read, checked at the bases, and where that leads
 unfoldable pub turn : List ℕ → Bases → Progress → List ℕ → Ran (Turn Progress Verdict)
@@ -111,20 +114,20 @@ turn file b s map =
 
 -- the records from some progress on, over a map
 unfoldable pub recordsFrom : List ℕ → Bases → Progress → List ℕ → Ran Verdict
-recordsFrom file b s map = from (turn file b) (λ z. refused CutShort (z .at)) (λ z. bytesLeft file (z .at)) s map
+recordsFrom file b s map = from (turn file b) (λ z. refused CutShort (length file)) (λ z. bytesLeft file (z .at)) s map
 
 -- all records from an offset on, over a clear map
 abbrev pub recordsOf : List ℕ → Bases → ℕ → Ran Verdict
 recordsOf file b at = recordsFrom file b (begun at) blank
 
--- a refusal before the first record: "0 for 1 to 4 and a cut opening"
-abbrev pub atOnce : Fault → Ran Verdict
-atOnce fault = record { answer = refused fault 0; events = [] }
+-- a refusal before the first record
+abbrev pub atOnce : Fault → ℕ → Ran Verdict
+atOnce fault offset = record { answer = refused fault offset; events = [] }
 
 -- the records, where the opening passed
 abbrev pub opened : Check → Ran Verdict → Ran Verdict
 opened Passed rest = rest
-opened (Failed fault) rest = atOnce fault
+opened (Failed fault offset) rest = atOnce fault offset
 
 -- the whole file in its form, at its bases
 unfoldable pub judged : Form → List ℕ → Bases → Ran Verdict
@@ -132,8 +135,7 @@ judged form file b = opened (opening form file) (recordsOf file b (openingSize f
 
 -- ---- what is reported
 
--- "the start (present or not, address), the number of bytes placed and of fields adjusted"; "its number and the offset of the .. record where
--- it arose"
+-- "the start (present or not, address), the number of bytes placed and of fields adjusted"; "A refusal reports its number and the offset"
 abbrev pub report : Verdict → List Event → Outcome
 report (accepted ps start) es = Accepted start (placedIn es) (adjustedIn es) 0 0
 report (refused fault at) es = Refused fault at 0

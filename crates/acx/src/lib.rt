@@ -50,10 +50,10 @@ pub fn load(
     ensures { λ r. ⌜ Loaded form (basesAt «main_base» «zero_base») (now (file .entry)) (sized (now (memory .entry)) (now (map .entry))) (now (memory .entry)) (now (map .entry)) r (now (memory .exit)) (now (map .exit)) ⌝ }
 {
     if memory.len() != events::MEMORY {
-        return answer::refused(Fault::WrongBuffer);
+        return answer::refused(Fault::WrongBuffer, 0);
     }
     if map.len() != events::MEMORY {
-        return answer::refused(Fault::WrongBuffer);
+        return answer::refused(Fault::WrongBuffer, 0);
     }
     load_sized(form, file, main_base, zero_base, memory, map)
 }
@@ -75,10 +75,10 @@ pub fn walk_call(
     words::fill(map, 0);
     let ranged = in_range(form, main_base, zero_base);
     if !ranged {
-        return answer::refused(Fault::SettingOutOfRange);
+        return answer::refused(Fault::SettingOutOfRange, 0);
     }
     if events::FILE < file.len() {
-        return answer::refused(Fault::FileTooLong);
+        return answer::refused(Fault::FileTooLong, 0);
     }
     let bases = Bases {
         main: main_base as u16,
@@ -150,7 +150,7 @@ pub fn advance(bases: Bases, cursor: Cursor, found: Record) -> Cursor
             adjusted: cursor.adjusted + size / fields::item_size(fixup),
         },
         Record::End { entry, next } => cursor,
-        Record::Faulty(fault) => cursor,
+        Record::Faulty(fault, offset) => cursor,
     }
 }
 
@@ -208,8 +208,8 @@ fn walk_file(
     ensures { λ r. ⌜ Did Outcome (reported (judged form (now (file .entry)) bases)) write (now (memory .entry)) blank r (now (memory .exit)) (now (map .exit)) ⌝ }
 {
     let opened = opening(form, file);
-    if let Check::Failed(fault) = opened {
-        return answer::refused(fault);
+    if let Check::Failed(fault, offset) = opened {
+        return answer::refused(fault, offset);
     }
     walk(file, opening_size(form), bases, write, memory, map)
 }
@@ -221,11 +221,11 @@ fn opening(form: Form, file: &[u8]) -> Check
     match form {
         Form::Disk => {
             if file.len() < 2 {
-                return Check::Failed(Fault::CutShort);
+                return Check::Failed(Fault::CutShort, file.len());
             }
             let word = words::word_at(file, 0);
             if word != 0xFFF0 {
-                return Check::Failed(Fault::WrongOpening);
+                return Check::Failed(Fault::WrongOpening, 0);
             }
             Check::Passed
         }
@@ -251,6 +251,7 @@ fn walk(
         let found = records::read(file, cursor.at, last);
         let check = pieces::apply(
             file,
+            cursor.at,
             bases,
             cursor.place,
             cursor.size,
@@ -259,12 +260,8 @@ fn walk(
             memory,
             map,
         );
-        if let Check::Failed(fault) = check {
-            return Outcome::Refused {
-                fault,
-                offset: cursor.at as u32,
-                side: 0,
-            };
+        if let Check::Failed(fault, offset) = check {
+            return answer::refused(fault, offset);
         }
         if let Record::End { entry, next } = found {
             return accepted(bases, entry, cursor);

@@ -4,7 +4,7 @@ use mathlib.Core.Bool.{Bool, true, false}
 use mathlib.Core.Path.{_≡_, refl, sym, ap, _∙_}
 use Prim.Native.Nat.{ℕ}
 use native.Mathlib.Omega.{arith}
-use Rattle.answer.proofs.Faults.{Late, earlyOutcome, late-not}
+use Rattle.answer.proofs.Faults.{ByFile, late-not}
 use Rattle.answer.proofs.Outcomes.{faultIn}
 use Rattle.answer.specs.Causes.{Causes}
 use Rattle.answer.specs.Report.{numberOf}
@@ -17,13 +17,13 @@ use Rattle.answer.specs.declared.Outcome.the-variants.{Refused}
 one-number : {r : Outcome} {f g : Fault} {i j k l : ℕ} → r ≡ Refused f i j → r ≡ Refused g k l → numberOf f ≡ numberOf g
 one-number e h = ap (λ (o : Outcome). numberOf (faultIn o)) (sym e ∙ h)
 
--- a call that answers 1, 2, 3 by their checks, in that order, and is late where all hold, is refused with each exactly for its cause
-pub causes-of : (l s f : Bool) {r : Outcome} → (l ≡ false → r ≡ Refused WrongBuffer 0 0)
+-- a call that answers 1, 2, 3 by their checks, in that order, and as its file decides where all hold, is refused with each exactly for its cause
+pub causes-of : (len : ℕ) (l s f : Bool) {r : Outcome} → (l ≡ false → r ≡ Refused WrongBuffer 0 0)
     → (l ≡ true → s ≡ false → r ≡ Refused SettingOutOfRange 0 0)
     → (l ≡ true → s ≡ true → f ≡ false → r ≡ Refused FileTooLong 0 0)
-    → (l ≡ true → s ≡ true → f ≡ true → Late earlyOutcome r)
+    → (l ≡ true → s ≡ true → f ≡ true → ByFile len r)
     → Causes l s f r
-causes-of l s f {r} one two three late =
+causes-of len l s f {r} one two three late =
     record {
       wrong-buffer = one;
       wrong-buffer-only = λ offset side e. lengths l s f refl refl refl e;

@@ -57,7 +57,11 @@ abbrev pub IsAccepted : Outcome → Type 0
 IsAccepted (Accepted start placed adjusted names low) = Unit {0}
 IsAccepted (Refused fault offset side) = ⊥
 
--- the counts of an outcome, "an absent number is zero"
+-- the offset and the counts of an outcome, "an absent number is zero"
+abbrev pub offsetOf : Outcome → ℕ
+offsetOf (Accepted start placed adjusted names low) = 0
+offsetOf (Refused fault offset side) = offset
+
 abbrev pub placedOf : Outcome → ℕ
 placedOf (Accepted start placed adjusted names low) = placed
 placedOf (Refused fault offset side) = 0

@@ -1,6 +1,7 @@
 // What a call reports: accepted with its counts, or refused with one fault; and the nine numbers in which the answer says so.
 // It knows no file format. The numbers of the faults stand in one place, specs/Report.antt.
 ghost use mathlib.Core.Path.{_≡_};
+ghost use Prim.Native.Nat.{_<_};
 ghost use lib.ListN.{length};
 ghost use Rattle.answer.specs.declared.Outcome.the-variants.{Refused};
 ghost use Rattle.answer.specs.Report.{numberOf, numbersOf, numberReturned, answerLength, Written};
@@ -54,13 +55,14 @@ pub enum Outcome {
 // The numbers of an answer: number, offset, side, start present, start address, placed, adjusted, new names, low.
 pub type Numbers = [u32; 9];
 
-// A refusal that no block or record is blamed for.
-pub fn refused(fault: Fault) -> Outcome
-    ensures { λ r. ⌜ r ≡ Refused fault 0 0 ⌝ }
+// The refusal of a load, for a fault at an offset of its file.
+pub fn refused(fault: Fault, offset: usize) -> Outcome
+    requires { ⌜ offset < 4294967296 ⌝ }
+    ensures { λ r. ⌜ r ≡ Refused fault offset 0 ⌝ }
 {
     Outcome::Refused {
         fault,
-        offset: 0,
+        offset: offset as u32,
         side: 0,
     }
 }

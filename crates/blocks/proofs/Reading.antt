@@ -35,33 +35,33 @@ plainEnd (Plain address from size) = address + size
 plainEnd (Relocatable reserves number offset from size) = 0
 plainEnd (Update source from) = 0
 plainEnd (NewName from address) = 0
-plainEnd (Faulty fault) = 0
+plainEnd (Faulty fault offset) = 0
 
 -- a plain block is in memory if it ends there; of any other block nothing is asked
 pub in-memory : (b : Block) → plainEnd b ≤ 65536 → InMemory b
 in-memory b h = record { ends = λ address from size e. rw (← ap plainEnd e) h }
 
-in-need : (check : Bool) (fault : Fault) (b : Block) → InMemory b → InMemory (need Faulty check fault b)
-in-need check fault b h = on-need Faulty InMemory (λ f. in-memory (Faulty f) (omega arith)) check fault b (λ e. h)
+in-need : (check : Bool) (fault : Fault) (offset : ℕ) (b : Block) → InMemory b → InMemory (need Faulty check fault offset b)
+in-need check fault offset b h = on-need Faulty InMemory check fault offset b (in-memory (Faulty fault offset) (omega arith)) (λ e. h)
 
 -- no other block is plain
 room-in-memory : (file : List ℕ) (high : ℕ) (c : Cursor) (number : ℕ) (reserves : Bool) → InMemory (readRoom file high c number reserves)
 unfolding readRoom
-room-in-memory file high c number reserves = in-need _ _ _ (in-need _ _ _ (in-need _ _ _ (in-memory _ (omega arith))))
+room-in-memory file high c number reserves = in-need _ _ _ _ (in-need _ _ _ _ (in-need _ _ _ _ (in-memory _ (omega arith))))
 
 pub relocatable-in-memory : (file : List ℕ) (high : ℕ) (c : Cursor) → InMemory (readRelocatable file high c)
 unfolding readRelocatable
-relocatable-in-memory file high c = in-need _ _ _ (in-need _ _ _ (in-need _ _ _ (room-in-memory file high c _ _)))
+relocatable-in-memory file high c = in-need _ _ _ _ (in-need _ _ _ _ (in-need _ _ _ _ (room-in-memory file high c _ _)))
 
 pub update-in-memory : (file : List ℕ) (c : Cursor) → InMemory (readUpdate file c)
 unfolding readUpdate
-update-in-memory file c = in-need _ _ _ (in-need _ _ _ (in-need _ _ _ (in-memory _ (omega arith))))
+update-in-memory file c = in-need _ _ _ _ (in-need _ _ _ _ (in-need _ _ _ _ (in-memory _ (omega arith))))
 
 pub names-in-memory : (file lent own : List ℕ) (c : Cursor) → InMemory (readNames file lent own c)
 unfolding readNames
-names-in-memory file lent own c = in-need _ _ _ (by (lookUp own lent _))
+names-in-memory file lent own c = in-need _ _ _ _ (by (lookUp own lent _))
   where
-    by : (d : Definition) → InMemory (byDefinition (c .at + 12) d)
+    by : (d : Definition) → InMemory (byDefinition (c .at) d)
     by Missing = in-memory _ (omega arith)
     by (Own i) = in-memory _ (omega arith)
     by (Lent i) = in-memory _ (omega arith)
@@ -69,24 +69,24 @@ names-in-memory file lent own c = in-need _ _ _ (by (lookUp own lent _))
 pub new-name-in-memory : (file : List ℕ) (c : Cursor) → InMemory (readNewName file c)
 unfolding readNewName readAddress
 new-name-in-memory file c =
-    in-need _ _ _ (in-need _ _ _ (in-need _ _ _ (in-need _ _ _ (in-need _ _ _ (in-memory _ (omega arith))))))
+    in-need _ _ _ _ (in-need _ _ _ _ (in-need _ _ _ _ (in-need _ _ _ _ (in-need _ _ _ _ (in-memory _ (omega arith))))))
 
 -- ---- plain
 
 module _ (file : List ℕ) (at : ℕ) where
   -- start and end are not both present: 5
-  pub plain-cut : length file < at + 4 → Faulty CutShort ≡ readPlain file at
+  pub plain-cut : length file < at + 4 → Faulty CutShort (length file) ≡ readPlain file at
   unfolding readPlain need
   plain-cut h = rw (lt-leb _ _ h) refl
 
   module _ (start last : ℕ) (es : start ≡ value 2 file at) (el : last ≡ value 2 file (at + 2)) (header : at + 4 ≤ length file) where
     -- end below start: 9
-    pub plain-back : last < start → Faulty LengthNotAllowed ≡ readPlain file at
+    pub plain-back : last < start → Faulty LengthNotAllowed (at + 2) ≡ readPlain file at
     unfolding readPlain need
     plain-back h = rw (le-leb _ _ header, ← es, ← el, lt-leb _ _ h) refl
 
     -- not all its bytes are present: 5
-    pub plain-short : start ≤ last → length file < at + 4 + (last - start + 1) → Faulty CutShort ≡ readPlain file at
+    pub plain-short : start ≤ last → length file < at + 4 + (last - start + 1) → Faulty CutShort (length file) ≡ readPlain file at
     unfolding readPlain need
     plain-short h i = rw (le-leb _ _ header, ← es, ← el, le-leb _ _ h, lt-leb _ _ i) refl
 
@@ -99,19 +99,19 @@ module _ (file : List ℕ) (at : ℕ) where
 
 module _ (file : List ℕ) (high : ℕ) (c : Cursor) (number : ℕ) (reserves : Bool) where
   -- the number was used before: 7
-  pub room-used : slotAt (c .table) number .taken ≡ true → Faulty BlockTaken ≡ readRoom file high c number reserves
+  pub room-used : slotAt (c .table) number .taken ≡ true → Faulty BlockTaken (c .at + 2) ≡ readRoom file high c number reserves
   unfolding readRoom need
   room-used h = rw h refl
 
   module _ (new : slotAt (c .table) number .taken ≡ false) where
     -- there are seven blocks so far: 7
-    pub room-eighth : 7 ≤ c .count → Faulty BlockTaken ≡ readRoom file high c number reserves
+    pub room-eighth : 7 ≤ c .count → Faulty BlockTaken (c .at + 2) ≡ readRoom file high c number reserves
     unfolding readRoom need
     room-eighth h = rw (new, le-ltb _ _ h) refl
 
     module _ (left : c .count < 7) (size k : ℕ) (es : size ≡ value 2 file (c .at + 6)) (ek : k ≡ dataSize reserves size) where
       -- not all its data are present: 5
-      pub room-cut : length file < c .at + 8 + k → Faulty CutShort ≡ readRoom file high c number reserves
+      pub room-cut : length file < c .at + 8 + k → Faulty CutShort (length file) ≡ readRoom file high c number reserves
       unfolding readRoom need
       room-cut h = let i : length file < c .at + 8 + dataSize reserves size = rw (← ek) h in rw (new, lt-ltb _ _ left, ← es, lt-leb _ _ i) refl
 
@@ -120,7 +120,7 @@ module _ (file : List ℕ) (high : ℕ) (c : Cursor) (number : ℕ) (reserves : 
         held = rw (← ek) here
 
         -- low + length is above high: 10
-        pub room-high : high < c .low + size → Faulty DoesNotFit ≡ readRoom file high c number reserves
+        pub room-high : high < c .low + size → Faulty DoesNotFit (c .at + 6) ≡ readRoom file high c number reserves
         unfolding readRoom need
         room-high h = rw (new, lt-ltb _ _ left, ← es, le-leb _ _ held, lt-leb _ _ h) refl
 
@@ -132,13 +132,13 @@ module _ (file : List ℕ) (high : ℕ) (c : Cursor) (number : ℕ) (reserves : 
 
 module _ (file : List ℕ) (high : ℕ) (c : Cursor) where
   -- number, id, offset and length are not all present: 5
-  pub relocatable-cut : length file < c .at + 8 → Faulty CutShort ≡ readRelocatable file high c
+  pub relocatable-cut : length file < c .at + 8 → Faulty CutShort (length file) ≡ readRelocatable file high c
   unfolding readRelocatable need
   relocatable-cut h = rw (lt-leb _ _ h) refl
 
   module _ (header : c .at + 8 ≤ length file) (number : ℕ) (en : number ≡ getD file (c .at + 2) 0) where
     -- the number is above 7: 6
-    pub relocatable-number : 7 < number → Faulty NotKnown ≡ readRelocatable file high c
+    pub relocatable-number : 7 < number → Faulty NotKnown (c .at + 2) ≡ readRelocatable file high c
     unfolding readRelocatable need
     relocatable-number h = rw (le-leb _ _ header, ← en, lt-leb _ _ h) refl
 
@@ -153,7 +153,7 @@ module _ (file : List ℕ) (high : ℕ) (c : Cursor) where
       relocatable-reserves r e h = let f : getD file (c .at + 3) 0 ≡ 128 = sym ei ∙ e in rw (le-leb _ _ header, ← en, le-leb _ _ known, f) h
 
       -- any other id: 6
-      pub relocatable-id : (id ≡ 0 → ⊥) → (id ≡ 128 → ⊥) → Faulty NotKnown ≡ readRelocatable file high c
+      pub relocatable-id : (id ≡ 0 → ⊥) → (id ≡ 128 → ⊥) → Faulty NotKnown (c .at + 3) ≡ readRelocatable file high c
       unfolding readRelocatable need
       relocatable-id h i = rw (le-leb _ _ header, ← en, le-leb _ _ known, ← ei, ne-eqb _ _ h, ne-eqb _ _ i) refl
 
@@ -161,18 +161,18 @@ module _ (file : List ℕ) (high : ℕ) (c : Cursor) where
 
 module _ (file : List ℕ) (c : Cursor) where
   -- number and length word are not both present: 5
-  pub update-cut : length file < c .at + 5 → Faulty CutShort ≡ readUpdate file c
+  pub update-cut : length file < c .at + 5 → Faulty CutShort (length file) ≡ readUpdate file c
   unfolding readUpdate need
   update-cut h = rw (lt-leb _ _ h) refl
 
   module _ (header : c .at + 5 ≤ length file) (number : ℕ) (en : number ≡ getD file (c .at + 2) 0) where
     -- the number is above 7: 6
-    pub update-number : 7 < number → Faulty NotKnown ≡ readUpdate file c
+    pub update-number : 7 < number → Faulty NotKnown (c .at + 2) ≡ readUpdate file c
     unfolding readUpdate need
     update-number h = rw (le-leb _ _ header, ← en, lt-leb _ _ h) refl
 
     -- the block is not there yet: 8
-    pub update-missing : number ≤ 7 → slotAt (c .table) number .taken ≡ false → Faulty BlockMissing ≡ readUpdate file c
+    pub update-missing : number ≤ 7 → slotAt (c .table) number .taken ≡ false → Faulty BlockMissing (c .at + 2) ≡ readUpdate file c
     unfolding readUpdate need
     update-missing h i = rw (le-leb _ _ header, ← en, le-leb _ _ h, i) refl
 
@@ -185,19 +185,19 @@ module _ (file : List ℕ) (c : Cursor) where
 
 module _ (file : List ℕ) (c : Cursor) (slot : Slot) (offset : ℕ) (eo : offset ≡ value 2 file (c .at + 3)) where
   -- the offset is below the block's: 16
-  pub address-below : offset < slot .offset → Faulty NameOutsideBlock ≡ readAddress file c slot
+  pub address-below : offset < slot .offset → Faulty NameOutsideBlock (c .at + 3) ≡ readAddress file c slot
   unfolding readAddress need
   address-below h = rw (← eo, lt-leb _ _ h) refl
 
   module _ (above : slot .offset ≤ offset) where
     -- offset − block offset is not below the length: 16
-    pub address-past : slot .size ≤ offset - slot .offset → Faulty NameOutsideBlock ≡ readAddress file c slot
+    pub address-past : slot .size ≤ offset - slot .offset → Faulty NameOutsideBlock (c .at + 3) ≡ readAddress file c slot
     unfolding readAddress need
     address-past h = rw (← eo, le-leb _ _ above, le-ltb _ _ h) refl
 
     module _ (inside : offset - slot .offset < slot .size) where
       -- there are 32 new names so far: 15
-      pub address-full : 32 ≤ c .named → Faulty TooManyNames ≡ readAddress file c slot
+      pub address-full : 32 ≤ c .named → Faulty TooManyNames (c .at + 5) ≡ readAddress file c slot
       unfolding readAddress need
       address-full h = rw (← eo, le-leb _ _ above, lt-ltb _ _ inside, le-ltb _ _ h) refl
 
@@ -208,18 +208,18 @@ module _ (file : List ℕ) (c : Cursor) (slot : Slot) (offset : ℕ) (eo : offse
 
 module _ (file : List ℕ) (c : Cursor) where
   -- number, offset word and name are not all present: 5
-  pub new-name-cut : length file < c .at + 13 → Faulty CutShort ≡ readNewName file c
+  pub new-name-cut : length file < c .at + 13 → Faulty CutShort (length file) ≡ readNewName file c
   unfolding readNewName need
   new-name-cut h = rw (lt-leb _ _ h) refl
 
   module _ (header : c .at + 13 ≤ length file) (number : ℕ) (en : number ≡ getD file (c .at + 2) 0) where
     -- the number is above 7: 6
-    pub new-name-number : 7 < number → Faulty NotKnown ≡ readNewName file c
+    pub new-name-number : 7 < number → Faulty NotKnown (c .at + 2) ≡ readNewName file c
     unfolding readNewName need
     new-name-number h = rw (le-leb _ _ header, ← en, lt-leb _ _ h) refl
 
     -- the block is not there yet: 8
-    pub new-name-missing : number ≤ 7 → slotAt (c .table) number .taken ≡ false → Faulty BlockMissing ≡ readNewName file c
+    pub new-name-missing : number ≤ 7 → slotAt (c .table) number .taken ≡ false → Faulty BlockMissing (c .at + 2) ≡ readNewName file c
     unfolding readNewName need
     new-name-missing h i = rw (le-leb _ _ header, ← en, le-leb _ _ h, i) refl
 
@@ -258,13 +258,13 @@ module _ (table : List Slot) (lent own : List ℕ) (s : Source) where
 
 module _ (file lent own : List ℕ) (c : Cursor) where
   -- name and length word are not both present: 5
-  pub names-cut : length file < c .at + 12 → Faulty CutShort ≡ readNames file lent own c
+  pub names-cut : length file < c .at + 12 → Faulty CutShort (length file) ≡ readNames file lent own c
   unfolding readNames need
   names-cut h = rw (lt-leb _ _ h) refl
 
   -- else the definition that holds decides
   pub names-read : (name : List ℕ) (d e : Definition) → c .at + 12 ≤ length file → name ≡ part file (c .at + 2) 8 → d ≡ lookUp own lent name → d ≡ e
-      → byDefinition (c .at + 12) e ≡ readNames file lent own c
+      → byDefinition (c .at) e ≡ readNames file lent own c
   unfolding readNames need
   names-read name d e h en ed de = rw (le-leb _ _ h, ← en, ← ed, de) refl
 
@@ -272,7 +272,7 @@ module _ (file lent own : List ℕ) (c : Cursor) where
 
 module _ (file : List ℕ) (high : ℕ) (lent own : List ℕ) (c : Cursor) where
   -- no whole word is left: 5
-  pub read-cut : length file < c .at + 2 → Faulty CutShort ≡ read file high lent own c
+  pub read-cut : length file < c .at + 2 → Faulty CutShort (length file) ≡ read file high lent own c
   unfolding read need
   read-cut h = rw (lt-leb _ _ h) refl
 

@@ -1,5 +1,7 @@
 -- The blocks of an SDX file as document 01 reads them, "SDX blocks, checks in order": what stands at an offset of a file, with no map in mind.
 -- Cited by `blocks::read`; what is left to check stands in `items` (the items of a body) and in `updates` (against the map).
+-- Each check names its offset by document 02, wish 6: "for 5 the file's length, for 9 the end word .., for 10 .. in SDX, the length word, for 14 and 15
+-- the name"; of 6, 7, 8 and 16 the number, the id or the offset word is "the field .. at fault".
 -- Assumes nothing.
 use mathlib.Core.Bool.{Bool, true, false, not, _&&_, _||_}
 use mathlib.Core.List.{List}
@@ -27,9 +29,9 @@ unfoldable pub readPlain : List ℕ → ℕ → Block
 readPlain file at =
     let start = value 2 file at in
     let size = value 2 file (at + 2) - start + 1 in
-    need Faulty (leb (at + 4) (length file)) CutShort
-    (need Faulty (leb start (value 2 file (at + 2))) LengthNotAllowed
-    (need Faulty (leb (at + 4 + size) (length file)) CutShort
+    need Faulty (leb (at + 4) (length file)) CutShort (length file)
+    (need Faulty (leb start (value 2 file (at + 2))) LengthNotAllowed (at + 2)
+    (need Faulty (leb (at + 4 + size) (length file)) CutShort (length file)
     (Plain start (at + 4) size)))
 
 -- the data of a relocatable block: "80 for reserve only" has none
@@ -53,9 +55,9 @@ mostBlocks = 7
 unfoldable pub readRoom : List ℕ → ℕ → Cursor → ℕ → Bool → Block
 readRoom file high c number reserves =
     let size = value 2 file (c .at + 6) in
-    need Faulty (not (slotAt (c .table) number .taken) && ltb (c .count) mostBlocks) BlockTaken
-    (need Faulty (leb (c .at + 8 + dataSize reserves size) (length file)) CutShort
-    (need Faulty (leb (c .low + size) high) DoesNotFit
+    need Faulty (not (slotAt (c .table) number .taken) && ltb (c .count) mostBlocks) BlockTaken (c .at + 2)
+    (need Faulty (leb (c .at + 8 + dataSize reserves size) (length file)) CutShort (length file)
+    (need Faulty (leb (c .low + size) high) DoesNotFit (c .at + 6)
     (Relocatable reserves number (value 2 file (c .at + 4)) (c .at + 8) size)))
 
 -- "FFFE: relocatable. Number, id, offset word, length word present (5); number ≤ 7 (6); id hex 00, or 80 for reserve only (6)", then its room
@@ -63,31 +65,31 @@ unfoldable pub readRelocatable : List ℕ → ℕ → Cursor → Block
 readRelocatable file high c =
     let number = getD file (c .at + 2) 0 in
     let id = getD file (c .at + 3) 0 in
-    need Faulty (leb (c .at + 8) (length file)) CutShort
-    (need Faulty (leb number lastNumber) NotKnown
-    (need Faulty (isId id) NotKnown
+    need Faulty (leb (c .at + 8) (length file)) CutShort (length file)
+    (need Faulty (leb number lastNumber) NotKnown (c .at + 2)
+    (need Faulty (isId id) NotKnown (c .at + 3)
     (readRoom file high c number (reserveOnly id))))
 
 -- "FFFD: update. Number and length word present (5); number ≤ 7 (6); block there (8). The length is ignored."
 unfoldable pub readUpdate : List ℕ → Cursor → Block
 readUpdate file c =
     let number = getD file (c .at + 2) 0 in
-    need Faulty (leb (c .at + 5) (length file)) CutShort
-    (need Faulty (leb number lastNumber) NotKnown
-    (need Faulty (slotAt (c .table) number .taken) BlockMissing
+    need Faulty (leb (c .at + 5) (length file)) CutShort (length file)
+    (need Faulty (leb number lastNumber) NotKnown (c .at + 2)
+    (need Faulty (slotAt (c .table) number .taken) BlockMissing (c .at + 2)
     (Update (Number number) (c .at + 5))))
 
 -- a body whose words grow by the address of a name, by the definition that holds: "name known (14)"
 abbrev pub byDefinition : ℕ → Definition → Block
-byDefinition next Missing = Faulty NameUnknown
-byDefinition next (Own i) = Update (OwnName i) next
-byDefinition next (Lent i) = Update (LentName i) next
+byDefinition at Missing = Faulty NameUnknown (at + 2)
+byDefinition at (Own i) = Update (OwnName i) (at + 12)
+byDefinition at (Lent i) = Update (LentName i) (at + 12)
 
 -- "FFFB: names. Eight-byte name and length word present (5); name known (14)."
 unfoldable pub readNames : List ℕ → List ℕ → List ℕ → Cursor → Block
 readNames file lent own c =
-    need Faulty (leb (c .at + 12) (length file)) CutShort
-    (byDefinition (c .at + 12) (lookUp own lent (part file (c .at + 2) nameSize)))
+    need Faulty (leb (c .at + 12) (length file)) CutShort (length file)
+    (byDefinition (c .at) (lookUp own lent (part file (c .at + 2) nameSize)))
 
 -- "0 ≤ offset − block offset < length"
 abbrev pub isInside : Slot → ℕ → Bool
@@ -101,17 +103,17 @@ mostNames = 32
 unfoldable pub readAddress : List ℕ → Cursor → Slot → Block
 readAddress file c slot =
     let offset = value 2 file (c .at + 3) in
-    need Faulty (isInside slot offset) NameOutsideBlock
-    (need Faulty (ltb (c .named) mostNames) TooManyNames
+    need Faulty (isInside slot offset) NameOutsideBlock (c .at + 3)
+    (need Faulty (ltb (c .named) mostNames) TooManyNames (c .at + 5)
     (NewName (c .at + 5) (slot .address + (offset - slot .offset))))
 
 -- "FFFC: new name. Number, offset word, name present (5); number ≤ 7 (6); block there (8)", then its address
 unfoldable pub readNewName : List ℕ → Cursor → Block
 readNewName file c =
     let number = getD file (c .at + 2) 0 in
-    need Faulty (leb (c .at + 13) (length file)) CutShort
-    (need Faulty (leb number lastNumber) NotKnown
-    (need Faulty (slotAt (c .table) number .taken) BlockMissing
+    need Faulty (leb (c .at + 13) (length file)) CutShort (length file)
+    (need Faulty (leb number lastNumber) NotKnown (c .at + 2)
+    (need Faulty (slotAt (c .table) number .taken) BlockMissing (c .at + 2)
     (readAddress file c (slotAt (c .table) number))))
 
 -- "Later, a word below FFFA is the start address of a plain block without marker; from FFFA it is a marker"
@@ -123,7 +125,7 @@ firstMarker = 0xFFFA
 unfoldable pub read : List ℕ → ℕ → List ℕ → List ℕ → Cursor → Block
 read file high lent own c =
     let word = value 2 file (c .at) in
-    need Faulty (leb (c .at + 2) (length file)) CutShort
+    need Faulty (leb (c .at + 2) (length file)) CutShort (length file)
     (pick (ltb word firstMarker) (readPlain file (c .at))
     (pick (eqb word 0xFFFB) (readNames file lent own c)
     (pick (eqb word 0xFFFC) (readNewName file c)

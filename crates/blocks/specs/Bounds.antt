@@ -37,7 +37,7 @@ Lies len c lent own (Relocatable reserves number offset from size) =
     (c .at < from) × (from + dataSize reserves size ≤ len) × (c .low + size ≤ 65535) × (number < 8) × (c .count < mostBlocks)
 Lies len c lent own (Update source from) = (c .at < from) × (from ≤ len) × Listed lent own source
 Lies len c lent own (NewName from address) = (c .at < from) × (from + nameSize ≤ len) × (c .named < mostNames)
-Lies len c lent own (Faulty fault) = Unit {0}
+Lies len c lent own (Faulty fault offset) = Unit {0}
 
 -- (the same as a record)
 pub record Fits (len : ℕ) (c : Cursor) (lent own : ℕ) (b : Block) : Type 0 where

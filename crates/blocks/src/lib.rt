@@ -34,7 +34,8 @@ pub enum Source {
     OwnName(usize),
 }
 
-// What a block says: data for an address; data, or an empty room, for low; a body; a new name with its address.
+// What a block says: data for an address; data, or an empty room, for low; a body; a new name with its address; or a fault, with the offset of the
+// first byte at fault.
 pub enum Block {
     Plain {
         address: u16,
@@ -56,7 +57,7 @@ pub enum Block {
         from: usize,
         address: u16,
     },
-    Faulty(Fault),
+    Faulty(Fault, usize),
 }
 
 // The block at the cursor.
@@ -67,7 +68,7 @@ pub fn read(file: &[u8], high: u16, lent: &[u8], own: &[u8], cursor: Cursor) -> 
 {
     let at = cursor.at;
     if file.len() < at + 2 {
-        return Block::Faulty(Fault::CutShort);
+        return Block::Faulty(Fault::CutShort, file.len());
     }
     let word = words::word_at(file, at);
     if word < FIRST_MARKER {
@@ -105,16 +106,16 @@ fn read_plain(file: &[u8], at: usize) -> Block
 {
     let from = at + 4;
     if file.len() < from {
-        return Block::Faulty(Fault::CutShort);
+        return Block::Faulty(Fault::CutShort, file.len());
     }
     let address = words::word_at(file, at);
     let last = words::word_at(file, at + 2);
     if last < address {
-        return Block::Faulty(Fault::LengthNotAllowed);
+        return Block::Faulty(Fault::LengthNotAllowed, at + 2);
     }
     let size = (last - address) as usize + 1;
     if file.len() < from + size {
-        return Block::Faulty(Fault::CutShort);
+        return Block::Faulty(Fault::CutShort, file.len());
     }
     Block::Plain {
         address,
@@ -130,17 +131,17 @@ fn read_relocatable(file: &[u8], high: u16, cursor: Cursor) -> Block
 {
     let at = cursor.at;
     if file.len() < at + 8 {
-        return Block::Faulty(Fault::CutShort);
+        return Block::Faulty(Fault::CutShort, file.len());
     }
     let number = words::wide(file[at + 2]);
     if items::LAST_NUMBER < number {
-        return Block::Faulty(Fault::NotKnown);
+        return Block::Faulty(Fault::NotKnown, at + 2);
     }
     let id = file[at + 3];
     match id {
         0 => read_room(file, high, cursor, number, false),
         0x80 => read_room(file, high, cursor, number, true),
-        _ => Block::Faulty(Fault::NotKnown),
+        _ => Block::Faulty(Fault::NotKnown, at + 3),
     }
 }
 
@@ -149,26 +150,27 @@ fn read_room(file: &[u8], high: u16, cursor: Cursor, number: usize, reserves: bo
     requires { ⌜ (length (now file) ≤ 65536) × (cursor .at + 8 ≤ length (now file)) × (number < 8) ⌝ }
     ensures { λ r. ⌜ r ≡ readRoom (now (file .entry)) high cursor number reserves ⌝ }
 {
+    let at = cursor.at;
     let table = cursor.table;
     let slot = table[number];
     if slot.taken {
-        return Block::Faulty(Fault::BlockTaken);
+        return Block::Faulty(Fault::BlockTaken, at + 2);
     }
     if BLOCKS <= cursor.count {
-        return Block::Faulty(Fault::BlockTaken);
+        return Block::Faulty(Fault::BlockTaken, at + 2);
     }
-    let from = cursor.at + 8;
-    let size = words::word_at(file, cursor.at + 6);
+    let from = at + 8;
+    let size = words::word_at(file, at + 6);
     if file.len() < from + data_size(reserves, size) {
-        return Block::Faulty(Fault::CutShort);
+        return Block::Faulty(Fault::CutShort, file.len());
     }
     if (high as usize) < cursor.low as usize + size as usize {
-        return Block::Faulty(Fault::DoesNotFit);
+        return Block::Faulty(Fault::DoesNotFit, at + 6);
     }
     Block::Relocatable {
         reserves,
         number,
-        offset: words::word_at(file, cursor.at + 4),
+        offset: words::word_at(file, at + 4),
         from,
         size,
     }
@@ -179,18 +181,19 @@ fn read_update(file: &[u8], cursor: Cursor) -> Block
     requires { ⌜ (length (now file) ≤ 65536) × (cursor .at ≤ length (now file)) ⌝ }
     ensures { λ r. ⌜ r ≡ readUpdate (now (file .entry)) cursor ⌝ }
 {
-    let from = cursor.at + 5;
+    let at = cursor.at;
+    let from = at + 5;
     if file.len() < from {
-        return Block::Faulty(Fault::CutShort);
+        return Block::Faulty(Fault::CutShort, file.len());
     }
-    let number = words::wide(file[cursor.at + 2]);
+    let number = words::wide(file[at + 2]);
     if items::LAST_NUMBER < number {
-        return Block::Faulty(Fault::NotKnown);
+        return Block::Faulty(Fault::NotKnown, at + 2);
     }
     let table = cursor.table;
     let block = table[number];
     if !block.taken {
-        return Block::Faulty(Fault::BlockMissing);
+        return Block::Faulty(Fault::BlockMissing, at + 2);
     }
     Block::Update {
         source: Source::Number(number),
@@ -203,15 +206,16 @@ fn read_names(file: &[u8], lent: &[u8], own: &[u8], cursor: Cursor) -> Block
     requires { ⌜ (length (now file) ≤ 65536) × (cursor .at ≤ length (now file)) ⌝ }
     ensures { λ r. ⌜ r ≡ readNames (now (file .entry)) (now (lent .entry)) (now (own .entry)) cursor ⌝ }
 {
-    let from = cursor.at + 12;
+    let at = cursor.at;
+    let from = at + 12;
     if file.len() < from {
-        return Block::Faulty(Fault::CutShort);
+        return Block::Faulty(Fault::CutShort, file.len());
     }
-    let start = cursor.at + 2;
+    let start = at + 2;
     let end = start + names::NAME;
     let definition = names::look_up(own, lent, &file[start..end]);
     match definition {
-        Definition::Missing => Block::Faulty(Fault::NameUnknown),
+        Definition::Missing => Block::Faulty(Fault::NameUnknown, at + 2),
         Definition::Own(index) => Block::Update {
             source: Source::OwnName(index),
             from,
@@ -228,17 +232,18 @@ fn read_new_name(file: &[u8], cursor: Cursor) -> Block
     requires { ⌜ (length (now file) ≤ 65536) × (cursor .at ≤ length (now file)) × Packed (cursor .table) ⌝ }
     ensures { λ r. ⌜ r ≡ readNewName (now (file .entry)) cursor ⌝ }
 {
-    if file.len() < cursor.at + 13 {
-        return Block::Faulty(Fault::CutShort);
+    let at = cursor.at;
+    if file.len() < at + 13 {
+        return Block::Faulty(Fault::CutShort, file.len());
     }
-    let number = words::wide(file[cursor.at + 2]);
+    let number = words::wide(file[at + 2]);
     if items::LAST_NUMBER < number {
-        return Block::Faulty(Fault::NotKnown);
+        return Block::Faulty(Fault::NotKnown, at + 2);
     }
     let table = cursor.table;
     let slot = table[number];
     if !slot.taken {
-        return Block::Faulty(Fault::BlockMissing);
+        return Block::Faulty(Fault::BlockMissing, at + 2);
     }
     read_address(file, cursor, slot)
 }
@@ -248,19 +253,20 @@ fn read_address(file: &[u8], cursor: Cursor, slot: Slot) -> Block
     requires { ⌜ (length (now file) ≤ 65536) × (cursor .at + 13 ≤ length (now file)) × (slot .address + slot .size ≤ 65535) ⌝ }
     ensures { λ r. ⌜ r ≡ readAddress (now (file .entry)) cursor slot ⌝ }
 {
-    let offset = words::word_at(file, cursor.at + 3);
+    let at = cursor.at;
+    let offset = words::word_at(file, at + 3);
     if offset < slot.offset {
-        return Block::Faulty(Fault::NameOutsideBlock);
+        return Block::Faulty(Fault::NameOutsideBlock, at + 3);
     }
     let inside = offset - slot.offset;
     if slot.size <= inside {
-        return Block::Faulty(Fault::NameOutsideBlock);
+        return Block::Faulty(Fault::NameOutsideBlock, at + 3);
     }
     if NEW_NAMES <= cursor.named {
-        return Block::Faulty(Fault::TooManyNames);
+        return Block::Faulty(Fault::TooManyNames, at + 5);
     }
     Block::NewName {
-        from: cursor.at + 5,
+        from: at + 5,
         address: slot.address + inside,
     }
 }

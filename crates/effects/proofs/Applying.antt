@@ -78,8 +78,9 @@ module _ (file lent own : List ℕ) (c : Cursor) (b : Block) (write : Bool) (m p
   unfolding adjustedIn
   applied-name from address e = rw e (did-none (Done (from + 8) 0) write m p)
 
-  pub applied-faulty : (fault : Fault) → b ≡ Faulty fault → Did Ended (ended (applied file lent own c b p)) write m p (Broken fault) m p
-  applied-faulty fault e = rw e (did-none (Broken fault) write m p)
+  pub applied-faulty : (fault : Fault) (offset : ℕ) → b ≡ Faulty fault offset
+      → Did Ended (ended (applied file lent own c b p)) write m p (Broken fault offset) m p
+  applied-faulty fault offset e = rw e (did-none (Broken fault offset) write m p)
 
 -- what a block asks for lies where it says
 module _ (len : ℕ) (c : Cursor) (lent own : ℕ) (b : Block) (f : Fits len c lent own b) where
@@ -106,7 +107,7 @@ stored-none file (Plain address from size) named ns ads t = record { names = ref
 stored-none file (Relocatable reserves number offset from size) named ns ads t = record { names = refl; addresses = refl }
 stored-none file (Update source from) named ns ads t = record { names = refl; addresses = refl }
 stored-none file (NewName from address) named ns ads t = absurd (miss (0 ∷ 1 ∷ 2 ∷ 4 ∷ []) 3 tt t)
-stored-none file (Faulty fault) named ns ads t = record { names = refl; addresses = refl }
+stored-none file (Faulty fault offset) named ns ads t = record { names = refl; addresses = refl }
 
 -- a new name stands behind those before it, and so does its address
 pub stored-name : (file : List ℕ) (b : Block) (named from address : ℕ) (ns ads w : List ℕ) → b ≡ NewName from address

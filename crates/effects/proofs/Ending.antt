@@ -56,7 +56,7 @@ applied-ends file lent own c (NewName from address) map n k f next e =
     let l = f .lies in
     let t : from + 8 ≡ next = done-same e in
     record { further = omega (arith, l .0); inside = omega (arith, l .1); behind = omega (arith, l .0) }
-applied-ends file lent own c (Faulty fault) map n k f next e = absurd (broken-done e)
+applied-ends file lent own c (Faulty fault offset) map n k f next e = absurd (broken-done e)
 
 -- and there the cursor stands
 pub advanced-at : (file lent own : List ℕ) (c : Cursor) (b : Block) (map : List ℕ) (next : ℕ) → applied file lent own c b map .answer ≡ done next
@@ -65,7 +65,7 @@ advanced-at file lent own c (Plain address from size) map next e = refl
 advanced-at file lent own c (Relocatable reserves number offset from size) map next e = refl
 advanced-at file lent own c (Update source from) map next e = refl
 advanced-at file lent own c (NewName from address) map next e = refl
-advanced-at file lent own c (Faulty fault) map next e = absurd (broken-done e)
+advanced-at file lent own c (Faulty fault offset) map next e = absurd (broken-done e)
 
 -- the events so far are no more than the bytes behind the cursor
 pub record Behind (len : ℕ) (c : Cursor) (es : List Event) : Type 0 where
@@ -92,13 +92,13 @@ placed-by file lent own c (Relocatable false number offset from size) map n k f 
     let l = length-part file from size (f .lies .1) in omega (arith, l)
 placed-by file lent own c (Update source from) map n k f next e = body-places-none file (c .table) _ from map
 placed-by file lent own c (NewName from address) map n k f next e = refl
-placed-by file lent own c (Faulty fault) map n k f next e = refl
+placed-by file lent own c (Faulty fault offset) map n k f next e = refl
 
 -- an end in the program's terms is the same end in the definition's
-pub stop-broken : (s : Stop) (es : List Event) (fault : Fault) → counted s es ≡ Broken fault → s ≡ broken fault
-stop-broken (broken f) es fault e = cc
-stop-broken (done next) es fault e = let z : _≡_ {A = ℕ} 0 1 = cc in absurd (omega arith)
+pub stop-broken : (s : Stop) (es : List Event) (fault : Fault) (offset : ℕ) → counted s es ≡ Broken fault offset → s ≡ broken fault offset
+stop-broken (broken f i) es fault offset e = cc
+stop-broken (done next) es fault offset e = let z : _≡_ {A = ℕ} 0 1 = cc in absurd (omega arith)
 
 pub stop-done : (s : Stop) (es : List Event) (next adjusted : ℕ) → counted s es ≡ Done next adjusted → (s ≡ done next) × (adjustedIn es ≡ adjusted)
-stop-done (broken f) es next adjusted e = let z : _≡_ {A = ℕ} 0 1 = cc in absurd (omega arith)
+stop-done (broken f i) es next adjusted e = let z : _≡_ {A = ℕ} 0 1 = cc in absurd (omega arith)
 stop-done (done k) es next adjusted e = (cc, cc)

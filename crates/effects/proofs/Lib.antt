@@ -2,3 +2,4 @@
 pub mod Applying
 pub mod Ending
 pub mod NewNames
+pub mod Faults

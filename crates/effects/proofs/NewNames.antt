@@ -66,7 +66,7 @@ counted-on file c (NewName from address) next lent own names addresses f h =
       each = length-append addresses (address ∷ []) ∙ omega (arith, h .each);
       few = omega (arith, l .2);
     }
-counted-on file c (Faulty fault) next lent own names addresses f h = counted-same c _ names addresses refl h
+counted-on file c (Faulty fault offset) next lent own names addresses f h = counted-same c _ names addresses refl h
 
 -- ---- the table
 
@@ -105,4 +105,4 @@ tabled-on c (Relocatable reserves number offset from size) next len lent own f h
     }
 tabled-on c (Update source from) next len lent own f h = record { slots = h .slots; packed = h .packed; few = h .few }
 tabled-on c (NewName from address) next len lent own f h = record { slots = h .slots; packed = h .packed; few = h .few }
-tabled-on c (Faulty fault) next len lent own f h = h
+tabled-on c (Faulty fault offset) next len lent own f h = h

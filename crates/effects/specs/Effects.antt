@@ -29,7 +29,7 @@ applied file lent own c (Plain address from size) map = placing file address fro
 applied file lent own c (Relocatable reserves number offset from size) map = placingRelocatable reserves file (c .low) from size
 applied file lent own c (Update source from) map = body file (c .table) (amountOf (c .table) lent own source) from map
 applied file lent own c (NewName from address) map = record { answer = done (from + nameSize); events = [] }
-applied file lent own c (Faulty fault) map = record { answer = broken fault; events = [] }
+applied file lent own c (Faulty fault offset) map = record { answer = broken fault offset; events = [] }
 
 -- what a block did: where it begins, what it says (a body with what its words grow by: a block, a lent name, a name of the file), its events
 pub record Effect : Type 0 where
@@ -62,7 +62,7 @@ advanced c (Plain address from size) next = movedOn c next (c .named)
 advanced c (Relocatable reserves number offset from size) next = withBlock c number offset size next
 advanced c (Update source from) next = movedOn c next (c .named)
 advanced c (NewName from address) next = movedOn c next (c .named + 1)
-advanced c (Faulty fault) next = c
+advanced c (Faulty fault offset) next = c
 
 -- the name that a block brings
 abbrev pub nameIn : List ℕ → Block → List ℕ
@@ -70,7 +70,7 @@ nameIn file (Plain address from size) = []
 nameIn file (Relocatable reserves number offset from size) = []
 nameIn file (Update source from) = []
 nameIn file (NewName from address) = part file from nameSize
-nameIn file (Faulty fault) = []
+nameIn file (Faulty fault offset) = []
 
 -- and the address of that name
 abbrev pub addressIn : Block → List ℕ
@@ -78,7 +78,7 @@ addressIn (Plain address from size) = []
 addressIn (Relocatable reserves number offset from size) = []
 addressIn (Update source from) = []
 addressIn (NewName from address) = address ∷ []
-addressIn (Faulty fault) = []
+addressIn (Faulty fault offset) = []
 
 -- the bytes that a block places
 abbrev pub placedBy : Block → ℕ
@@ -86,4 +86,4 @@ placedBy (Plain address from size) = size
 placedBy (Relocatable reserves number offset from size) = dataSize reserves size
 placedBy (Update source from) = 0
 placedBy (NewName from address) = 0
-placedBy (Faulty fault) = 0
+placedBy (Faulty fault offset) = 0

@@ -68,7 +68,7 @@ pub fn apply(
             next: from + names::NAME,
             adjusted: 0,
         },
-        Block::Faulty(fault) => Ended::Broken(fault),
+        Block::Faulty(fault, offset) => Ended::Broken(fault, offset),
     }
 }
 
@@ -111,7 +111,7 @@ pub fn placed_by(found: Block) -> usize
         } => blocks::data_size(reserves, size),
         Block::Update { source, from } => 0,
         Block::NewName { from, address } => 0,
-        Block::Faulty(fault) => 0,
+        Block::Faulty(fault, offset) => 0,
     }
 }
 
@@ -135,7 +135,7 @@ pub fn advance(cursor: Cursor, found: Block, next: usize) -> Cursor
         } => add_block(cursor, number, offset, size, next),
         Block::Update { source, from } => pass(cursor, next, cursor.named),
         Block::NewName { from, address } => pass(cursor, next, cursor.named + 1),
-        Block::Faulty(fault) => cursor,
+        Block::Faulty(fault, offset) => cursor,
     }
 }
 

@@ -12,7 +12,7 @@ use Rattle.events.specs.declared.Check.{Check}
 use Rattle.events.specs.declared.Check.the-variants.{Passed, Failed}
 
 -- a check that failed did not pass
-pub failed-passed : {fault : Fault} → Failed fault ≡ Passed → ⊥
+pub failed-passed : {fault : Fault} {offset : ℕ} → Failed fault offset ≡ Passed → ⊥
 failed-passed e = let n : _≡_ {A = ℕ} 0 1 = cc in omega arith
 
 -- a part of the work that passed, by its answer and its events
@@ -20,13 +20,15 @@ pub passed-is : (o : Ran Check) {es : List Event} → o .answer ≡ Passed → o
 passed-is o e f = ap (λ (c : Check). record { answer = c; events = o .events }) e ∙ ap passed f
 
 -- what passes a check holds it, and the rest decides
-pub check-passed : (c : Bool) (fault : Fault) (rest : Check) → need Failed c fault rest ≡ Passed → (c ≡ true) × (rest ≡ Passed)
+pub check-passed : (c : Bool) (fault : Fault) (offset : ℕ) (rest : Check) → need Failed c fault offset rest ≡ Passed
+    → (c ≡ true) × (rest ≡ Passed)
 unfolding need
-check-passed true fault rest e = (refl, e)
-check-passed false fault rest e = absurd (failed-passed e)
+check-passed true fault offset rest e = (refl, e)
+check-passed false fault offset rest e = absurd (failed-passed e)
 
 -- the same of a part of the work
-pub need-passed : (c : Bool) (fault : Fault) (o : Ran Check) → need failed c fault o .answer ≡ Passed → (c ≡ true) × (need failed c fault o ≡ o)
+pub need-passed : (c : Bool) (fault : Fault) (offset : ℕ) (o : Ran Check) → need failed c fault offset o .answer ≡ Passed
+    → (c ≡ true) × (need failed c fault offset o ≡ o)
 unfolding need
-need-passed true fault o e = (refl, refl)
-need-passed false fault o e = absurd (failed-passed e)
+need-passed true fault offset o e = (refl, refl)
+need-passed false fault offset o e = absurd (failed-passed e)

@@ -74,8 +74,8 @@ pub record Ran (A : Type 0) : Type 0 where
   pub events : List Event
 
 -- a check that failed, with no event; one that passed, with its events
-abbrev pub failed : Fault → Ran Check
-failed fault = record { answer = Failed fault; events = [] }
+abbrev pub failed : Fault → ℕ → Ran Check
+failed fault offset = record { answer = Failed fault offset; events = [] }
 
 abbrev pub passed : List Event → Ran Check
 passed es = record { answer = Passed; events = es }

@@ -20,10 +20,10 @@ pub const RESERVED: u8 = 2;
 
 pub const ADJUSTED: u8 = 3;
 
-// What became of a part of the work.
+// What became of a part of the work: it passed, or failed with a fault at an offset of the file.
 pub enum Check {
     Passed,
-    Failed(Fault),
+    Failed(Fault, usize),
 }
 
 // Places bytes from `at` on.

@@ -2,7 +2,7 @@
 -- Assumes nothing.
 use mathlib.Core.List.{List, [], _∷_, _++_}
 use mathlib.Core.Path.{_≡_, refl, sym, ap, _∙_}
-use Prim.Native.Nat.{ℕ, suc, _+_, _/_, _≤_, _<_}
+use Prim.Native.Nat.{ℕ, suc, _+_, _*_, _/_, _≤_, _<_}
 use native.Mathlib.Omega.{arith}
 use lib.ListN.{length, getD, drop, length-drop, drop-of-length-le}
 use lib.Seq.{drop-cons}
@@ -130,6 +130,14 @@ length-fields LowByte items = let e = length-singles LowByte items in omega arit
 length-fields ZeroPageByte items = let e = length-singles ZeroPageByte items in omega arith
 length-fields Word items = let e = length-singles Word items in omega arith
 length-fields HighByte items = length-pairs items
+
+-- whose items are no more than the bytes
+pub items-fit : (fixup : Fixup) (items : List ℕ) → length (fieldsOf fixup items) * itemSize fixup ≤ length items
+unfolding fieldsOf
+items-fit LowByte items = let e = length-singles LowByte items in omega arith
+items-fit ZeroPageByte items = let e = length-singles ZeroPageByte items in omega arith
+items-fit Word items = let e = length-singles Word items in omega arith
+items-fit HighByte items = let e = length-pairs items in omega arith
 
 -- there are at most as many fields as bytes
 pub fields-fit : (fixup : Fixup) (items : List ℕ) → length (fieldsOf fixup items) ≤ length items

@@ -8,6 +8,7 @@ use native.Mathlib.Omega.{arith}
 use borrow.Author.Tests.{le-leb, lt-leb, lt-ltb, le-ltb, leb-true, ltb-true}
 use lib.ListN.{length, getD}
 use Rattle.answer.proofs.Checks.{on-need, on-pick}
+use Rattle.answer.proofs.Faults.{isEarly, OfFile}
 use Rattle.answer.specs.Checks.{need, pick}
 use Rattle.answer.specs.declared.Fault.{Fault}
 use Rattle.answer.specs.declared.Fault.the-variants.{CutShort, NotKnown, BlockMissing, CounterUnusable}
@@ -21,18 +22,18 @@ use Rattle.items.specs.declared.Slot.{Slot}
 
 -- ---- 00 to FB
 
-module _ (amount next : ℕ) (counter : Counter) where
+module _ (at amount : ℕ) (counter : Counter) where
   -- nothing to add to
-  pub adding-unset : counter ≡ Unset → Faulty CounterUnusable ≡ adding amount next counter
+  pub adding-unset : counter ≡ Unset → Faulty CounterUnusable at ≡ adding at amount counter
   adding-unset e = rw e refl
 
   -- a sum where no word lies
-  pub adding-high : (from : ℕ) → counter ≡ Set from → 65534 < from + amount → Faulty CounterUnusable ≡ adding amount next counter
+  pub adding-high : (from : ℕ) → counter ≡ Set from → 65534 < from + amount → Faulty CounterUnusable at ≡ adding at amount counter
   unfolding need
   adding-high from e h = rw (e, lt-leb _ _ h) refl
 
   -- a word to adjust
-  pub adding-there : (from : ℕ) → counter ≡ Set from → from + amount ≤ 65534 → Adjust (from + amount) next ≡ adding amount next counter
+  pub adding-there : (from : ℕ) → counter ≡ Set from → from + amount ≤ 65534 → Adjust (from + amount) (at + 1) ≡ adding at amount counter
   unfolding need
   adding-there from e h = rw (e, le-leb _ _ h) refl
 
@@ -40,12 +41,12 @@ module _ (amount next : ℕ) (counter : Counter) where
 
 module _ (file : List ℕ) (at : ℕ) where
   -- no word left
-  pub setting-cut : length file < at + 3 → Faulty CutShort ≡ setting file at
+  pub setting-cut : length file < at + 3 → Faulty CutShort (length file) ≡ setting file at
   unfolding setting need
   setting-cut h = rw (lt-leb _ _ h) refl
 
   -- a counter where no word lies
-  pub setting-high : (word : ℕ) → at + 3 ≤ length file → word ≡ value 2 file (at + 1) → 65534 < word → Faulty CounterUnusable ≡ setting file at
+  pub setting-high : (word : ℕ) → at + 3 ≤ length file → word ≡ value 2 file (at + 1) → 65534 < word → Faulty CounterUnusable at ≡ setting file at
   unfolding setting need
   setting-high word h e i = rw (le-leb _ _ h, ← e, lt-leb _ _ i) refl
 
@@ -58,18 +59,18 @@ module _ (file : List ℕ) (at : ℕ) where
 
 module _ (file : List ℕ) (table : List Slot) (at : ℕ) where
   -- no number left
-  pub to-block-cut : length file < at + 2 → Faulty CutShort ≡ settingToBlock file table at
+  pub to-block-cut : length file < at + 2 → Faulty CutShort (length file) ≡ settingToBlock file table at
   unfolding settingToBlock need
   to-block-cut h = rw (lt-leb _ _ h) refl
 
   module _ (number : ℕ) (h : at + 2 ≤ length file) (e : number ≡ getD file (at + 1) 0) where
     -- no number of a block
-    pub to-block-unknown : 7 < number → Faulty NotKnown ≡ settingToBlock file table at
+    pub to-block-unknown : 7 < number → Faulty NotKnown at ≡ settingToBlock file table at
     unfolding settingToBlock need
     to-block-unknown i = rw (le-leb _ _ h, ← e, lt-leb _ _ i) refl
 
     -- a block that is not there
-    pub to-block-missing : number ≤ 7 → slotAt table number .taken ≡ false → Faulty BlockMissing ≡ settingToBlock file table at
+    pub to-block-missing : number ≤ 7 → slotAt table number .taken ≡ false → Faulty BlockMissing at ≡ settingToBlock file table at
     unfolding settingToBlock need
     to-block-missing i t = rw (le-leb _ _ h, ← e, le-leb _ _ i, t) refl
 
@@ -80,18 +81,18 @@ module _ (file : List ℕ) (table : List Slot) (at : ℕ) where
 
 -- ---- FF
 
-module _ (next : ℕ) (counter : Counter) where
+module _ (at : ℕ) (counter : Counter) where
   -- nothing to add to
-  pub skipping-unset : counter ≡ Unset → Faulty CounterUnusable ≡ skipping next counter
+  pub skipping-unset : counter ≡ Unset → Faulty CounterUnusable at ≡ skipping at counter
   skipping-unset e = rw e refl
 
   -- a sum past the last address
-  pub skipping-high : (from : ℕ) → counter ≡ Set from → 65535 < from + skipped → Faulty CounterUnusable ≡ skipping next counter
+  pub skipping-high : (from : ℕ) → counter ≡ Set from → 65535 < from + skipped → Faulty CounterUnusable at ≡ skipping at counter
   unfolding need
   skipping-high from e h = rw (e, lt-leb _ _ h) refl
 
   -- the counter further on
-  pub skipping-there : (from : ℕ) → counter ≡ Set from → from + skipped ≤ 65535 → Move (from + skipped) next ≡ skipping next counter
+  pub skipping-there : (from : ℕ) → counter ≡ Set from → from + skipped ≤ 65535 → Move (from + skipped) (at + 1) ≡ skipping at counter
   unfolding need
   skipping-there from e h = rw (e, le-leb _ _ h) refl
 
@@ -99,13 +100,13 @@ module _ (next : ℕ) (counter : Counter) where
 
 module _ (file : List ℕ) (table : List Slot) (at : ℕ) (counter : Counter) where
   -- none left
-  pub reading-cut : length file ≤ at → Faulty CutShort ≡ read file table at counter
+  pub reading-cut : length file ≤ at → Faulty CutShort (length file) ≡ read file table at counter
   unfolding read need
   reading-cut h = rw (le-ltb _ _ h) refl
 
   module _ (h : at < length file) where
     -- each kind by its byte: 00 to FB, FC, FD, FE and FF
-    pub reading-add : (r : Item) → getD file at 0 ≤ 0xFB → r ≡ adding (getD file at 0) (at + 1) counter → r ≡ read file table at counter
+    pub reading-add : (r : Item) → getD file at 0 ≤ 0xFB → r ≡ adding at (getD file at 0) counter → r ≡ read file table at counter
     unfolding read need pick
     reading-add r i e = rw (lt-ltb _ _ h, le-leb _ _ i) e
 
@@ -121,15 +122,16 @@ module _ (file : List ℕ) (table : List Slot) (at : ℕ) (counter : Counter) wh
     unfolding read need pick
     reading-set-to-block r i e = rw (lt-ltb _ _ h, i) e
 
-    pub reading-skip : (r : Item) → getD file at 0 ≡ 0xFF → r ≡ skipping (at + 1) counter → r ≡ read file table at counter
+    pub reading-skip : (r : Item) → getD file at 0 ≡ 0xFF → r ≡ skipping at counter → r ≡ read file table at counter
     unfolding read need pick
     reading-skip r i e = rw (lt-ltb _ _ h, i) e
 
 -- ---- an item lies in its file, and the word that it adjusts in memory
 
--- where an item that begins at `at` ends, in a file of `len` bytes, and the counter of a word to adjust
+-- where an item that begins at `at` ends, in a file of `len` bytes, and the counter of a word to adjust; a fault is one that such a file may be
+-- refused with
 abbrev pub Where : ℕ → ℕ → Item → Type 0
-Where len at (Faulty fault) = Unit {0}
+Where len at (Faulty fault offset) = OfFile len fault offset
 Where len at (End next) = (at < next) × (next ≤ len)
 Where len at (Move counter next) = (at < next) × (next ≤ len)
 Where len at (Adjust counter next) = (at < next) × (next ≤ len) × (counter ≤ 65534)
@@ -138,46 +140,49 @@ Where len at (Adjust counter next) = (at < next) × (next ≤ len) × (counter �
 pub record Lies (len at : ℕ) (item : Item) : Type 0 where
   pub lies : Where len at item
 
--- a fault lies nowhere
-bad : (len at : ℕ) (fault : Fault) → Lies len at (Faulty fault)
-bad len at fault = record { lies = tt }
+-- a fault of an item, at an offset of the file
+bad : {len at : ℕ} {fault : Fault} {offset : ℕ} → isEarly fault ≡ false → offset ≤ len → Lies len at (Faulty fault offset)
+bad l w = record { lies = record { late = l; within = w } }
 
 -- 00 to FB
-adding-lies : (len at amount : ℕ) (counter : Counter) → at < len → Lies len at (adding amount (at + 1) counter)
-adding-lies len at amount Unset h = bad len at _
+adding-lies : (len at amount : ℕ) (counter : Counter) → at < len → Lies len at (adding at amount counter)
+adding-lies len at amount Unset h = bad refl (omega arith)
 adding-lies len at amount (Set from) h =
-    on-need Faulty (Lies len at) (bad _ _) _ _ _ (λ i. record { lies = (omega arith, omega arith, leb-true _ _ i) })
+    on-need Faulty (Lies len at) _ _ _ _ (bad refl (omega arith)) (λ i. record { lies = (omega arith, omega arith, leb-true _ _ i) })
 
 -- FD
 setting-lies : (file : List ℕ) (at : ℕ) → Lies (length file) at (setting file at)
 unfolding setting
 setting-lies file at =
     let P = Lies (length file) at in
-    on-need Faulty P (bad _ _) _ _ _
-    (λ h. on-need Faulty P (bad _ _) _ _ _
-    (λ i. record { lies = (omega arith, leb-true _ _ h, leb-true _ _ i) }))
+    on-need Faulty P _ _ _ _ (bad refl (omega arith))
+    (λ h. let present : at + 3 ≤ length file = leb-true _ _ h in
+    on-need Faulty P _ _ _ _ (bad refl (omega arith))
+    (λ i. record { lies = (omega arith, present, leb-true _ _ i) }))
 
 -- FE
 to-block-lies : (file : List ℕ) (table : List Slot) (at : ℕ) → Lies (length file) at (settingToBlock file table at)
 unfolding settingToBlock
 to-block-lies file table at =
     let P = Lies (length file) at in
-    on-need Faulty P (bad _ _) _ _ _
-    (λ h. on-need Faulty P (bad _ _) _ _ _
-    (λ _. on-need Faulty P (bad _ _) _ _ _
-    (λ _. record { lies = (omega arith, leb-true _ _ h) })))
+    on-need Faulty P _ _ _ _ (bad refl (omega arith))
+    (λ h. let present : at + 2 ≤ length file = leb-true _ _ h in
+    on-need Faulty P _ _ _ _ (bad refl (omega arith))
+    (λ _. on-need Faulty P _ _ _ _ (bad refl (omega arith))
+    (λ _. record { lies = (omega arith, present) })))
 
 -- FF
-skipping-lies : (len at : ℕ) (counter : Counter) → at < len → Lies len at (skipping (at + 1) counter)
-skipping-lies len at Unset h = bad len at _
-skipping-lies len at (Set from) h = on-need Faulty (Lies len at) (bad _ _) _ _ _ (λ _. record { lies = (omega arith, omega arith) })
+skipping-lies : (len at : ℕ) (counter : Counter) → at < len → Lies len at (skipping at counter)
+skipping-lies len at Unset h = bad refl (omega arith)
+skipping-lies len at (Set from) h =
+    on-need Faulty (Lies len at) _ _ _ _ (bad refl (omega arith)) (λ _. record { lies = (omega arith, omega arith) })
 
 -- the item at an offset lies in the file, whatever its byte
 pub read-lies : (file : List ℕ) (table : List Slot) (at : ℕ) (counter : Counter) → Lies (length file) at (read file table at counter)
 unfolding read
 read-lies file table at counter =
     let P = Lies (length file) at in
-    on-need Faulty P (bad _ _) _ _ _
+    on-need Faulty P _ _ _ _ (bad refl (omega arith))
     (λ h. on-pick P _ _ _ (λ _. adding-lies (length file) at _ counter (ltb-true _ _ h))
     (λ _. on-pick P _ _ _ (λ _. end-lies (ltb-true _ _ h))
     (λ _. on-pick P _ _ _ (λ _. setting-lies file at)

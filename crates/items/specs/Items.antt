@@ -1,5 +1,6 @@
 -- One item of an update body, with no map in mind: "00 to FB adds that amount, then adjusts the word at the counter. FC ends. FD with a word
 -- sets the counter there and adjusts. FE with a number sets it to that block's address and adjusts nothing. FF adds 250 and adjusts nothing."
+-- Whatever is wrong with an item, the offset is its own: document 02, wish 6, "in update bodies .. the item, for 5 the file's length".
 -- Assumes nothing.
 use mathlib.Core.Bool.{false}
 use mathlib.Core.List.{List}
@@ -29,23 +30,23 @@ lastNumber = 7
 
 -- 00 to FB: "counter set where one is added (11); counter at most .. 65,534 to adjust (11)"
 abbrev pub adding : ℕ → ℕ → Counter → Item
-adding amount next Unset = Faulty CounterUnusable
-adding amount next (Set counter) = need Faulty (leb (counter + amount) 65534) CounterUnusable (Adjust (counter + amount) next)
+adding at amount Unset = Faulty CounterUnusable at
+adding at amount (Set counter) = need Faulty (leb (counter + amount) 65534) CounterUnusable at (Adjust (counter + amount) (at + 1))
 
 -- FD: "present (5)", then "at most .. 65,534 to adjust (11)"
 unfoldable pub setting : List ℕ → ℕ → Item
 setting file at =
-    need Faulty (leb (at + 3) (length file)) CutShort
-    (need Faulty (leb (value 2 file (at + 1)) 65534) CounterUnusable
+    need Faulty (leb (at + 3) (length file)) CutShort (length file)
+    (need Faulty (leb (value 2 file (at + 1)) 65534) CounterUnusable at
     (Adjust (value 2 file (at + 1)) (at + 3)))
 
 -- FE: "present (5); for FE, number (6), block there (8)"
 unfoldable pub settingToBlock : List ℕ → List Slot → ℕ → Item
 settingToBlock file table at =
     let slot = slotAt table (getD file (at + 1) 0) in
-    need Faulty (leb (at + 2) (length file)) CutShort
-    (need Faulty (leb (getD file (at + 1) 0) lastNumber) NotKnown
-    (need Faulty (slot .taken) BlockMissing
+    need Faulty (leb (at + 2) (length file)) CutShort (length file)
+    (need Faulty (leb (getD file (at + 1) 0) lastNumber) NotKnown at
+    (need Faulty (slot .taken) BlockMissing at
     (Move (slot .address) (at + 2))))
 
 -- "FF adds 250"
@@ -54,16 +55,16 @@ skipped = 250
 
 -- FF: "counter set where one is added (11); counter at most 65,535"
 abbrev pub skipping : ℕ → Counter → Item
-skipping next Unset = Faulty CounterUnusable
-skipping next (Set counter) = need Faulty (leb (counter + skipped) 65535) CounterUnusable (Move (counter + skipped) next)
+skipping at Unset = Faulty CounterUnusable at
+skipping at (Set counter) = need Faulty (leb (counter + skipped) 65535) CounterUnusable at (Move (counter + skipped) (at + 1))
 
 -- the item at an offset, with the counter as the items before it left it: "Each item: present (5)", and then as its byte says
 unfoldable pub read : List ℕ → List Slot → ℕ → Counter → Item
 read file table at counter =
     let byte = getD file at 0 in
-    need Faulty (ltb at (length file)) CutShort
-    (pick (leb byte 0xFB) (adding byte (at + 1) counter)
+    need Faulty (ltb at (length file)) CutShort (length file)
+    (pick (leb byte 0xFB) (adding at byte counter)
     (pick (eqb byte 0xFC) (End (at + 1))
     (pick (eqb byte 0xFD) (setting file at)
     (pick (eqb byte 0xFE) (settingToBlock file table at)
-    (skipping (at + 1) counter)))))
+    (skipping at counter)))))

@@ -25,9 +25,9 @@ pub enum Counter {
     Set(u16),
 }
 
-// What an item says: the body's end, a counter that only moves, or one where a word is adjusted; and where the next item begins.
+// What an item says: a fault and its offset; the body's end, a counter that only moves, or one where a word is adjusted, and where the next item begins.
 pub enum Item {
-    Faulty(Fault),
+    Faulty(Fault, usize),
     End(usize),
     Move { counter: u16, next: usize },
     Adjust { counter: u16, next: usize },
@@ -39,32 +39,33 @@ pub fn read(file: &[u8], table: [Slot; 8], at: usize, counter: Counter) -> Item
     ensures { λ r. ⌜ r ≡ readOf (now (file .entry)) table at counter ⌝ }
 {
     if file.len() <= at {
-        return Item::Faulty(Fault::CutShort);
+        return Item::Faulty(Fault::CutShort, file.len());
     }
     let byte = file[at];
     match byte {
-        0..=251 => add(byte, at + 1, counter),
+        0..=251 => add(at, byte, counter),
         252 => Item::End(at + 1),
         253 => set(file, at),
         254 => set_to_block(file, table, at),
-        255 => skip(at + 1, counter),
+        255 => skip(at, counter),
     }
 }
 
 // 00 to FB: the amount on the counter, where a word is then adjusted.
-fn add(amount: u8, next: usize, counter: Counter) -> Item
-    ensures { λ r. ⌜ r ≡ adding amount next counter ⌝ }
+fn add(at: usize, amount: u8, counter: Counter) -> Item
+    requires { ⌜ at ≤ 65536 ⌝ }
+    ensures { λ r. ⌜ r ≡ adding at amount counter ⌝ }
 {
     match counter {
-        Counter::Unset => Item::Faulty(Fault::CounterUnusable),
+        Counter::Unset => Item::Faulty(Fault::CounterUnusable, at),
         Counter::Set(from) => {
             let to = from as usize + amount as usize;
             if 65534 < to {
-                return Item::Faulty(Fault::CounterUnusable);
+                return Item::Faulty(Fault::CounterUnusable, at);
             }
             Item::Adjust {
                 counter: to as u16,
-                next,
+                next: at + 1,
             }
         }
     }
@@ -77,11 +78,11 @@ fn set(file: &[u8], at: usize) -> Item
 {
     let next = at + 3;
     if file.len() < next {
-        return Item::Faulty(Fault::CutShort);
+        return Item::Faulty(Fault::CutShort, file.len());
     }
     let counter = words::word_at(file, at + 1);
     if 65534 < counter {
-        return Item::Faulty(Fault::CounterUnusable);
+        return Item::Faulty(Fault::CounterUnusable, at);
     }
     Item::Adjust { counter, next }
 }
@@ -93,15 +94,15 @@ fn set_to_block(file: &[u8], table: [Slot; 8], at: usize) -> Item
 {
     let next = at + 2;
     if file.len() < next {
-        return Item::Faulty(Fault::CutShort);
+        return Item::Faulty(Fault::CutShort, file.len());
     }
     let number = words::wide(file[at + 1]);
     if LAST_NUMBER < number {
-        return Item::Faulty(Fault::NotKnown);
+        return Item::Faulty(Fault::NotKnown, at);
     }
     let slot = table[number];
     if !slot.taken {
-        return Item::Faulty(Fault::BlockMissing);
+        return Item::Faulty(Fault::BlockMissing, at);
     }
     Item::Move {
         counter: slot.address,
@@ -110,19 +111,20 @@ fn set_to_block(file: &[u8], table: [Slot; 8], at: usize) -> Item
 }
 
 // FF: the counter further on.
-fn skip(next: usize, counter: Counter) -> Item
-    ensures { λ r. ⌜ r ≡ skipping next counter ⌝ }
+fn skip(at: usize, counter: Counter) -> Item
+    requires { ⌜ at ≤ 65536 ⌝ }
+    ensures { λ r. ⌜ r ≡ skipping at counter ⌝ }
 {
     match counter {
-        Counter::Unset => Item::Faulty(Fault::CounterUnusable),
+        Counter::Unset => Item::Faulty(Fault::CounterUnusable, at),
         Counter::Set(from) => {
             let to = from as usize + SKIP;
             if 65535 < to {
-                return Item::Faulty(Fault::CounterUnusable);
+                return Item::Faulty(Fault::CounterUnusable, at);
             }
             Item::Move {
                 counter: to as u16,
-                next,
+                next: at + 1,
             }
         }
     }

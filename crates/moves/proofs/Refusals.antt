@@ -3,11 +3,12 @@
 use mathlib.Core.Bool.{Bool, true, false, false≢true}
 use mathlib.Core.List.{List}
 use mathlib.Core.Path.{_≡_, refl, sym, ap, _∙_, subst}
-use Prim.Native.Nat.{ℕ}
+use Prim.Native.Nat.{ℕ, _≤_}
 use native.Mathlib.Omega.{arith}
 use borrow.Author.Tests.{leb-false}
 use lib.Dec.{leb}
 use lib.ListN.{length}
+use Rattle.acx.proofs.Faults.{load-offset}
 use Rattle.acx.proofs.Refusals.{refuses-sized, refuses-range, refuses-long}
 use Rattle.acx.proofs.Rules.{by-rules}
 use Rattle.acx.specs.Call.{inRange, load}
@@ -15,7 +16,7 @@ use Rattle.acx.specs.Rules.{Refuses, out-of-range, too-long}
 use Rattle.acx.specs.Walk.{Verdict, accepted, refused, report}
 use Rattle.answer.proofs.Outcomes.{isRefused, faultIn}
 use Rattle.answer.specs.Checks.{need, pick}
-use Rattle.answer.specs.Report.{numberOf}
+use Rattle.answer.specs.Report.{numberOf, offsetOf}
 use Rattle.answer.specs.declared.Fault.{Fault}
 use Rattle.answer.specs.declared.Fault.the-variants.{WrongBuffer, SettingOutOfRange, FileTooLong}
 use Rattle.answer.specs.declared.Outcome.{Outcome}
@@ -77,6 +78,29 @@ module _ (file : List ℕ) (c : Call) (m : List ℕ) where
             (at-new (start, by-rules (c .form) (c .old) file .accepts-only ps start eu) (by-rules (c .form) (c .new) file .refuses-only f a ev)) e
         by (accepted ps start) (accepted qs start′) eu ev e =
             absurd (false≢true (ap (λ (v : Verdict). isRefused (report v (n .events))) (sym ev) ∙ ap isRefused e))
+
+  -- the offset of a call is that of a load, or 0
+  outcome-offset : offsetOf (outcomeOf file c m) ≤ length file
+  outcome-offset = by (sized c m) refl
+    where
+      o : Ran Verdict
+      o = load (c .form) (c .old) file
+
+      n : Ran Verdict
+      n = load (c .form) (c .new) file
+
+      sided : (u v : Verdict) → o .answer ≡ u → n .answer ≡ v → offsetOf (outcomeBy n (sides u v)) ≤ length file
+      sided (refused f a) v eu ev =
+          let h : offsetOf (report (refused f a) (o .events)) ≤ length file = rw eu at (load-offset (c .form) (c .old) file) in
+          h
+      sided (accepted ps start) (refused f a) eu ev =
+          let h : offsetOf (report (refused f a) (n .events)) ≤ length file = rw ev at (load-offset (c .form) (c .new) file) in
+          h
+      sided (accepted ps start) (accepted qs start′) eu ev = load-offset (c .form) (c .new) file
+
+      by : (t : Bool) → sized c m ≡ t → offsetOf (outcomeOf file c m) ≤ length file
+      by true h = rw (outcome-right h) (sided (o .answer) (n .answer) refl refl)
+      by false h = rw (outcome-wrong h) (omega arith)
 
 -- ---- which fault it is
 
@@ -156,5 +180,6 @@ call-refusals file c m r m′ p′ s′ w =
           (h, l .0, l .1);
       only = λ h fault offset side e. refused-outcome file c m h fault offset side (sym (w .outcome) ∙ e);
       all = λ h fault offset side k. w .outcome ∙ outcome-refused file c m h fault offset side k;
+      offset-fits = rw (w .outcome) (outcome-offset file c m);
       leaves = leaves file c m r m′ p′ s′ w;
     }

@@ -138,7 +138,7 @@ refused-leaves o old new m (refuses fault at side) h e = (refl, refl)
 -- ---- a call that is allowed
 
 -- the buffers have their lengths
-held : (t : Bool) (r : Ruling) (ps : List Piece) → need beforehand t WrongBuffer r ≡ allows ps → (t ≡ true) × (r ≡ allows ps)
+held : (t : Bool) (r : Ruling) (ps : List Piece) → need beforehand t WrongBuffer 0 r ≡ allows ps → (t ≡ true) × (r ≡ allows ps)
 unfolding need
 held true r ps e = (refl, e)
 held false r ps e = absurd (subst Allows (sym e) tt)
@@ -161,7 +161,7 @@ ruling-allows file c m ps e =
 pub allows-ruling : (file : List ℕ) (c : Call) (m : List ℕ) (ps : List Piece) → Allowed file c m ps → ruling file c m ≡ allows ps
 unfolding ruling need
 allows-ruling file c m ps x =
-    ap (λ (t : Bool). need beforehand t WrongBuffer (rulingOf (c .form) (c .old) (c .new) file)) (x .buffers)
+    ap (λ (t : Bool). need beforehand t WrongBuffer 0 (rulingOf (c .form) (c .old) (c .new) file)) (x .buffers)
     ∙ ap (λ (v : Verdict). sides v (load (c .form) (c .new) file .answer)) (load-at file (c .form) ps (c .old) (x .old))
     ∙ ap (λ (v : Verdict). sides (accepted ps (x .old .0)) v) (load-at file (c .form) ps (c .new) (x .new))
 

@@ -61,7 +61,7 @@ pieces =
 loads : LoadsAt hooked pieces 8192
     × LoadsAt hooked pieces 8448
     × LoadsAt hooked pieces 12416
-    × (load 1 (at 0x0201) hooked .answer ≡ refused PiecesOverlap 5)
+    × (load 1 (at 0x0201) hooked .answer ≡ refused PiecesOverlap 7)
 unfolding hooked number value part put allZero contains fieldsOf need readCode readItems readFixups readEnd read marks blank adjustments events placing adjusting ending applied checked turn recordsFrom walk from opening judged load
 loads = (refl, refl, refl, refl)
 
@@ -80,7 +80,7 @@ abbrev pub list : List Answers
 list =
     record { call = asks 1 8192 8448 blank true; answer = movedTo 8448 }
     -- onto its own vector
-    ∷ record { call = asks 1 8448 0x0201 blank true; answer = Refused PiecesOverlap 5 1 }
+    ∷ record { call = asks 1 8448 0x0201 blank true; answer = Refused PiecesOverlap 7 1 }
     ∷ record { call = asks 1 8448 12416 blank true; answer = movedTo 12416 }
     ∷ []
 

@@ -156,7 +156,7 @@ module _ (file : List ℕ) (g : Inputs) (b b′ : Buffers) (o : Outcome) (known 
           (words-in ∙ d .addresses ∙ ap (λ (v : Verdict). addressesAfter v newWords) h
           ∙ sym (ap (λ (v : Verdict). addressesAfter v (addressesIn (b .addresses))) h))
           (rw (e, words-in) f)
-      by (refused fault z) h =
+      by (refused fault offset z) h =
           absurd (false≢true (ap isRefused (sym e ∙ d .outcome ∙ ap (λ (v : Verdict). report (b .memory) v (ran .events)) h)))
 
   -- a refusal leaves the pairs as they were
@@ -167,5 +167,5 @@ module _ (file : List ℕ) (g : Inputs) (b b′ : Buffers) (o : Outcome) (known 
       by : (v : Verdict) → ran .answer ≡ v → Loads file g true b o b′
       by (finished z) h =
           absurd (false≢true (sym (ap isRefused (sym e ∙ d .outcome ∙ ap (λ (v : Verdict). report (b .memory) v (ran .events)) h))))
-      by (refused k z) h =
+      by (refused k i z) h =
           loads (ap addressesIn f ∙ sym (ap (λ (v : Verdict). addressesAfter v (addressesIn (b .addresses))) h)) (rw e f)

@@ -27,13 +27,13 @@ pub fn load(
 {
     let size = known_addresses.len();
     if size % 2 != 0 {
-        return answer::refused(Fault::WrongBuffer);
+        return answer::refused(Fault::WrongBuffer, 0);
     }
     if 2 * sdx::KNOWN < size {
-        return answer::refused(Fault::WrongBuffer);
+        return answer::refused(Fault::WrongBuffer, 0);
     }
     if new_addresses.len() != 2 * passes::ADDRESSES {
-        return answer::refused(Fault::WrongBuffer);
+        return answer::refused(Fault::WrongBuffer, 0);
     }
     load_words(
         file,

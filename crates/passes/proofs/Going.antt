@@ -17,6 +17,7 @@ use Rattle.events.proofs.Events.{placed-append, adjusted-append, reached-none, 
 use Rattle.events.proofs.Walks.{walk-goes-on, walk-ends}
 use Rattle.events.specs.Events.{Event, marks, blank, placedIn, adjustedIn, Ran, Reached, Did}
 use Rattle.events.specs.Walk.{Turn, ends, leads, after, bytesLeft}
+use Rattle.updates.proofs.Faults.{stop-within}
 use Rattle.updates.specs.Bodies.{Stop, broken, done, counted, ended}
 use Rattle.updates.specs.declared.Ended.{Ended}
 use Rattle.updates.specs.declared.Ended.the-variants.{Broken, Done}
@@ -26,7 +27,7 @@ use Rattle.effects.proofs.Ending.{Ends, applied-ends, advanced-at, Behind, behi
 use Rattle.effects.proofs.NewNames.{front-is, behind, Counted, counted-first, counted-on, Tabled, tabled-first, tabled-on}
 use Rattle.effects.specs.Effects.{Effect, placedBy, applied, advanced, nameIn, addressIn, firstCursor}
 use Rattle.effects.specs.Parts.{NameFits, RoomFits, NameStored}
-use Rattle.passes.proofs.Turning.{turn-end, turn-block, block-fits, turn-falls}
+use Rattle.passes.proofs.Turning.{turn-end, turn-block, block-fits, block-faults, turn-falls}
 use Rattle.passes.specs.Parts.{totals, Bounded, Walked}
 use Rattle.passes.specs.Buffers.{Buffers, buffers}
 use Rattle.passes.specs.Walk.{stepped, Inputs, Progress, Verdict, finished, refused, judge, blockAt, appliedAt, turn, blocksFrom, begun, blocksOf}
@@ -140,7 +141,7 @@ module _ {file : List ℕ} {g : Inputs} {write : Bool} {b : Buffers} where
         → blocksOf file g ≡ record { answer = v; events = x .events ++ turn file g here (marks (x .events) blank) .events }
     unfolding blocksFrom
     ends-with v e =
-        walk-ends (turn file g) (λ y. refused CutShort y) (λ y. bytesLeft file (y .cursor .at)) (turn-falls file g (x .lent .top)) (blocksOf file g) (x .events) here blank
+        walk-ends (turn file g) (λ y. refused CutShort (length file) y) (λ y. bytesLeft file (y .cursor .at)) (turn-falls file g (x .lent .top)) (blocksOf file g) (x .events) here blank
         (x .so-far) v e
 
     -- at the file's end the walk has finished
@@ -214,25 +215,26 @@ module _ {file : List ℕ} {g : Inputs} {write : Bool} {b : Buffers} where
         reached-then : Reached (x .events ++ o .events) write (b .memory) blank m p
         reached-then = reached-more (x .events) write (b .memory) blank (b′ .memory) (b′ .map) m p (ended o) r (x .reached) did-is
 
-        -- a fault ends the walk there
-        pub going-stops : (fault : Fault) → r ≡ Broken fault
-            → Walked (blocksOf file g) write b (Stopped fault (c .at)) (buffers m p (b′ .names) (b′ .addresses))
-        going-stops fault e =
-            let k : o .answer ≡ broken fault = stop-broken (o .answer) (o .events) fault (sym (did-is .answer) ∙ e) in
-            let t : turn file g here (marks (x .events) blank) ≡ record { answer = ends (refused fault here); events = o .events } =
+        -- a fault ends the walk
+        pub going-stops : (fault : Fault) (offset : ℕ) → r ≡ Broken fault offset
+            → Walked (blocksOf file g) write b (Stopped fault offset) (buffers m p (b′ .names) (b′ .addresses))
+        going-stops fault offset e =
+            let k : o .answer ≡ broken fault offset = stop-broken (o .answer) (o .events) fault offset (sym (did-is .answer) ∙ e) in
+            let w = stop-within (block-faults file g (x .lent .top) here (marks (x .events) blank)) k in
+            let t : turn file g here (marks (x .events) blank) ≡ record { answer = ends (refused fault offset here); events = o .events } =
             turn-is
             ∙ ap (λ (s : Stop). record { answer = judge file here (blockAt file g here) (o .events) s; events = o .events }) k in
-            let w : blocksOf file g ≡ record { answer = refused fault here; events = x .events ++ o .events } =
-            ends-with (refused fault here) (ap (λ (q : Ran (Turn Progress Verdict)). q .answer) t)
-            ∙ ap (λ (es : List Event). record { answer = refused fault here; events = x .events ++ es })
+            let v : blocksOf file g ≡ record { answer = refused fault offset here; events = x .events ++ o .events } =
+            ends-with (refused fault offset here) (ap (λ (q : Ran (Turn Progress Verdict)). q .answer) t)
+            ∙ ap (λ (es : List Event). record { answer = refused fault offset here; events = x .events ++ es })
             (ap (λ (q : Ran (Turn Progress Verdict)). q .events) t) in
-            rw w
+            rw v
             (record {
               did = record { answer = refl; reached = rw (x .lent .clear) reached-then };
               names = x .new-names;
               addresses = x .new-addresses;
               eights = x .counted .bytes ∙ ap (λ (n : ℕ). 8 * n) (sym (x .counted .each));
-              bounded = bounded-stopped fault (c .at) (omega (arith, x .passed .inside, x .lent .short));
+              bounded = bounded-stopped fault offset (omega (arith, w, x .lent .short));
             })
 
         -- else the loop goes on behind the block
@@ -254,7 +256,7 @@ module _ {file : List ℕ} {g : Inputs} {write : Bool} {b : Buffers} where
               let t : turn file g here (marks (x .events) blank) ≡ record { answer = leads then; events = o .events } =
               turn-is
               ∙ ap (λ (s : Stop). record { answer = judge file here (blockAt file g here) (o .events) s; events = o .events }) (stopped .0) in
-              walk-goes-on (turn file g) (λ y. refused CutShort y) (λ y. bytesLeft file (y .cursor .at)) (turn-falls file g (x .lent .top)) (blocksOf file g) (x .events) here blank
+              walk-goes-on (turn file g) (λ y. refused CutShort (length file) y) (λ y. bytesLeft file (y .cursor .at)) (turn-falls file g (x .lent .top)) (blocksOf file g) (x .events) here blank
               (x .so-far) then (ap (λ (q : Ran (Turn Progress Verdict)). q .answer) t)
               ∙ ap
               (λ (es : List Event). after (x .events ++ es) (blocksFrom file g then (marks (x .events ++ es) blank)))

@@ -11,18 +11,20 @@ use lib.ListN.{length}
 use Rattle.answer.specs.Checks.{pick}
 use Rattle.answer.specs.declared.Fault.{Fault}
 use Rattle.answer.specs.declared.Fault.the-variants.{CutShort}
-use Rattle.blocks.proofs.Lying.{read-lies}
+use Rattle.blocks.proofs.Lying.{read-lies, read-faults}
 use Rattle.blocks.specs.Bounds.{Fits}
 use Rattle.events.proofs.Walks.{ends-leads, leads-same, ends-same, walk-keeps}
 use Rattle.events.specs.Events.{Event, marks, blank, Ran}
 use Rattle.events.specs.Walk.{Turn, ends, leads, bytesLeft}
 use Rattle.updates.specs.Bodies.{Stop, broken, done}
+use Rattle.updates.proofs.Faults.{Stops}
 use Rattle.effects.proofs.Ending.{Ends, applied-ends, advanced-at}
+use Rattle.effects.proofs.Faults.{applied-faults}
 use Rattle.passes.specs.Parts.{progressOf}
 use Rattle.passes.specs.Walk.{Inputs, Progress, Verdict, finished, refused, judge, blockAt, appliedAt, turn, blocksFrom, begun, blocksOf, stepped}
 
 -- a refusal is no end of a file
-pub refused-finished : {fault : Fault} {y z : Progress} → refused fault y ≡ finished z → ⊥
+pub refused-finished : {fault : Fault} {offset : ℕ} {y z : Progress} → refused fault offset y ≡ finished z → ⊥
 refused-finished e = let n : _≡_ {A = ℕ} 0 1 = cc in omega arith
 
 -- ---- where a turn leads
@@ -42,9 +44,9 @@ pub record Finishes (file : List ℕ) (g : Inputs) (y z : Progress) (map : List 
   pub events : turn file g y map .events ≡ []
 
 -- and one that refuses it is a block that breaks a rule
-pub record Refuses (file : List ℕ) (g : Inputs) (y z : Progress) (map : List ℕ) (fault : Fault) : Type 0 where
+pub record Refuses (file : List ℕ) (g : Inputs) (y z : Progress) (map : List ℕ) (fault : Fault) (offset : ℕ) : Type 0 where
   pub more : y .cursor .at ≡ length file → ⊥
-  pub broke : appliedAt file g y map .answer ≡ broken fault
+  pub broke : appliedAt file g y map .answer ≡ broken fault offset
   pub state : y ≡ z
 
 module _ (file : List ℕ) (g : Inputs) (y : Progress) (map : List ℕ) where
@@ -70,7 +72,7 @@ module _ (file : List ℕ) (g : Inputs) (y : Progress) (map : List ℕ) where
       stops : (s : Stop) → appliedAt file g y map .answer ≡ s → (y .cursor .at ≡ length file → ⊥)
           → judge file y (blockAt file g y) (appliedAt file g y map .events) s ≡ leads z
           → Led file g y z map
-      stops (broken fault) o h f = absurd (ends-leads f)
+      stops (broken fault offset) o h f = absurd (ends-leads f)
       stops (done next) o h f =
           record {
             next = next;
@@ -93,7 +95,7 @@ module _ (file : List ℕ) (g : Inputs) (y : Progress) (map : List ℕ) where
   turn-finished z e = by (eqb (y .cursor .at) (length file)) refl
     where
       stops : (es : List Event) (s : Stop) → judge file y (blockAt file g y) es s ≡ ends (finished z) → ⊥
-      stops es (broken fault) f = refused-finished (ends-same f)
+      stops es (broken fault offset) f = refused-finished (ends-same f)
       stops es (done next) f = ends-leads (sym f)
 
       by : (t : Bool) → eqb (y .cursor .at) (length file) ≡ t → Finishes file g y z map
@@ -110,19 +112,20 @@ module _ (file : List ℕ) (g : Inputs) (y : Progress) (map : List ℕ) where
           (sym (ap (λ (r : Ran (Turn Progress Verdict)). r .answer) (turn-block (eqb-false _ _ h))) ∙ e))
 
   -- and refuses one at a block that breaks a rule, before its end
-  pub turn-refused : (fault : Fault) (z : Progress) → turn file g y map .answer ≡ ends (refused fault z) → Refuses file g y z map fault
-  turn-refused fault z e = by (eqb (y .cursor .at) (length file)) refl
+  pub turn-refused : (fault : Fault) (offset : ℕ) (z : Progress) → turn file g y map .answer ≡ ends (refused fault offset z)
+      → Refuses file g y z map fault offset
+  turn-refused fault offset z e = by (eqb (y .cursor .at) (length file)) refl
     where
       stops : (s : Stop) → appliedAt file g y map .answer ≡ s → (y .cursor .at ≡ length file → ⊥)
-          → judge file y (blockAt file g y) (appliedAt file g y map .events) s ≡ ends (refused fault z)
-          → Refuses file g y z map fault
-      stops (broken f) o h w =
-          let v : refused f y ≡ refused fault z = ends-same w in
-          let k : f ≡ fault = cc in
-          record { more = h; broke = o ∙ ap broken k; state = cc }
+          → judge file y (blockAt file g y) (appliedAt file g y map .events) s ≡ ends (refused fault offset z)
+          → Refuses file g y z map fault offset
+      stops (broken f i) o h w =
+          let v : refused f i y ≡ refused fault offset z = ends-same w in
+          let k : broken f i ≡ broken fault offset = cc in
+          record { more = h; broke = o ∙ k; state = cc }
       stops (done next) o h w = absurd (ends-leads (sym w))
 
-      by : (t : Bool) → eqb (y .cursor .at) (length file) ≡ t → Refuses file g y z map fault
+      by : (t : Bool) → eqb (y .cursor .at) (length file) ≡ t → Refuses file g y z map fault offset
       by true h =
           absurd
           (refused-finished (sym (ends-same (sym (ap (λ (r : Ran (Turn Progress Verdict)). r .answer) (turn-end (eqb-true _ _ h))) ∙ e))))
@@ -136,6 +139,13 @@ module _ (file : List ℕ) (g : Inputs) (top : g .high ≤ 65535) where
   -- what the next block says lies past its offset and in the file, in memory, in the table or in a list of names
   pub block-fits : (y : Progress) → Fits (length file) (y .cursor) (length (g .names) / 8) (length (y .names) / 8) (blockAt file g y)
   block-fits y = read-lies file (g .high) (g .names) (y .names) (y .cursor) top
+
+  -- where it breaks a rule, the fault is one of the file
+  pub block-faults : (y : Progress) (map : List ℕ) → Stops (length file) (appliedAt file g y map .answer)
+  unfolding appliedAt
+  block-faults y map =
+      applied-faults file (g .addresses) (y .addresses) (y .cursor) (blockAt file g y) map
+      (read-faults file (g .high) (g .names) (y .names) (y .cursor) top)
 
   -- a turn that leads on ends further on, by as many bytes at least as it places and as it adjusts
   pub led-ends : (y z : Progress) (map : List ℕ) → turn file g y map .answer ≡ leads z
@@ -161,7 +171,7 @@ module _ (file : List ℕ) (g : Inputs) (top : g .high ≤ 65535) where
     pub blocks-hold : (z : Progress) → blocksOf file g .answer ≡ finished z → P z (blocksOf file g .events)
     unfolding blocksFrom
     blocks-hold z e =
-        let x = walk-keeps (turn file g) (λ y. refused CutShort y) (λ y. bytesLeft file (y .cursor .at)) turn-falls P blank keeps (begun g) first in
+        let x = walk-keeps (turn file g) (λ y. refused CutShort (length file) y) (λ y. bytesLeft file (y .cursor .at)) turn-falls P blank keeps (begun g) first in
         let t = turn-finished file g (x .state) (marks (x .before) blank) z (x .answer ∙ ap ends e) in
         let es : blocksOf file g .events ≡ x .before = x .events ∙ ap (λ (fs : List Event). x .before ++ fs) (t .events) ∙ append-nil (x .before) in
         rw (es, ← t .state) (x .held)

@@ -26,7 +26,7 @@ totals low named placed adjusted = record { low = low; named = named; placed = p
 -- how a walk ends, in the program's terms
 abbrev pub walkEnd : Verdict → List Event → WalkEnd
 walkEnd (finished z) es = Finished (totals (z .cursor .low) (length (z .addresses)) (placedIn es) (adjustedIn es))
-walkEnd (refused fault z) es = Stopped fault (z .cursor .at)
+walkEnd (refused fault offset z) es = Stopped fault offset
 
 -- and all that it comes to
 abbrev pub walkEndOf : Ran Verdict → Ran WalkEnd
@@ -35,11 +35,11 @@ walkEndOf o = record { answer = walkEnd (o .answer) (o .events); events = o .eve
 -- how far it came
 abbrev pub progressOf : Verdict → Progress
 progressOf (finished z) = z
-progressOf (refused fault z) = z
+progressOf (refused fault offset z) = z
 
 -- the numbers of a walk's answer are within their bounds
 pub record Bounded (r : WalkEnd) : Type 0 where
-  pub offset : (fault : Fault) (at : ℕ) → r ≡ Stopped fault at → at ≤ fileLimit
+  pub offset : (fault : Fault) (offset : ℕ) → r ≡ Stopped fault offset → offset ≤ fileLimit
   pub counts : (t : Totals) → r ≡ Finished t → (t .named ≤ mostNames) × (t .placed ≤ fileLimit) × (t .adjusted ≤ fileLimit)
 
 -- What a walk does: it found the buffers b, and answers r and leaves b′, as o says. The new names so far stand at the front of the new-name buffers.

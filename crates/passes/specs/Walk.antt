@@ -33,10 +33,10 @@ pub record Progress : Type 0 where
   pub addresses : List ℕ
   pub effects : List Effect
 
--- how a file ends: at its end, or at its first fault
+-- how a file ends: at its end, or at its first fault and the offset of the first byte at fault
 pub data Verdict : Type 0 where
   finished : Progress → Verdict
-  refused : Fault → Progress → Verdict
+  refused : Fault → ℕ → Progress → Verdict
 
 -- the progress after a block that ends at an offset
 abbrev pub stepped : List ℕ → Progress → Block → List Event → ℕ → Progress
@@ -50,7 +50,7 @@ stepped file z found es next =
 
 -- where a block leads: on, or at its fault to the end
 abbrev pub judge : List ℕ → Progress → Block → List Event → Stop → Turn Progress Verdict
-judge file z found es (broken fault) = ends (refused fault z)
+judge file z found es (broken fault offset) = ends (refused fault offset z)
 judge file z found es (done next) = leads (stepped file z found es next)
 
 -- the next block
@@ -73,7 +73,7 @@ turn file g z map =
 
 -- the blocks from some progress on
 unfoldable pub blocksFrom : List ℕ → Inputs → Progress → List ℕ → Ran Verdict
-blocksFrom file g z map = from (turn file g) (λ y. refused CutShort y) (λ y. bytesLeft file (y .cursor .at)) z map
+blocksFrom file g z map = from (turn file g) (λ y. refused CutShort (length file) y) (λ y. bytesLeft file (y .cursor .at)) z map
 
 -- before the first block
 abbrev pub begun : Inputs → Progress

@@ -29,7 +29,7 @@ pub struct Totals {
     pub adjusted: usize,
 }
 
-// How a walk ends: with the fault of the block at an offset, or at the file's end.
+// How a walk ends: with a fault at an offset, or at the file's end.
 pub enum WalkEnd {
     Stopped(Fault, usize),
     Finished(Totals),
@@ -96,7 +96,7 @@ pub fn walk(
         let own = &new_addresses[0..named];
         let end = effects::apply(file, found, cursor, lent_addresses, own, write, memory, map);
         match end {
-            Ended::Broken(fault) => return WalkEnd::Stopped(fault, cursor.at),
+            Ended::Broken(fault, offset) => return WalkEnd::Stopped(fault, offset),
             Ended::Done { next, adjusted } => {
                 effects::store_name(file, found, named, new_names, new_addresses);
                 bytes += effects::placed_by(found);

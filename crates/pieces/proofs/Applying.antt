@@ -18,7 +18,7 @@ use Rattle.events.proofs.Events.{reached-none, did-none}
 use Rattle.events.specs.Events.{Ran, failed, passed, Did}
 use Rattle.events.specs.declared.Check.{Check}
 use Rattle.events.specs.declared.Check.the-variants.{Passed, Failed}
-use Rattle.fields.specs.Fields.{fieldsOf}
+use Rattle.fields.specs.Fields.{itemSize, fieldsOf}
 use Rattle.records.specs.declared.Entry.{Entry}
 use Rattle.fields.specs.declared.Fixup.{Fixup}
 use Rattle.records.specs.declared.Kind.{Kind}
@@ -30,55 +30,55 @@ use Rattle.pieces.specs.AtBases.{placing, adjusting, startOf, ending, ap
 use Rattle.pieces.specs.Pieces.{placeAt, limitOf}
 use Rattle.pieces.specs.declared.Bases.{Bases}
 
--- a part of a file is no longer than the file may be
+-- a part of a file is no longer than the file may be, and ends where it may
 pub lent-fits : (file : List ℕ) (from n : ℕ) → from + n ≤ length file → length file ≤ 65536
-    → length (midOf from (from + n - from) file) ≤ 65536
+    → (length (midOf from (from + n - from) file) ≤ 65536) × (from + length (midOf from (from + n - from) file) ≤ 65536)
 lent-fits file from n h l =
     let e : length (midOf from (from + n - from) file) ≡ n = ap length (lent-is from n file) ∙ length-part file from n h in
-    omega arith
+    (omega arith, omega arith)
 
 -- the end record does nothing
-needs-none : (c d : Bool) → need failed c StartTooHigh (need failed d BytesAfterEnd (passed [])) .events ≡ []
+needs-none : (c d : Bool) (i j : ℕ) → need failed c StartTooHigh i (need failed d BytesAfterEnd j (passed [])) .events ≡ []
 unfolding need
-needs-none true true = refl
-needs-none true false = refl
-needs-none false d = refl
+needs-none true true i j = refl
+needs-none true false i j = refl
+needs-none false d i j = refl
 
-pub ending-none : (b : Bases) (entry : Entry) (next len : ℕ) → ending b entry next len .events ≡ []
+pub ending-none : (at : ℕ) (b : Bases) (entry : Entry) (next len : ℕ) → ending at b entry next len .events ≡ []
 unfolding ending
-ending-none b entry next len = needs-none (leb (address (startOf b entry)) 65535) (leb len next)
+ending-none at b entry next len = needs-none (leb (address (startOf b entry)) 65535) (leb len next) at next
 
 -- and where it passes, nothing follows it
-pub ending-last : (b : Bases) (entry : Entry) (next len : ℕ) → ending b entry next len .answer ≡ Passed → len ≤ next
+pub ending-last : (at : ℕ) (b : Bases) (entry : Entry) (next len : ℕ) → ending at b entry next len .answer ≡ Passed → len ≤ next
 unfolding ending
-ending-last b entry next len e =
-    let x = need-passed _ _ _ e in
-    let y = need-passed _ _ _ (sym (ap (λ (o : Ran Check). o .answer) (x .1)) ∙ e) in
+ending-last at b entry next len e =
+    let x = need-passed _ _ _ _ e in
+    let y = need-passed _ _ _ _ (sym (ap (λ (o : Ran Check). o .answer) (x .1)) ∙ e) in
     leb-true _ _ (y .0)
 
 -- a record of each kind, where the last code record before it has k bytes at a
-module _ (file : List ℕ) (b : Bases) (a k : ℕ) (found : Record) (write : Bool) (m p : List ℕ) where
+module _ (file : List ℕ) (at : ℕ) (b : Bases) (a k : ℕ) (found : Record) (write : Bool) (m p : List ℕ) where
   pub applied-code : (kind : Kind) (address from n : ℕ) (place limit : ℕ) (r : Check) (m′ p′ : List ℕ) → found ≡ Code kind address from n
       → place ≡ placeAt b kind address → limit ≡ limitOf kind
-      → Did Check (placing place limit (midOf from (from + n - from) file) p) write m p r m′ p′
-      → Did Check (applied file b a k found p) write m p r m′ p′
+      → Did Check (placing (at + 2) place limit (midOf from (from + n - from) file) p) write m p r m′ p′
+      → Did Check (applied file at b a k found p) write m p r m′ p′
   unfolding applied
   applied-code kind address from n place limit r m′ p′ e ep el d = rw (e, ← ep, ← el, ← lent-is from n file) d
 
   pub applied-fixups : (fixup : Fixup) (from n : ℕ) (r : Check) (m′ p′ : List ℕ) → found ≡ Fixups fixup from n
-      → Did Check (adjusting b a k (fieldsOf fixup (midOf from (from + n - from) file)) p) write m p r m′ p′
-      → Did Check (applied file b a k found p) write m p r m′ p′
+      → Did Check (adjusting from (itemSize fixup) b a k (fieldsOf fixup (midOf from (from + n - from) file)) p) write m p r m′ p′
+      → Did Check (applied file at b a k found p) write m p r m′ p′
   unfolding applied
   applied-fixups fixup from n r m′ p′ e d = rw (e, ← lent-is from n file) d
 
-  pub applied-end : (entry : Entry) (next : ℕ) (r : Check) → found ≡ End entry next → r ≡ ending b entry next (length file) .answer
-      → Did Check (applied file b a k found p) write m p r m p
+  pub applied-end : (entry : Entry) (next : ℕ) (r : Check) → found ≡ End entry next → r ≡ ending (at + 2) b entry next (length file) .answer
+      → Did Check (applied file at b a k found p) write m p r m p
   unfolding applied
   applied-end entry next r e er =
-      let z = ending-none b entry next (length file) in
+      let z = ending-none (at + 2) b entry next (length file) in
       rw e
       (record { answer = er; reached = rw z (reached-none write m p) })
 
-  pub applied-faulty : (fault : Fault) → found ≡ Faulty fault → Did Check (applied file b a k found p) write m p (Failed fault) m p
+  pub applied-faulty : (fault : Fault) (offset : ℕ) → found ≡ Faulty fault offset → Did Check (applied file at b a k found p) write m p (Failed fault offset) m p
   unfolding applied
-  applied-faulty fault e = rw e (did-none _ write m p)
+  applied-faulty fault offset e = rw e (did-none _ write m p)

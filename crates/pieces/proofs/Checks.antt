@@ -49,15 +49,15 @@ limit-le Main = omega arith
 limit-le ZeroPage = omega arith
 limit-le Absolute = omega arith
 
-module _ (a limit : ℕ) (code : List ℕ) (write : Bool) (m p : List ℕ) where
+module _ (at a limit : ℕ) (code : List ℕ) (write : Bool) (m p : List ℕ) where
   -- the end of its place is above the limit: 10
-  pub placing-high : limit < a + length code → Did Check (placing a limit code p) write m p (Failed DoesNotFit) m p
+  pub placing-high : limit < a + length code → Did Check (placing at a limit code p) write m p (Failed DoesNotFit at) m p
   unfolding placing need
   placing-high h = rw (lt-leb _ _ h) (did-none _ write m p)
 
   -- an address is placed already: 17
   pub placing-taken : a + length code ≤ limit → allZero (midOf a (a + length code - a) p) ≡ false
-      → Did Check (placing a limit code p) write m p (Failed PiecesOverlap) m p
+      → Did Check (placing at a limit code p) write m p (Failed PiecesOverlap at) m p
   unfolding placing need
   placing-taken h z =
       let z′ : allZero (part p a (length code)) ≡ false = rw (lent-is a (length code) p) at z in
@@ -66,33 +66,33 @@ module _ (a limit : ℕ) (code : List ℕ) (write : Bool) (m p : List ℕ) where
   -- else it is placed
   pub placing-done : (m′ p′ : List ℕ) → a + length code ≤ limit → allZero (midOf a (a + length code - a) p) ≡ true
       → Reached (place a code ∷ []) write m p m′ p′
-      → Did Check (placing a limit code p) write m p Passed m′ p′
+      → Did Check (placing at a limit code p) write m p Passed m′ p′
   unfolding placing need
   placing-done m′ p′ h z r =
       let z′ : allZero (part p a (length code)) ≡ true = rw (lent-is a (length code) p) at z in
       rw (le-leb _ _ h, z′) (record { answer = refl; reached = r })
 
 -- code that passed has room below its limit, found nothing placed there, and is placed
-pub placing-passed : (a limit : ℕ) (code p : List ℕ) → placing a limit code p .answer ≡ Passed
-    → (a + length code ≤ limit) × (allZero (part p a (length code)) ≡ true) × (placing a limit code p .events ≡ place a code ∷ [])
+pub placing-passed : (at a limit : ℕ) (code p : List ℕ) → placing at a limit code p .answer ≡ Passed
+    → (a + length code ≤ limit) × (allZero (part p a (length code)) ≡ true) × (placing at a limit code p .events ≡ place a code ∷ [])
 unfolding placing
-placing-passed a limit code p e =
-    let x = need-passed _ _ _ e in
-    let y = need-passed _ _ _ (ap (λ (o : Ran Check). o .answer) (sym (x .1)) ∙ e) in
+placing-passed at a limit code p e =
+    let x = need-passed _ _ _ _ e in
+    let y = need-passed _ _ _ _ (ap (λ (o : Ran Check). o .answer) (sym (x .1)) ∙ e) in
     (leb-true _ _ (x .0), y .0, ap (λ (o : Ran Check). o .events) (x .1 ∙ y .1))
 
 -- ---- fields
 
 -- (the program has the field's width as a number k)
-module _ (b : Bases) (a n : ℕ) (f : Field) (write : Bool) (m p : List ℕ) (k : ℕ) (ek : k ≡ width f) where
+module _ (at : ℕ) (b : Bases) (a n : ℕ) (f : Field) (write : Bool) (m p : List ℕ) (k : ℕ) (ek : k ≡ width f) where
   -- a byte of the field is not inside the record: 12
-  pub adjusting-outside : n < f .index + k → Did Check (adjusting b a n (f ∷ []) p) write m p (Failed FieldNotLoaded) m p
+  pub adjusting-outside : n < f .index + k → Did Check (adjusting at 0 b a n (f ∷ []) p) write m p (Failed FieldNotLoaded at) m p
   unfolding adjusting need
   adjusting-outside h = let g : n < f .index + width f = rw (← ek) h in rw (lt-leb _ _ g) (did-none _ write m p)
 
   -- a byte was adjusted before: 13
   pub adjusting-twice : f .index + k ≤ n → contains adjustedMark (midOf (a + f .index) (a + f .index + k - (a + f .index)) p) ≡ true
-      → Did Check (adjusting b a n (f ∷ []) p) write m p (Failed AdjustedTwice) m p
+      → Did Check (adjusting at 0 b a n (f ∷ []) p) write m p (Failed AdjustedTwice at) m p
   unfolding adjusting need
   adjusting-twice h t =
       let g : f .index + width f ≤ n = rw (← ek) h in
@@ -104,7 +104,7 @@ module _ (b : Bases) (a n : ℕ) (f : Field) (write : Bool) (m p : List ℕ) (k 
       → contains adjustedMark (midOf (a + f .index) (a + f .index + k - (a + f .index)) p) ≡ false
       → w ≡ replicate (length (midOf (a + f .index) (a + f .index + k - (a + f .index)) p)) adjustedMark
       → m′ ≡ playIf write (adjustment b a f ∷ []) m
-      → Did Check (adjusting b a n (f ∷ []) p) write m p Passed m′ (putMid (a + f .index) (a + f .index + k - (a + f .index)) p w)
+      → Did Check (adjusting at 0 b a n (f ∷ []) p) write m p Passed m′ (putMid (a + f .index) (a + f .index + k - (a + f .index)) p w)
   unfolding adjusting need marks
   adjusting-done m′ w h l t ew em =
       let g : f .index + width f ≤ n = rw (← ek) h in
@@ -117,15 +117,16 @@ module _ (b : Bases) (a n : ℕ) (f : Field) (write : Bool) (m p : List ℕ) (k 
       })
 
 -- a field that passed lies in the code, has no byte that was adjusted before, and is adjusted before the others
-pub adjusting-passed : (b : Bases) (a n : ℕ) (f : Field) (fs : List Field) (p : List ℕ) → adjusting b a n (f ∷ fs) p .answer ≡ Passed
+pub adjusting-passed : (at step : ℕ) (b : Bases) (a n : ℕ) (f : Field) (fs : List Field) (p : List ℕ)
+    → adjusting at step b a n (f ∷ fs) p .answer ≡ Passed
     → (f .index + width f ≤ n) × (contains adjustedMark (part p (a + f .index) (width f)) ≡ false)
-    × (adjusting b a n fs (markOne (adjustment b a f) p) .answer ≡ Passed)
-    × (adjusting b a n (f ∷ fs) p .events ≡ adjustment b a f ∷ adjusting b a n fs (markOne (adjustment b a f) p) .events)
+    × (adjusting (at + step) step b a n fs (markOne (adjustment b a f) p) .answer ≡ Passed)
+    × (adjusting at step b a n (f ∷ fs) p .events ≡ adjustment b a f ∷ adjusting (at + step) step b a n fs (markOne (adjustment b a f) p) .events)
 unfolding adjusting
-adjusting-passed b a n f fs p e =
-    let x = need-passed _ _ _ e in
+adjusting-passed at step b a n f fs p e =
+    let x = need-passed _ _ _ _ e in
     let e₁ = ap (λ (o : Ran Check). o .answer) (sym (x .1)) ∙ e in
-    let y = need-passed _ _ _ e₁ in
+    let y = need-passed _ _ _ _ e₁ in
     let e₂ = ap (λ (o : Ran Check). o .answer) (sym (y .1)) ∙ e₁ in (
       leb-true _ _ (x .0),
       not-true (contains adjustedMark (part p (a + f .index) (width f))) (y .0),
@@ -139,13 +140,13 @@ adjusting-passed b a n f fs p e =
     not-true false h = refl
 
 -- all fields that passed are adjusted, in their order
-pub adjusting-all : (b : Bases) (a n : ℕ) (fs : List Field) (p : List ℕ) → adjusting b a n fs p .answer ≡ Passed
-    → adjusting b a n fs p .events ≡ adjustments b a fs
+pub adjusting-all : (at step : ℕ) (b : Bases) (a n : ℕ) (fs : List Field) (p : List ℕ) → adjusting at step b a n fs p .answer ≡ Passed
+    → adjusting at step b a n fs p .events ≡ adjustments b a fs
 unfolding adjustments
-adjusting-all b a n [] p e = none
+adjusting-all at step b a n [] p e = none
   where
-    none : adjusting b a n [] p .events ≡ []
+    none : adjusting at step b a n [] p .events ≡ []
     none = unfold adjusting in refl
-adjusting-all b a n (f ∷ fs) p e =
-    let x = adjusting-passed b a n f fs p e in
-    x .3 ∙ ap (λ (es : List Event). adjustment b a f ∷ es) (adjusting-all b a n fs (markOne (adjustment b a f) p) (x .2))
+adjusting-all at step b a n (f ∷ fs) p e =
+    let x = adjusting-passed at step b a n f fs p e in
+    x .3 ∙ ap (λ (es : List Event). adjustment b a f ∷ es) (adjusting-all (at + step) step b a n fs (markOne (adjustment b a f) p) (x .2))

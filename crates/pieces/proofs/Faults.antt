@@ -1,49 +1,73 @@
--- No record is refused with 1, 2 or 3: these are left to lengths and settings.
+-- What a record is refused with at its bases: not 1, 2 or 3, which are left to lengths and settings, and at an offset of its file (`answer`,
+-- proofs/Faults.antt).
 -- Assumes nothing.
-use mathlib.Core.Bool.{Bool, false}
+use mathlib.Core.Bool.{false}
 use mathlib.Core.List.{List, [], _∷_}
-use Prim.Native.Nat.{ℕ}
-use Rattle.answer.proofs.Faults.{isEarly, Late}
-use Rattle.events.proofs.Faults.{earlyCheck, earlyRan, late-runs}
+use mathlib.Core.Path.{_≡_, refl, ap}
+use Prim.Native.Nat.{ℕ, _+_, _*_, _≤_}
+use native.Mathlib.Nat.{suc-mul}
+use native.Mathlib.Omega.{arith}
+use lib.ListN.{length}
+use Rattle.answer.proofs.Checks.{on-need}
+use Rattle.answer.proofs.Faults.{isEarly}
+use Rattle.answer.specs.declared.Fault.{Fault}
+use Rattle.events.proofs.Faults.{Checks}
+use Rattle.events.specs.Events.{Ran, failed}
+use Rattle.events.specs.declared.Check.{Check}
+use Rattle.events.specs.declared.Check.the-variants.{Failed}
+use Rattle.fields.proofs.Listing.{items-fit}
+use Rattle.fields.specs.Fields.{itemSize, fieldsOf}
 use Rattle.fields.specs.declared.Field.{Field}
-use Rattle.records.specs.Records.{RecordType, code, fixups, end, unknown, readCode, readItems, readFixups, readEnd, readAs, read}
-use Rattle.records.specs.declared.Last.{Last}
+use Rattle.records.proofs.Reading.{Where}
+use Rattle.records.specs.declared.Entry.{Entry}
 use Rattle.records.specs.declared.Record.{Record}
 use Rattle.records.specs.declared.Record.the-variants.{Code, Fixups, End, Faulty}
+use Rattle.words.proofs.Runs.{length-part}
+use Rattle.words.specs.Runs.{part}
 use Rattle.pieces.specs.AtBases.{placing, adjusting, ending, applied}
 use Rattle.pieces.specs.declared.Bases.{Bases}
 
--- whether a record is refused early
-abbrev pub earlyRecord : Record → Bool
-earlyRecord (Code kind address from n) = false
-earlyRecord (Fixups fixup from n) = false
-earlyRecord (End entry next) = false
-earlyRecord (Faulty fault) = isEarly fault
+-- a part of the work is refused so, if it is
+abbrev Faults : ℕ → Ran Check → Type 0
+Faults len o = Checks len (o .answer)
 
--- a record of each type
-typed-late : (file : List ℕ) (at : ℕ) (last : Last) (t : RecordType) → Late earlyRecord (readAs file at last t)
-unfolding readCode readItems readFixups readEnd
-typed-late file at last (code kind) = search late-runs
-typed-late file at last (fixups kind fixup) = search late-runs
-typed-late file at last end = search late-runs
-typed-late file at last unknown = search late-runs
+-- a fault of a check, at an offset of the file
+bad : {len : ℕ} {fault : Fault} {offset : ℕ} → isEarly fault ≡ false → offset ≤ len → Checks len (Failed fault offset)
+bad l w = record { faults = record { late = l; within = w } }
 
--- a record that is read
-pub read-late : (file : List ℕ) (at : ℕ) (last : Last) → Late earlyRecord (read file at last)
-unfolding read
-read-late file at last = search (late-runs, typed-late)
+-- code
+placing-faults : (len at a limit : ℕ) (code map : List ℕ) → at ≤ len → Faults len (placing at a limit code map)
+unfolding placing
+placing-faults len at a limit code map h =
+    on-need failed (Faults len) _ _ _ _ (bad refl h) (λ _. on-need failed (Faults len) _ _ _ _ (bad refl h) (λ _. record { faults = tt }))
 
--- its fields at their bases
-adjusting-late : (b : Bases) (a n : ℕ) (fs : List Field) (map : List ℕ) → Late (earlyRan earlyCheck) (adjusting b a n fs map)
+-- fields, whose items all end in the file
+adjusting-faults : (len at step : ℕ) (b : Bases) (a n : ℕ) (fs : List Field) (map : List ℕ) → at + length fs * step ≤ len
+    → Faults len (adjusting at step b a n fs map)
 unfolding adjusting
-adjusting-late b a n [] map = search late-runs
-adjusting-late b a n (f ∷ fs) map = search (late-runs, adjusting-late b a n fs)
+adjusting-faults len at step b a n [] map h = record { faults = tt }
+adjusting-faults len at step b a n (f ∷ fs) map h =
+    let e = suc-mul (length fs) step in
+    let here : at ≤ len = omega arith in
+    let more : at + step + length fs * step ≤ len = omega (arith, e) in
+    on-need failed (Faults len) _ _ _ _ (bad refl here)
+    (λ _. on-need failed (Faults len) _ _ _ _ (bad refl here)
+    (λ _. record { faults = adjusting-faults len (at + step) step b a n fs _ more .faults }))
 
--- a late record, at its bases
-pub applied-late : (file : List ℕ) (b : Bases) (a k : ℕ) (r : Record) (map : List ℕ) → Late earlyRecord r
-    → Late (earlyRan earlyCheck) (applied file b a k r map)
-unfolding applied placing ending
-applied-late file b a k (Code kind address from n) map h = search late-runs
-applied-late file b a k (Fixups fixup from n) map h = adjusting-late b a k _ map
-applied-late file b a k (End entry next) map h = search late-runs
-applied-late file b a k (Faulty fault) map h = search late-runs
+-- the end record
+ending-faults : (len at : ℕ) (b : Bases) (entry : Entry) (next : ℕ) → at ≤ len → next ≤ len → Faults len (ending at b entry next len)
+unfolding ending
+ending-faults len at b entry next h i =
+    on-need failed (Faults len) _ _ _ _ (bad refl h) (λ _. on-need failed (Faults len) _ _ _ _ (bad refl i) (λ _. record { faults = tt }))
+
+-- a record that lies in the file
+pub applied-faults : (file : List ℕ) (at : ℕ) (b : Bases) (a k : ℕ) (r : Record) (map : List ℕ) → Where (length file) at r
+    → Checks (length file) (applied file at b a k r map .answer)
+unfolding applied
+applied-faults file at b a k (Code kind address from n) map w = placing-faults _ (at + 2) _ _ _ _ (omega (arith, w))
+applied-faults file at b a k (Fixups fixup from n) map w =
+    let e = length-part file from n (w .1) in
+    let i = items-fit fixup (part file from n) in
+    adjusting-faults _ from _ b a k _ map (omega (arith, w, e, i))
+applied-faults file at b a k (End entry next) map w = ending-faults _ (at + 2) b entry next (omega (arith, w)) (w .1)
+applied-faults file at b a k (Faulty fault offset) map w = record { faults = w }

@@ -191,11 +191,11 @@ field-apart f gs map a l h e =
     gs h
 
 -- fields that passed may follow those that are marked
-pub fields-fresh : (b : Bases) (a n : ℕ) (fs gs : List Field) (map : List ℕ) → a + n ≤ length map → Threes map a gs
-    → adjusting b a n fs map .answer ≡ Passed → Fresh n gs fs
-fields-fresh b a n [] gs map l h e = record { inside = tt; cross = each-map (λ g k. tt) gs h; distinct = tt }
-fields-fresh b a n (f ∷ fs) gs map l h e =
-    let x = adjusting-passed b a n f fs map e in
+pub fields-fresh : (at step : ℕ) (b : Bases) (a n : ℕ) (fs gs : List Field) (map : List ℕ) → a + n ≤ length map → Threes map a gs
+    → adjusting at step b a n fs map .answer ≡ Passed → Fresh n gs fs
+fields-fresh at step b a n [] gs map l h e = record { inside = tt; cross = each-map (λ g k. tt) gs h; distinct = tt }
+fields-fresh at step b a n (f ∷ fs) gs map l h e =
+    let x = adjusting-passed at step b a n f fs map e in
     let k = width f in
     let room : a + f .index + k ≤ length map = omega (arith, x .0) in
     let map′ : List ℕ = put map (a + f .index) (replicate k 3) in
@@ -204,7 +204,7 @@ fields-fresh b a n (f ∷ fs) gs map l h e =
       (λ j w. fill-inside map (a + f .index) k 3 (a + j) room (omega arith)),
       each-map (λ g t j w. fill-keeps map (a + f .index) k 3 (λ v. v ≡ 3) (a + j) room refl (t j w)) gs h,
     ) in
-    let r = fields-fresh b a n fs (f ∷ gs) map′ (rw l′ l) h′ (x .2) in
+    let r = fields-fresh (at + step) step b a n fs (f ∷ gs) map′ (rw l′ l) h′ (x .2) in
     record {
       inside = (x .0, r .inside);
       cross = each-zip (λ g u v. (u, v)) gs (field-apart f gs map a room h (x .1)) (r .cross .1);

@@ -1,4 +1,6 @@
 -- One record at its bases: what is left to check once it is read (`records`), against the map as the records before it left it.
+-- Each check names its offset by document 02, wish 6: "in .. fixup lists the item, .. for 10 and 17 the address .., for 19 the first byte too many,
+-- for 20 the start's first byte".
 -- Assumes nothing.
 use mathlib.Core.Bool.{not}
 use mathlib.Core.List.{List, [], _∷_}
@@ -13,7 +15,7 @@ use Rattle.answer.specs.declared.Start.the-variants.{Absent, At}
 use Rattle.events.specs.Events.{place, adjustedMark, markOne, Ran, failed, passed}
 use Rattle.events.specs.Walk.{after}
 use Rattle.events.specs.declared.Check.{Check}
-use Rattle.fields.specs.Fields.{fieldsOf}
+use Rattle.fields.specs.Fields.{itemSize, fieldsOf}
 use Rattle.records.specs.declared.Entry.{Entry}
 use Rattle.records.specs.declared.Entry.the-variants.{Nowhere, Fixed, Relative}
 use Rattle.fields.specs.declared.Field.{Field}
@@ -23,20 +25,21 @@ use Rattle.words.specs.Runs.{part, allZero, contains}
 use Rattle.pieces.specs.Pieces.{placeAt, limitOf, width, adjustment}
 use Rattle.pieces.specs.declared.Bases.{Bases}
 
--- code at a place: "Place + n ≤ 65,536, for 0A ≤ 256 (10); no address already placed (17)"
-unfoldable pub placing : ℕ → ℕ → List ℕ → List ℕ → Ran Check
-placing a limit code map =
-    need failed (leb (a + length code) limit) DoesNotFit
-    (need failed (allZero (part map a (length code))) PiecesOverlap
+-- code at a place, whose address stands at an offset: "Place + n ≤ 65,536, for 0A ≤ 256 (10); no address already placed (17)"
+unfoldable pub placing : ℕ → ℕ → ℕ → List ℕ → List ℕ → Ran Check
+placing at a limit code map =
+    need failed (leb (a + length code) limit) DoesNotFit at
+    (need failed (allZero (part map a (length code))) PiecesOverlap at
     (passed (place a code ∷ [])))
 
--- the fields of n code bytes at a place, "Item by item: index inside the record, for words index + 1 too (12); no byte adjusted before (13)"
-unfoldable pub adjusting : Bases → ℕ → ℕ → List Field → List ℕ → Ran Check
-adjusting b a n [] map = passed []
-adjusting b a n (f ∷ fs) map =
-    need failed (leb (f .index + width f) n) FieldNotLoaded
-    (need failed (not (contains adjustedMark (part map (a + f .index) (width f)))) AdjustedTwice
-    (after (adjustment b a f ∷ []) (adjusting b a n fs (markOne (adjustment b a f) map))))
+-- the fields of n code bytes at a place, "Item by item: index inside the record, for words index + 1 too (12); no byte adjusted before (13)". The first
+-- item stands at an offset, each later one so many bytes after the one before it.
+unfoldable pub adjusting : ℕ → ℕ → Bases → ℕ → ℕ → List Field → List ℕ → Ran Check
+adjusting at step b a n [] map = passed []
+adjusting at step b a n (f ∷ fs) map =
+    need failed (leb (f .index + width f) n) FieldNotLoaded at
+    (need failed (not (contains adjustedMark (part map (a + f .index) (width f)))) AdjustedTwice at
+    (after (adjustment b a f ∷ []) (adjusting (at + step) step b a n fs (markOne (adjustment b a f) map))))
 
 -- "flag 0 none, 1 absolute, 2 plus main base"
 abbrev pub startOf : Bases → Entry → Start
@@ -44,11 +47,11 @@ startOf b Nowhere = Absent
 startOf b (Fixed a) = At a
 startOf b (Relative a) = At (b .main + a)
 
--- "sum ≤ 65,535 for flags 1, 2 (20); nothing after (19)"
-unfoldable pub ending : Bases → Entry → ℕ → ℕ → Ran Check
-ending b entry next fileLength =
-    need failed (leb (addressOf (startOf b entry)) 65535) StartTooHigh
-    (need failed (leb fileLength next) BytesAfterEnd
+-- "sum ≤ 65,535 for flags 1, 2 (20); nothing after (19)", where the start's address stands at an offset
+unfoldable pub ending : ℕ → Bases → Entry → ℕ → ℕ → Ran Check
+ending at b entry next fileLength =
+    need failed (leb (addressOf (startOf b entry)) 65535) StartTooHigh at
+    (need failed (leb fileLength next) BytesAfterEnd next
     (passed []))
 
 -- a record lies below an offset
@@ -56,11 +59,11 @@ abbrev pub EndsBy : ℕ → Record → Type 0
 EndsBy offset (Code kind address from n) = from + n ≤ offset
 EndsBy offset (Fixups fixup from n) = from + n ≤ offset
 EndsBy offset (End entry next) = next ≤ offset
-EndsBy offset (Faulty fault) = Unit {0}
+EndsBy offset (Faulty fault at) = Unit {0}
 
--- a record of the file, where the last code record before it has k bytes at a
-unfoldable pub applied : List ℕ → Bases → ℕ → ℕ → Record → List ℕ → Ran Check
-applied file b a k (Code kind address from n) map = placing (placeAt b kind address) (limitOf kind) (part file from n) map
-applied file b a k (Fixups fixup from n) map = adjusting b a k (fieldsOf fixup (part file from n)) map
-applied file b a k (End entry next) map = ending b entry next (length file)
-applied file b a k (Faulty fault) map = failed fault
+-- the record at an offset of the file, where the last code record before it has k bytes at a (the address of a code record or a start is its third byte)
+unfoldable pub applied : List ℕ → ℕ → Bases → ℕ → ℕ → Record → List ℕ → Ran Check
+applied file at b a k (Code kind address from n) map = placing (at + 2) (placeAt b kind address) (limitOf kind) (part file from n) map
+applied file at b a k (Fixups fixup from n) map = adjusting from (itemSize fixup) b a k (fieldsOf fixup (part file from n)) map
+applied file at b a k (End entry next) map = ending (at + 2) b entry next (length file)
+applied file at b a k (Faulty fault offset) map = failed fault offset

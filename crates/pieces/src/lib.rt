@@ -13,7 +13,7 @@ ghost use Prim.Native.Nat.{_+_, _<_, _≤_};
 ghost use lib.ListN.{length};
 ghost use Rattle.answer.specs.Report.{address as addressOf};
 ghost use Rattle.events.specs.Events.{playIf, Did};
-ghost use Rattle.fields.specs.Fields.{fieldsOf};
+ghost use Rattle.fields.specs.Fields.{itemSize, fieldsOf};
 ghost use Rattle.pieces.specs.Pieces.{placeAt, limitOf, amountOf, adjustment};
 ghost use Rattle.pieces.specs.Places.{Inside};
 ghost use Rattle.pieces.specs.AtBases.{placing, adjusting, ending, startOf, EndsBy, applied};
@@ -27,9 +27,10 @@ pub struct Bases {
     pub zero: u16,
 }
 
-// Checks a record of the file at the bases and carries it out, where the last code record before it has `size` bytes at `place`.
+// Checks the record at `at` of the file at the bases and carries it out, where the last code record before it has `size` bytes at `place`.
 pub fn apply(
     file: &[u8],
+    at: usize,
     bases: Bases,
     place: usize,
     size: usize,
@@ -38,8 +39,8 @@ pub fn apply(
     memory: &mut [u8],
     map: &mut [u8],
 ) -> Check
-    requires { ⌜ (length (now file) ≤ 65536) × EndsBy (length (now file)) found × (place + size ≤ 65536) × (length (now memory) ≡ 65536) × (length (now map) ≡ 65536) ⌝ }
-    ensures { λ r. ⌜ Did Check (applied (now (file .entry)) bases place size found (now (map .entry))) write (now (memory .entry)) (now (map .entry)) r (now (memory .exit)) (now (map .exit)) ⌝ }
+    requires { ⌜ (length (now file) ≤ 65536) × (at ≤ length (now file)) × EndsBy (length (now file)) found × (place + size ≤ 65536) × (length (now memory) ≡ 65536) × (length (now map) ≡ 65536) ⌝ }
+    ensures { λ r. ⌜ Did Check (applied (now (file .entry)) at bases place size found (now (map .entry))) write (now (memory .entry)) (now (map .entry)) r (now (memory .exit)) (now (map .exit)) ⌝ }
 {
     match found {
         Record::Code {
@@ -50,7 +51,15 @@ pub fn apply(
         } => {
             let next = from + count;
             let to = place_of(bases, kind, address);
-            place_code(&file[from..next], to, limit(kind), write, memory, map)
+            place_code(
+                &file[from..next],
+                at + 2,
+                to,
+                limit(kind),
+                write,
+                memory,
+                map,
+            )
         }
         Record::Fixups {
             fixup,
@@ -59,10 +68,10 @@ pub fn apply(
         } => {
             let next = from + count;
             let items = &file[from..next];
-            adjust_fields(items, fixup, bases, place, size, write, memory, map)
+            adjust_fields(items, from, fixup, bases, place, size, write, memory, map)
         }
-        Record::End { entry, next } => end(bases, entry, next, file.len()),
-        Record::Faulty(fault) => Check::Failed(fault),
+        Record::End { entry, next } => end(at + 2, bases, entry, next, file.len()),
+        Record::Faulty(fault, offset) => Check::Failed(fault, offset),
     }
 }
 
@@ -115,9 +124,10 @@ fn limit(kind: Kind) -> usize
     }
 }
 
-// Places code, if it ends within its limit and no address there is placed already.
+// Places code whose address stands at `at`, if it ends within its limit and no address there is placed already.
 fn place_code(
     code: &[u8],
+    at: usize,
     place: usize,
     limit: usize,
     write: bool,
@@ -125,23 +135,24 @@ fn place_code(
     map: &mut [u8],
 ) -> Check
     requires { ⌜ (place ≤ 131070) × (length (now code) ≤ 65536) × (limit ≤ 65536) × (length (now memory) ≡ 65536) × (length (now map) ≡ 65536) ⌝ }
-    ensures { λ r. ⌜ Did Check (placing place limit (now (code .entry)) (now (map .entry))) write (now (memory .entry)) (now (map .entry)) r (now (memory .exit)) (now (map .exit)) ⌝ }
+    ensures { λ r. ⌜ Did Check (placing at place limit (now (code .entry)) (now (map .entry))) write (now (memory .entry)) (now (map .entry)) r (now (memory .exit)) (now (map .exit)) ⌝ }
 {
     let end = place + code.len();
     if limit < end {
-        return Check::Failed(Fault::DoesNotFit);
+        return Check::Failed(Fault::DoesNotFit, at);
     }
     let free = words::is_zero(&map[place..end]);
     if !free {
-        return Check::Failed(Fault::PiecesOverlap);
+        return Check::Failed(Fault::PiecesOverlap, at);
     }
     events::place(code, place, write, memory, map);
     Check::Passed
 }
 
-// Adjusts the fields of the `size` code bytes at `place` that a fixup record lists, one by one.
+// Adjusts the fields of the `size` code bytes at `place` that a fixup record lists, one by one. Its items stand from `from` on.
 fn adjust_fields(
     items: &[u8],
+    from: usize,
     fixup: Fixup,
     bases: Bases,
     place: usize,
@@ -150,25 +161,26 @@ fn adjust_fields(
     memory: &mut [u8],
     map: &mut [u8],
 ) -> Check
-    requires { ⌜ (length (now items) ≤ 65536) × (place + size ≤ 65536) × (length (now memory) ≡ 65536) × (length (now map) ≡ 65536) ⌝ }
-    ensures { λ r. ⌜ Did Check (adjusting bases place size (fieldsOf fixup (now (items .entry))) (now (map .entry))) write (now (memory .entry)) (now (map .entry)) r (now (memory .exit)) (now (map .exit)) ⌝ }
+    requires { ⌜ (from + length (now items) ≤ 65536) × (place + size ≤ 65536) × (length (now memory) ≡ 65536) × (length (now map) ≡ 65536) ⌝ }
+    ensures { λ r. ⌜ Did Check (adjusting from (itemSize fixup) bases place size (fieldsOf fixup (now (items .entry))) (now (map .entry))) write (now (memory .entry)) (now (map .entry)) r (now (memory .exit)) (now (map .exit)) ⌝ }
 {
     let step = fields::item_size(fixup);
     let mut i = 0;
     while i + step <= items.len() {
         let field = fields::field_at(items, i, fixup);
-        let check = adjust_field(field, bases, place, size, write, memory, map);
-        if let Check::Failed(fault) = check {
-            return Check::Failed(fault);
+        let check = adjust_field(field, from + i, bases, place, size, write, memory, map);
+        if let Check::Failed(fault, offset) = check {
+            return Check::Failed(fault, offset);
         }
         i += step;
     }
     Check::Passed
 }
 
-// Adjusts a field of the `size` code bytes at `place`, if it lies inside and no byte of it was adjusted before.
+// Adjusts a field of the `size` code bytes at `place`, if it lies inside and no byte of it was adjusted before. Its item stands at `item`.
 fn adjust_field(
     field: Field,
+    item: usize,
     bases: Bases,
     place: usize,
     size: usize,
@@ -177,18 +189,18 @@ fn adjust_field(
     map: &mut [u8],
 ) -> Check
     requires { ⌜ (field .index < 256) × (field .lsb < 256) × (place + size ≤ 65536) × (length (now memory) ≡ 65536) × (length (now map) ≡ 65536) ⌝ }
-    ensures { λ r. ⌜ Did Check (adjusting bases place size (field ∷ []) (now (map .entry))) write (now (memory .entry)) (now (map .entry)) r (now (memory .exit)) (now (map .exit)) ⌝ }
+    ensures { λ r. ⌜ Did Check (adjusting item 0 bases place size (field ∷ []) (now (map .entry))) write (now (memory .entry)) (now (map .entry)) r (now (memory .exit)) (now (map .exit)) ⌝ }
 {
     let fixup = field.fixup;
     let width = fields::width(fixup);
     if size < field.index + width {
-        return Check::Failed(Fault::FieldNotLoaded);
+        return Check::Failed(Fault::FieldNotLoaded, item);
     }
     let at = place + field.index;
     let past = at + width;
     let adjusted = words::contains(&map[at..past], events::ADJUSTED);
     if adjusted {
-        return Check::Failed(Fault::AdjustedTwice);
+        return Check::Failed(Fault::AdjustedTwice, item);
     }
     words::fill(&mut map[at..past], events::ADJUSTED);
     write_field(field, bases, place, size, write, memory);
@@ -220,16 +232,16 @@ fn write_field(
     }
 }
 
-// Checks the end record, which ends at `next` of a file of `length` bytes.
-fn end(bases: Bases, entry: Entry, next: usize, length: usize) -> Check
-    ensures { λ r. ⌜ r ≡ ending bases entry next length .answer ⌝ }
+// Checks the end record, whose address stands at `at`, and which ends at `next` of a file of `length` bytes.
+fn end(at: usize, bases: Bases, entry: Entry, next: usize, length: usize) -> Check
+    ensures { λ r. ⌜ r ≡ ending at bases entry next length .answer ⌝ }
 {
     let address = start_address(bases, entry);
     if 65535 < address {
-        return Check::Failed(Fault::StartTooHigh);
+        return Check::Failed(Fault::StartTooHigh, at);
     }
     if next < length {
-        return Check::Failed(Fault::BytesAfterEnd);
+        return Check::Failed(Fault::BytesAfterEnd, next);
     }
     Check::Passed
 }

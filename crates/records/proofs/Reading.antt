@@ -1,13 +1,14 @@
 -- Where the record that is read lies in its file, what may come before it, and how long code is.
 -- Assumes nothing.
-use mathlib.Core.Bool.{true, false≢true}
+use mathlib.Core.Bool.{true, false, false≢true}
 use mathlib.Core.List.{List}
 use mathlib.Core.Path.{_≡_, refl}
-use Prim.Native.Nat.{ℕ, _+_, _≤_}
+use Prim.Native.Nat.{ℕ, _+_, _<_, _≤_}
 use native.Mathlib.Omega.{arith}
-use borrow.Author.Tests.{leb-true}
+use borrow.Author.Tests.{leb-true, ltb-true}
 use lib.ListN.{length, getD}
 use Rattle.answer.proofs.Checks.{on-need}
+use Rattle.answer.proofs.Faults.{isEarly, OfFile}
 use Rattle.answer.specs.declared.Fault.{Fault}
 use Rattle.words.specs.Runs.{Bytes}
 use Rattle.records.specs.Records.{RecordType, code, fixups, end, unknown, types, suits, readCode, readItems, readFixups, readEnd, readAs, read}
@@ -21,29 +22,30 @@ use Rattle.records.specs.declared.Record.the-variants.{Code, Fixups, End
 
 -- ---- a record lies in its file
 
--- where a record that begins at `at` has its bytes, in a file of `len` bytes
+-- where a record that begins at `at` has its bytes, in a file of `len` bytes; a fault is one that such a file may be refused with
 abbrev pub Where : ℕ → ℕ → Record → Type 0
 Where len at (Code kind address from size) = (from ≡ at + 4) × (from + size ≤ len)
 Where len at (Fixups fixup from size) = (from ≡ at + 2) × (from + size ≤ len)
 Where len at (End entry next) = (next ≡ at + 4) × (next ≤ len)
-Where len at (Faulty fault) = Unit {0}
+Where len at (Faulty fault offset) = OfFile len fault offset
 
 -- the same as a record, whose arguments antt finds by itself
 pub record Lies (len at : ℕ) (r : Record) : Type 0 where
   pub lies : Where len at r
 
--- a fault lies nowhere
-bad : (len at : ℕ) (f : Fault) → Lies len at (Faulty f)
-bad len at f = record { lies = tt }
+-- a fault of a record, at an offset of the file
+bad : {len at : ℕ} {fault : Fault} {offset : ℕ} → isEarly fault ≡ false → offset ≤ len → Lies len at (Faulty fault offset)
+bad l w = record { lies = record { late = l; within = w } }
 
 -- a code record's bytes
 code-lies : (file : List ℕ) (at : ℕ) (kind : Kind) → Lies (length file) at (readCode file at kind)
 unfolding readCode
 code-lies file at kind =
     let P = Lies (length file) at in
-    on-need Faulty P (bad _ _) _ _ _
-    (λ h₁. on-need Faulty P (bad _ _) _ _ _
-    (λ h₂. on-need Faulty P (bad _ _) _ _ _
+    on-need Faulty P _ _ _ _ (bad refl (omega arith))
+    (λ h₁. let header : at + 2 ≤ length file = leb-true _ _ h₁ in
+    on-need Faulty P _ _ _ _ (bad refl (omega arith))
+    (λ h₂. on-need Faulty P _ _ _ _ (bad refl (omega arith))
     (λ h₃. record { lies = (refl, omega (arith, leb-true)) })))
 
 -- a fixup record's items
@@ -51,10 +53,11 @@ fixups-lie : (file : List ℕ) (at : ℕ) (last : Last) (kind : Kind) (fixup : F
 unfolding readFixups readItems
 fixups-lie file at last kind fixup =
     let P = Lies (length file) at in
-    on-need Faulty P (bad _ _) _ _ _
-    (λ h₁. on-need Faulty P (bad _ _) _ _ _
-    (λ h₂. on-need Faulty P (bad _ _) _ _ _
-    (λ h₃. on-need Faulty P (bad _ _) _ _ _
+    on-need Faulty P _ _ _ _ (bad refl (omega arith))
+    (λ h₁. let header : at + 2 ≤ length file = leb-true _ _ h₁ in
+    on-need Faulty P _ _ _ _ (bad refl (omega arith))
+    (λ h₂. on-need Faulty P _ _ _ _ (bad refl (omega arith))
+    (λ h₃. on-need Faulty P _ _ _ _ (bad refl (omega arith))
     (λ h₄. record { lies = (refl, omega (arith, leb-true)) }))))
 
 -- the end record's bytes
@@ -62,20 +65,22 @@ end-lies : (file : List ℕ) (at : ℕ) → Lies (length file) at (readEnd file 
 unfolding readEnd
 end-lies file at =
     let P = Lies (length file) at in
-    on-need Faulty P (bad _ _) _ _ _
-    (λ h₁. on-need Faulty P (bad _ _) _ _ _
-    (λ h₂. record { lies = (refl, leb-true _ _ h₁) }))
+    on-need Faulty P _ _ _ _ (bad refl (omega arith))
+    (λ h₁. let header : at + 4 ≤ length file = leb-true _ _ h₁ in
+    on-need Faulty P _ _ _ _ (bad refl (omega arith))
+    (λ h₂. record { lies = (refl, header) }))
 
 -- the record at an offset lies in the file, whatever its type
 pub read-lies : (file : List ℕ) (at : ℕ) (last : Last) → Lies (length file) at (read file at last)
 unfolding read
-read-lies file at last = on-need Faulty (Lies (length file) at) (bad _ _) _ _ _ (λ _. typed (getD types (getD file at 0) unknown))
+read-lies file at last =
+    on-need Faulty (Lies (length file) at) _ _ _ _ (bad refl (omega arith)) (λ h. typed (ltb-true _ _ h) (getD types (getD file at 0) unknown))
   where
-    typed : (t : RecordType) → Lies (length file) at (readAs file at last t)
-    typed (code kind) = code-lies file at kind
-    typed (fixups kind fixup) = fixups-lie file at last kind fixup
-    typed end = end-lies file at
-    typed unknown = bad _ _ _
+    typed : at < length file → (t : RecordType) → Lies (length file) at (readAs file at last t)
+    typed h (code kind) = code-lies file at kind
+    typed h (fixups kind fixup) = fixups-lie file at last kind fixup
+    typed h end = end-lies file at
+    typed h unknown = bad refl (omega arith)
 
 -- the same of a record known to be what is read
 pub lies-as : (file : List ℕ) (at : ℕ) (last : Last) (r : Record) → read file at last ≡ r → Where (length file) at r
@@ -95,15 +100,15 @@ abbrev After : Last → Record → Type 0
 After last (Code kind address from size) = Unit {0}
 After last (Fixups fixup from size) = AfterCode last
 After last (End entry next) = Unit {0}
-After last (Faulty fault) = Unit {0}
+After last (Faulty fault offset) = Unit {0}
 
 -- the same as a record
 record Follows (last : Last) (r : Record) : Type 0 where
   follows : After last r
 
 -- a fault asks for nothing
-free : (last : Last) (f : Fault) → Follows last (Faulty f)
-free last f = record { follows = tt }
+free : {last : Last} {fault : Fault} {offset : ℕ} → Follows last (Faulty fault offset)
+free = record { follows = tt }
 
 -- before any code record no kind suits
 suits-after : (kind : Kind) (last : Last) → suits kind last ≡ true → AfterCode last
@@ -117,17 +122,17 @@ code-follows : (file : List ℕ) (at : ℕ) (last : Last) (kind : Kind) → Foll
 unfolding readCode
 code-follows file at last kind =
     let P = Follows last in
-    on-need Faulty P (free _) _ _ _ (λ _. on-need Faulty P (free _) _ _ _ (λ _. on-need Faulty P (free _) _ _ _ (λ _. record { follows = tt })))
+    on-need Faulty P _ _ _ _ free (λ _. on-need Faulty P _ _ _ _ free (λ _. on-need Faulty P _ _ _ _ free (λ _. record { follows = tt })))
 
 -- a fixup record asks for code
 fixups-follow : (file : List ℕ) (at : ℕ) (last : Last) (kind : Kind) (fixup : Fixup) → Follows last (readFixups file at last kind fixup)
 unfolding readFixups readItems
 fixups-follow file at last kind fixup =
     let P = Follows last in
-    on-need Faulty P (free _) _ _ _
-    (λ _. on-need Faulty P (free _) _ _ _
-    (λ h. on-need Faulty P (free _) _ _ _
-    (λ _. on-need Faulty P (free _) _ _ _
+    on-need Faulty P _ _ _ _ free
+    (λ _. on-need Faulty P _ _ _ _ free
+    (λ h. on-need Faulty P _ _ _ _ free
+    (λ _. on-need Faulty P _ _ _ _ free
     (λ _. record { follows = suits-after kind last h }))))
 
 -- the end record asks for nothing
@@ -135,18 +140,18 @@ end-follows : (file : List ℕ) (at : ℕ) (last : Last) → Follows last (readE
 unfolding readEnd
 end-follows file at last =
     let P = Follows last in
-    on-need Faulty P (free _) _ _ _ (λ _. on-need Faulty P (free _) _ _ _ (λ _. record { follows = tt }))
+    on-need Faulty P _ _ _ _ free (λ _. on-need Faulty P _ _ _ _ free (λ _. record { follows = tt }))
 
 -- the record at an offset has what it asks for before it
 read-follows : (file : List ℕ) (at : ℕ) (last : Last) → Follows last (read file at last)
 unfolding read
-read-follows file at last = on-need Faulty (Follows last) (free _) _ _ _ (λ _. typed (getD types (getD file at 0) unknown))
+read-follows file at last = on-need Faulty (Follows last) _ _ _ _ free (λ _. typed (getD types (getD file at 0) unknown))
   where
     typed : (t : RecordType) → Follows last (readAs file at last t)
     typed (code kind) = code-follows file at last kind
     typed (fixups kind fixup) = fixups-follow file at last kind fixup
     typed end = end-follows file at last
-    typed unknown = free _ _
+    typed unknown = free
 
 -- where a fixup record is read, there is a code record before
 pub fixups-after : (file : List ℕ) (at : ℕ) (last : Last) (fixup : Fixup) (from size : ℕ) → read file at last ≡ Fixups fixup from size
@@ -162,49 +167,49 @@ abbrev Few : Record → Type 0
 Few (Code kind address from size) = size ≤ 253
 Few (Fixups fixup from size) = Unit {0}
 Few (End entry next) = Unit {0}
-Few (Faulty fault) = Unit {0}
+Few (Faulty fault offset) = Unit {0}
 
 -- the same as a record
 record Short (r : Record) : Type 0 where
   few : Few r
 
 -- a fault holds nothing
-none : (f : Fault) → Short (Faulty f)
-none f = record { few = tt }
+none : {fault : Fault} {offset : ℕ} → Short (Faulty fault offset)
+none = record { few = tt }
 
 -- what is left of a length byte after the address
 code-short : (file : List ℕ) (at : ℕ) (kind : Kind) → Bytes file → Short (readCode file at kind)
 unfolding readCode
 code-short file at kind b =
     let n = b (at + 1) in
-    on-need Faulty Short none _ _ _
-    (λ _. on-need Faulty Short none _ _ _ (λ _. on-need Faulty Short none _ _ _ (λ _. record { few = omega arith })))
+    on-need Faulty Short _ _ _ _ none
+    (λ _. on-need Faulty Short _ _ _ _ none (λ _. on-need Faulty Short _ _ _ _ none (λ _. record { few = omega arith })))
 
 -- a fixup record is no code
 fixups-short : (file : List ℕ) (at : ℕ) (last : Last) (kind : Kind) (fixup : Fixup) → Short (readFixups file at last kind fixup)
 unfolding readFixups readItems
 fixups-short file at last kind fixup =
-    on-need Faulty Short none _ _ _
-    (λ _. on-need Faulty Short none _ _ _
-    (λ _. on-need Faulty Short none _ _ _
-    (λ _. on-need Faulty Short none _ _ _
+    on-need Faulty Short _ _ _ _ none
+    (λ _. on-need Faulty Short _ _ _ _ none
+    (λ _. on-need Faulty Short _ _ _ _ none
+    (λ _. on-need Faulty Short _ _ _ _ none
     (λ _. record { few = tt }))))
 
 -- nor is the end record
 end-short : (file : List ℕ) (at : ℕ) → Short (readEnd file at)
 unfolding readEnd
-end-short file at = on-need Faulty Short none _ _ _ (λ _. on-need Faulty Short none _ _ _ (λ _. record { few = tt }))
+end-short file at = on-need Faulty Short _ _ _ _ none (λ _. on-need Faulty Short _ _ _ _ none (λ _. record { few = tt }))
 
 -- the record at an offset, whatever its type
 read-short : (file : List ℕ) (at : ℕ) (last : Last) → Bytes file → Short (read file at last)
 unfolding read
-read-short file at last b = on-need Faulty Short none _ _ _ (λ _. typed (getD types (getD file at 0) unknown))
+read-short file at last b = on-need Faulty Short _ _ _ _ none (λ _. typed (getD types (getD file at 0) unknown))
   where
     typed : (t : RecordType) → Short (readAs file at last t)
     typed (code kind) = code-short file at kind b
     typed (fixups kind fixup) = fixups-short file at last kind fixup
     typed end = end-short file at
-    typed unknown = none _
+    typed unknown = none
 
 -- a code record of a file of bytes holds 253 bytes at most
 pub code-few : (file : List ℕ) (at : ℕ) (last : Last) (kind : Kind) (address from size : ℕ) → Bytes file

@@ -1,4 +1,6 @@
 -- ACX records as document 01 reads them, "ACX records, checks in order": what stands at an offset of a file, with no base in mind.
+-- Each check names its offset by document 02, wish 6: "for 5 the file's length, for 9 the .. length, .. for 18 the type"; a type or a flag that is not
+-- known (6) is itself "the field .. at fault".
 -- Cited by `records::read`; what is left to check, at the bases and against the map, stands in `pieces`.
 -- Assumes nothing.
 use mathlib.Core.Bool.{Bool, true, false, _&&_}
@@ -49,9 +51,9 @@ types =
 unfoldable pub readCode : List ℕ → ℕ → Kind → Record
 readCode file at kind =
     let n = getD file (at + 1) 0 in
-    need Faulty (leb (at + 2) (length file)) CutShort
-    (need Faulty (leb 2 n) LengthNotAllowed
-    (need Faulty (leb (at + 2 + n) (length file)) CutShort
+    need Faulty (leb (at + 2) (length file)) CutShort (length file)
+    (need Faulty (leb 2 n) LengthNotAllowed (at + 1)
+    (need Faulty (leb (at + 2 + n) (length file)) CutShort (length file)
     (Code kind (value 2 file (at + 2)) (at + 4) (n - 2))))
 
 -- "the last code record before it of the right kind (18) ..; none .. before any code record". Where document 01 has none after 01 either, document 02,
@@ -78,15 +80,15 @@ lengthAllowed HighByte n = eqb (n % 2) 0 && leb n 254
 unfoldable pub readItems : List ℕ → ℕ → Fixup → Record
 readItems file at fixup =
     let n = getD file (at + 1) 0 in
-    need Faulty (lengthAllowed fixup n) LengthNotAllowed
-    (need Faulty (leb (at + 2 + n) (length file)) CutShort
+    need Faulty (lengthAllowed fixup n) LengthNotAllowed (at + 1)
+    (need Faulty (leb (at + 2 + n) (length file)) CutShort (length file)
     (Fixups fixup (at + 2) n))
 
 -- "Fixups: length byte present (5); the last code record before it of the right kind (18)", then the items
 unfoldable pub readFixups : List ℕ → ℕ → Last → Kind → Fixup → Record
 readFixups file at last kind fixup =
-    need Faulty (leb (at + 2) (length file)) CutShort
-    (need Faulty (suits kind last) FixupUnsuited
+    need Faulty (leb (at + 2) (length file)) CutShort (length file)
+    (need Faulty (suits kind last) FixupUnsuited at
     (readItems file at fixup))
 
 -- "flag 0 none, 1 absolute, 2 plus main base (6)"
@@ -97,8 +99,8 @@ entries address = Nowhere ∷ Fixed address ∷ Relative address ∷ []
 unfoldable pub readEnd : List ℕ → ℕ → Record
 readEnd file at =
     let flag = getD file (at + 1) 0 in
-    need Faulty (leb (at + 4) (length file)) CutShort
-    (need Faulty (leb flag 2) NotKnown
+    need Faulty (leb (at + 4) (length file)) CutShort (length file)
+    (need Faulty (leb flag 2) NotKnown (at + 1)
     (End (getD (entries (value 2 file (at + 2))) flag Nowhere) (at + 4)))
 
 -- a record as its type says
@@ -106,8 +108,8 @@ abbrev pub readAs : List ℕ → ℕ → Last → RecordType → Record
 readAs file at last (code kind) = readCode file at kind
 readAs file at last (fixups kind fixup) = readFixups file at last kind fixup
 readAs file at last end = readEnd file at
-readAs file at last unknown = Faulty NotKnown
+readAs file at last unknown = Faulty NotKnown at
 
 -- the record at an offset: "Type known (5, 6)", and then as the type says
 unfoldable pub read : List ℕ → ℕ → Last → Record
-read file at last = need Faulty (ltb at (length file)) CutShort (readAs file at last (getD types (getD file at 0) unknown))
+read file at last = need Faulty (ltb at (length file)) CutShort (length file) (readAs file at last (getD types (getD file at 0) unknown))

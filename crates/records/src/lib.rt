@@ -27,7 +27,8 @@ pub enum Entry {
     Relative(u16),
 }
 
-// A record: its code bytes or its items are the `size` bytes of the file from `from` on, and the next record begins after them.
+// A record: its code bytes or its items are the `size` bytes of the file from `from` on, and the next record begins after them; or a fault, with the
+// offset of the first byte at fault.
 pub enum Record {
     Code {
         kind: Kind,
@@ -44,7 +45,7 @@ pub enum Record {
         entry: Entry,
         next: usize,
     },
-    Faulty(Fault),
+    Faulty(Fault, usize),
 }
 
 // Reads the record at `at`.
@@ -53,7 +54,7 @@ pub fn read(file: &[u8], at: usize, last: Last) -> Record
     ensures { λ r. ⌜ r ≡ readOf (now (file .entry)) at last ⌝ }
 {
     if file.len() <= at {
-        return Record::Faulty(Fault::CutShort);
+        return Record::Faulty(Fault::CutShort, file.len());
     }
     let record_type = file[at];
     match record_type {
@@ -69,7 +70,7 @@ pub fn read(file: &[u8], at: usize, last: Last) -> Record
         9 => read_fixups(file, at, last, Kind::ZeroPage, Fixup::HighByte),
         10 => read_code(file, at, Kind::ZeroPage),
         11 => read_end(file, at),
-        _ => Record::Faulty(Fault::NotKnown),
+        _ => Record::Faulty(Fault::NotKnown, at),
     }
 }
 
@@ -79,14 +80,14 @@ fn read_code(file: &[u8], at: usize, kind: Kind) -> Record
     ensures { λ r. ⌜ r ≡ readCode (now (file .entry)) at kind ⌝ }
 {
     if file.len() < at + 2 {
-        return Record::Faulty(Fault::CutShort);
+        return Record::Faulty(Fault::CutShort, file.len());
     }
     let length = words::wide(file[at + 1]);
     if length < 2 {
-        return Record::Faulty(Fault::LengthNotAllowed);
+        return Record::Faulty(Fault::LengthNotAllowed, at + 1);
     }
     if file.len() < at + 2 + length {
-        return Record::Faulty(Fault::CutShort);
+        return Record::Faulty(Fault::CutShort, file.len());
     }
     Record::Code {
         kind,
@@ -102,11 +103,11 @@ fn read_fixups(file: &[u8], at: usize, last: Last, kind: Kind, fixup: Fixup) -> 
     ensures { λ r. ⌜ r ≡ readFixups (now (file .entry)) at last kind fixup ⌝ }
 {
     if file.len() < at + 2 {
-        return Record::Faulty(Fault::CutShort);
+        return Record::Faulty(Fault::CutShort, file.len());
     }
     let suited = suits(kind, last);
     if !suited {
-        return Record::Faulty(Fault::FixupUnsuited);
+        return Record::Faulty(Fault::FixupUnsuited, at);
     }
     read_items(file, at, fixup)
 }
@@ -141,10 +142,10 @@ fn read_items(file: &[u8], at: usize, fixup: Fixup) -> Record
     let length = words::wide(file[at + 1]);
     let allowed = length_allowed(fixup, length);
     if !allowed {
-        return Record::Faulty(Fault::LengthNotAllowed);
+        return Record::Faulty(Fault::LengthNotAllowed, at + 1);
     }
     if file.len() < at + 2 + length {
-        return Record::Faulty(Fault::CutShort);
+        return Record::Faulty(Fault::CutShort, file.len());
     }
     Record::Fixups {
         fixup,
@@ -171,7 +172,7 @@ fn read_end(file: &[u8], at: usize) -> Record
     ensures { λ r. ⌜ r ≡ readEnd (now (file .entry)) at ⌝ }
 {
     if file.len() < at + 4 {
-        return Record::Faulty(Fault::CutShort);
+        return Record::Faulty(Fault::CutShort, file.len());
     }
     let flag = file[at + 1];
     let address = words::word_at(file, at + 2);
@@ -189,6 +190,6 @@ fn read_end(file: &[u8], at: usize) -> Record
             entry: Entry::Relative(address),
             next,
         },
-        _ => Record::Faulty(Fault::NotKnown),
+        _ => Record::Faulty(Fault::NotKnown, at + 1),
     }
 }

@@ -48,12 +48,12 @@ range-not low high h = rw (lt-leb _ _ h) refl
 
 module _ (file : List ℕ) where
   -- under two bytes: 5
-  pub opening-cut : length file < 2 → Failed CutShort ≡ opening file
+  pub opening-cut : length file < 2 → Failed CutShort (length file) ≡ opening file
   unfolding opening need
   opening-cut h = rw (lt-leb _ _ h) refl
 
   -- a first word below FFFA: 4
-  pub opening-wrong : (word : ℕ) → word ≡ value 2 file 0 → 2 ≤ length file → word < 65530 → Failed WrongOpening ≡ opening file
+  pub opening-wrong : (word : ℕ) → word ≡ value 2 file 0 → 2 ≤ length file → word < 65530 → Failed WrongOpening 0 ≡ opening file
   unfolding opening need
   opening-wrong word e h i = rw (le-leb _ _ h, ← e, lt-leb _ _ i) refl
 
@@ -65,12 +65,12 @@ module _ (file : List ℕ) where
 -- the checks before the first block, in their order
 module _ (file : List ℕ) (g : Inputs) where
   -- a setting outside its range: 2
-  pub admit-range : inRange g ≡ false → Failed SettingOutOfRange ≡ admitting file g
+  pub admit-range : inRange g ≡ false → Failed SettingOutOfRange 0 ≡ admitting file g
   unfolding admitting need
   admit-range h = rw h refl
 
   -- a file longer than 65,536: 3
-  pub admit-long : inRange g ≡ true → 65536 < length file → Failed FileTooLong ≡ admitting file g
+  pub admit-long : inRange g ≡ true → 65536 < length file → Failed FileTooLong 0 ≡ admitting file g
   unfolding admitting need
   admit-long h i = rw (h, lt-leb _ _ i) refl
 
@@ -95,8 +95,8 @@ pub record Admitted (file : List ℕ) (g : Inputs) : Type 0 where
 pub admitted : (file : List ℕ) (g : Inputs) → admitting file g ≡ Passed → Admitted file g
 unfolding admitting
 admitted file g e =
-    let x = check-passed _ _ _ e in
-    let y = check-passed _ _ _ (x .1) in
+    let x = check-passed _ _ _ _ e in
+    let y = check-passed _ _ _ _ (x .1) in
     record { settings = x .0; fits = leb-true _ _ (y .0); opens = y .1 }
 
 -- settings in range
@@ -128,7 +128,7 @@ module _ {o : Ran Verdict} {m p ns ads m₁ p₁ : List ℕ} {r₁ : WalkEnd} (f
     where
       by : (v : Verdict) → o .answer ≡ v → Carried o (buffers m p ns ads) (Refused fault offset 0) (buffers m₁ p₁ ns ads)
       by (finished z) f = absurd (stopped-finished (sym e ∙ first .answer ∙ ap (λ (v : Verdict). walkEnd v (o .events)) f))
-      by (refused k z) f =
+      by (refused k i z) f =
           record {
             outcome = rw f (ap refusal (sym e ∙ first .answer ∙ ap (λ (v : Verdict). walkEnd v (o .events)) f));
             memory = rw f (first .memory);
@@ -144,7 +144,7 @@ module _ {o : Ran Verdict} {m p ns ads m₁ p₁ : List ℕ} {r₁ : WalkEnd} (f
   carried-accepted {t} {m₂} {p₂} {ns₂} {ads₂} {ns₃} {ads₃} {r₂} {r} e room spots second answered = by (o .answer) refl
     where
       by : (v : Verdict) → o .answer ≡ v → Carried o (buffers m p ns ads) r (buffers m₂ p₂ ns₃ ads₃)
-      by (refused k z) f = absurd (stopped-finished (sym (ap (λ (v : Verdict). walkEnd v (o .events)) f) ∙ sym (first .answer) ∙ e))
+      by (refused k i z) f = absurd (stopped-finished (sym (ap (λ (v : Verdict). walkEnd v (o .events)) f) ∙ sym (first .answer) ∙ e))
       by (finished z) f =
           let w : Finished t ≡ walkEnd (finished z) (o .events) = sym e ∙ first .answer ∙ ap (λ (v : Verdict). walkEnd v (o .events)) f in
           let n : t .named ≡ length (z .addresses) = ap (λ (q : WalkEnd). totalsIn q .named) w in
@@ -182,12 +182,12 @@ module _ (file : List ℕ) (g : Inputs) (top : g .high ≤ 65535) (P : Progress 
     where
       by : (c : Check) → opened g c (blocksOf file g) .answer ≡ finished z → P z (opened g c (blocksOf file g) .events)
       by Passed f = blocks-hold file g top P first keeps z f
-      by (Failed fault) f = absurd (refused-finished f)
+      by (Failed fault offset) f = absurd (refused-finished f)
 
 -- with the right buffers a call is a load
 pub call-load : (file : List ℕ) (g : Inputs) (right : Bool) → right ≡ true → call file g right ≡ load file g
 unfolding call need
-call-load file g right h = ap (λ (t : Bool). need (atOnce g) t WrongBuffer (load file g)) h
+call-load file g right h = ap (λ (t : Bool). need (atOnce g) t WrongBuffer 0 (load file g)) h
 
 -- ---- the counts
 
@@ -204,8 +204,8 @@ blocks-few file g top =
         → Behind (length file) (z .cursor) (es ++ turn file g y (marks es blank) .events)
     keeps y z es h e = behind-on (length file) (y .cursor) (z .cursor) es _ (led-ends file g top y z (marks es blank) e) h
 
-few-at-once : (n : ℕ) (g : Inputs) (fault : Fault) → Few n (atOnce g fault)
-few-at-once n g fault = record { counts = λ z e. absurd (refused-finished e) }
+few-at-once : (n : ℕ) (g : Inputs) (fault : Fault) (offset : ℕ) → Few n (atOnce g fault offset)
+few-at-once n g fault offset = record { counts = λ z e. absurd (refused-finished e) }
 
 load-few : (file : List ℕ) (g : Inputs) → Few (length file) (load file g)
 unfolding load
@@ -213,7 +213,7 @@ load-few file g = by (admitting file g) refl
   where
     by : (c : Check) → admitting file g ≡ c → Few (length file) (opened g c (blocksOf file g))
     by Passed e = blocks-few file g (range-bounds g (admitted file g e .settings) .1)
-    by (Failed fault) e = few-at-once (length file) g fault
+    by (Failed fault offset) e = few-at-once (length file) g fault offset
 
 -- ---- whatever the buffers
 
@@ -223,10 +223,11 @@ reported-few n m o h = by (o .answer) refl
   where
     by : (v : Verdict) → o .answer ≡ v → (placedOf (report m v (o .events)) ≤ n) × (adjustedOf (report m v (o .events)) ≤ n)
     by (finished z) e = let k = h .counts z e in (omega (arith, k), omega (arith, k))
-    by (refused fault z) e = (omega arith, omega arith)
+    by (refused fault offset z) e = (omega arith, omega arith)
 
-at-once-carried : (file : List ℕ) (g : Inputs) {m p ns ads p′ : List ℕ} {fault : Fault} {r : Outcome} → admitting file g ≡ Failed fault
-    → r ≡ Refused fault 0 0 → p′ ≡ blank → Carried (load file g) (buffers m p ns ads) r (buffers m p′ ns ads)
+at-once-carried : (file : List ℕ) (g : Inputs) {m p ns ads p′ : List ℕ} {fault : Fault} {offset : ℕ} {r : Outcome}
+    → admitting file g ≡ Failed fault offset
+    → r ≡ Refused fault offset 0 → p′ ≡ blank → Carried (load file g) (buffers m p ns ads) r (buffers m p′ ns ads)
 unfolding load
 at-once-carried file g e f clear = rw e (record { outcome = f; memory = refl; map = clear; names = refl; addresses = refl })
 
@@ -277,8 +278,9 @@ module _ (file : List ℕ) (g : Inputs) where
       })
 
   -- refused before the first block
-  pub loaded-at-once : {right : Bool} {m p ns ads p′ : List ℕ} {fault : Fault} {r : Outcome} → right ≡ true → admitting file g ≡ Failed fault
-      → r ≡ Refused fault 0 0 → p′ ≡ blank → Loaded file g right (buffers m p ns ads) r (buffers m p′ ns ads)
+  pub loaded-at-once : {right : Bool} {m p ns ads p′ : List ℕ} {fault : Fault} {offset : ℕ} {r : Outcome} → right ≡ true
+      → admitting file g ≡ Failed fault offset
+      → r ≡ Refused fault offset 0 → p′ ≡ blank → Loaded file g right (buffers m p ns ads) r (buffers m p′ ns ads)
   loaded-at-once {m = m} {p = p} {ns = ns} {ads = ads} {p′ = p′} {r = r} h e f clear =
       loaded-sized h (loaded-right (buffers m p ns ads) r (buffers m p′ ns ads) (at-once-carried file g e f clear))
 
@@ -290,8 +292,9 @@ module _ (file : List ℕ) (g : Inputs) where
 
     -- where the first walk stopped, the load is refused there
     pub blocks-refused : {m p ns ads m₁ p₁ : List ℕ} {r₁ : WalkEnd} → Checked (blocksOf file g) m r₁ m₁ p₁ → {fault : Fault} {offset : ℕ}
-        → r₁ ≡ Stopped fault offset → Loaded file g true (buffers m p ns ads) (Refused fault offset 0) (buffers m₁ p₁ ns ads)
-    blocks-refused first e = loaded-right _ _ _ (rw load-blocks (carried-refused first e))
+        {r : Outcome} → r₁ ≡ Stopped fault offset → r ≡ Refused fault offset 0
+        → Loaded file g true (buffers m p ns ads) r (buffers m₁ p₁ ns ads)
+    blocks-refused first e er = rw er (loaded-right _ _ _ (rw load-blocks (carried-refused first e)))
 
     -- where it finished, the second walk carries the file out
     pub blocks-accepted : {m p ns ads m₁ p₁ : List ℕ} {r₁ : WalkEnd} → Checked (blocksOf file g) m r₁ m₁ p₁

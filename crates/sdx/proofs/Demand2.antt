@@ -76,13 +76,13 @@ unfolding call load need
 finished-asked file g x b z e = by (x && sized g b) (admitting file g) refl refl e
   where
     by : (t : Bool) (c : Check) → x && sized g b ≡ t → admitting file g ≡ c
-        → need (atOnce g) t WrongBuffer (opened g c (blocksOf file g)) .answer ≡ finished z
+        → need (atOnce g) t WrongBuffer 0 (opened g c (blocksOf file g)) .answer ≡ finished z
         → Asked file g x b
     by true Passed h i f =
         let s = and-true x (sized g b) h in
         let a = admitted file g i in
         record { lengths = s .0; buffers = s .1; settings = a .settings; fits = a .fits }
-    by true (Failed fault) h i f = absurd (refused-finished f)
+    by true (Failed fault offset) h i f = absurd (refused-finished f)
     by false c h i f = absurd (refused-finished f)
 
 -- and comes to what the file comes to
@@ -143,7 +143,7 @@ lowOf (Refused fault offset side) = 0
 -- what is reported as accepted was finished
 reported-finished : (m : List ℕ) (v : Verdict) (es : List Event) → isRefused (report m v es) ≡ false → (z : Progress) × (v ≡ finished z)
 reported-finished m (finished z) es e = (z, refl)
-reported-finished m (refused fault z) es e = absurd (false≢true (sym e))
+reported-finished m (refused fault offset z) es e = absurd (false≢true (sym e))
 
 -- a call as asked of a file that the rules accept
 accepted-call : (file : List ℕ) (g : Inputs) (x : Bool) (b b′ : Buffers) (r : Outcome) (z : Progress) → Loaded file g (x && sized g b) b r b′ → Bytes file → Asked file g x b

@@ -90,10 +90,10 @@ module _ (file : List ℕ) (g : Inputs) (x y : Bool) (b₁ b₂ b d : Buffers) (
 
 -- what a call with the right buffers reports of a file that is refused hangs on no memory
 refused-outcome : (file : List ℕ) (g : Inputs) (right : Bool) (b b′ : Buffers) (r : Outcome) → Loaded file g right b r b′ → right ≡ true
-    → (fault : Fault) (z : Progress)
-    → load file g .answer ≡ refused fault z
-    → r ≡ Refused fault (z .cursor .at) 0
-refused-outcome file g right b b′ r d h fault z e =
+    → (fault : Fault) (offset : ℕ) (z : Progress)
+    → load file g .answer ≡ refused fault offset z
+    → r ≡ Refused fault offset 0
+refused-outcome file g right b b′ r d h fault offset z e =
     d .outcome
     ∙ ap (λ (o : Ran Verdict). report (b .memory) (o .answer) (o .events)) (call-load file g right h)
     ∙ ap (λ (v : Verdict). report (b .memory) v (load file g .events)) e
@@ -128,4 +128,4 @@ same-program file bytes g x y b₁ b₂ b d r t h i f s =
   where
     by : (v : Verdict) → load file g .answer ≡ v → r ≡ t
     by (finished z) e = same-outcome file g x y b₁ b₂ b d r t f s h i bytes z e
-    by (refused fault z) e = refused-outcome file g _ b₁ b r f h fault z e ∙ sym (refused-outcome file g _ b₂ d t s i fault z e)
+    by (refused fault offset z) e = refused-outcome file g _ b₁ b r f h fault offset z e ∙ sym (refused-outcome file g _ b₂ d t s i fault offset z e)

@@ -1,160 +1,100 @@
--- No file is refused with 1, 2 or 3: no item, no block and no opening gives these numbers, so no walk ends with one. So each has its one cause.
+-- What a file is refused with: not 1, 2 or 3, which are left to lengths and settings, so that each has its one cause; and at an offset of the file.
 -- Assumes nothing.
 use mathlib.Core.Bool.{Bool, true, false}
 use mathlib.Core.List.{List}
-use mathlib.Core.Path.{refl}
-use Prim.Native.Nat.{ℕ}
+use mathlib.Core.Path.{_≡_, refl, sym, ap}
+use Prim.Native.Nat.{ℕ, _≤_}
+use native.Mathlib.Omega.{arith}
+use borrow.Author.Tests.{leb-true}
 use lib.Dec.{leb}
 use lib.ListN.{length}
 use Rattle.answer.proofs.Causes.{causes-of}
-use Rattle.answer.proofs.Faults.{isEarly, Late, earlyOutcome}
+use Rattle.answer.proofs.Checks.{on-need}
+use Rattle.answer.proofs.Faults.{ByFile, offset-within}
 use Rattle.answer.specs.Causes.{Causes}
 use Rattle.answer.specs.Checks.{need}
-use Rattle.blocks.specs.Blocks.{readPlain, readRoom, readRelocatable, readUpdate, byDefinition, readNames, readAddress, readNewName, read}
-use Rattle.blocks.specs.declared.Block.{Block}
-use Rattle.blocks.specs.declared.Block.the-variants.{Plain, Relocatable, Update, NewName, Faulty}
-use Rattle.blocks.specs.declared.Cursor.{Cursor}
-use Rattle.effects.specs.Effects.{applied}
-use Rattle.events.proofs.Faults.{earlyCheck, earlyRan, earlyTurn, late-ran, late-answer, late-runs}
+use Rattle.answer.specs.Report.{offsetOf}
+use Rattle.answer.specs.declared.Fault.{Fault}
+use Rattle.events.proofs.Faults.{CheckFaults, Checks}
 use Rattle.events.specs.Events.{Event, Ran}
 use Rattle.events.specs.Sizes.{fileLimit}
 use Rattle.events.specs.declared.Check.{Check}
 use Rattle.events.specs.declared.Check.the-variants.{Passed, Failed}
-use Rattle.items.specs.Items.{setting, settingToBlock, read as read-item}
-use Rattle.items.specs.declared.Counter.{Counter}
-use Rattle.items.specs.declared.Counter.the-variants.{Unset, Set}
-use Rattle.items.specs.declared.Item.{Item}
-use Rattle.items.specs.declared.Item.the-variants.{Faulty as FaultyItem, End, Move, Adjust}
-use Rattle.items.specs.declared.Slot.{Slot}
-use Rattle.names.specs.declared.Definition.{Definition}
-use Rattle.names.specs.declared.Definition.the-variants.{Missing, Own, Lent}
-use Rattle.passes.specs.Walk.{Inputs, Progress, Verdict, finished, refused, judge as judge-block, blockAt, appliedAt, turn as turn-block, blocksFrom, blocksOf}
-use Rattle.updates.specs.Bodies.{adjusting, applied as appliedItem, BodyState, Stop, broken, done, judge, turn, items, body}
-use Rattle.sdx.proofs.Calling.{judged}
-use Rattle.sdx.specs.Call.{inRange, opening, opened, admitting, load, call, report}
+use Rattle.passes.proofs.Faults.{Verdicts, blocks-faults}
+use Rattle.passes.specs.Walk.{Inputs, Verdict, finished, refused, blocksOf}
+use Rattle.sdx.proofs.Calling.{judged, admitted, range-bounds}
+use Rattle.sdx.specs.Call.{inRange, atOnce, opening, opened, admitting, load, call, report}
 
--- ---- whether an answer is a refusal with 1, 2 or 3
+-- the opening
+opening-faults : (file : List ℕ) → Checks (length file) (opening file)
+unfolding opening
+opening-faults file =
+    on-need Failed (Checks (length file)) _ _ _ _ (record { faults = record { late = refl; within = omega arith } })
+    (λ _. on-need Failed (Checks (length file)) _ _ _ _ (record { faults = record { late = refl; within = omega arith } })
+    (λ _. record { faults = tt }))
 
-abbrev earlyItem : Item → Bool
-earlyItem (FaultyItem fault) = isEarly fault
-earlyItem (End next) = false
-earlyItem (Move counter next) = false
-earlyItem (Adjust counter next) = false
+-- and then the blocks
+opened-faults : (len : ℕ) (g : Inputs) (c : Check) (rest : Ran Verdict) → CheckFaults len c → Verdicts len (rest .answer)
+    → Verdicts len (opened g c rest .answer)
+opened-faults len g Passed rest h i = i
+opened-faults len g (Failed fault offset) rest h i = record { faults = h }
 
-abbrev earlyStop : Stop → Bool
-earlyStop (broken fault) = isEarly fault
-earlyStop (done next) = false
-
-abbrev earlyBlock : Block → Bool
-earlyBlock (Plain address from size) = false
-earlyBlock (Relocatable reserves number offset from size) = false
-earlyBlock (Update source from) = false
-earlyBlock (NewName from address) = false
-earlyBlock (Faulty fault) = isEarly fault
-
-abbrev earlyVerdict : Verdict → Bool
-earlyVerdict (finished z) = false
-earlyVerdict (refused fault z) = isEarly fault
-
--- ---- a body
-
--- an item, read
-item-late : (file : List ℕ) (table : List Slot) (at : ℕ) (counter : Counter) → Late earlyItem (read-item file table at counter)
-unfolding read-item setting settingToBlock
-item-late file table at Unset = search late-runs depth 10
-item-late file table at (Set counter) = search late-runs depth 10
-
--- carried out
-applied-item-late : (amount : ℕ) (item : Item) (map : List ℕ) → Late earlyItem item → Late (earlyRan earlyCheck) (appliedItem amount item map)
-unfolding adjusting
-applied-item-late amount (FaultyItem fault) map h = search late-runs
-applied-item-late amount (End next) map h = search late-runs
-applied-item-late amount (Move counter next) map h = search late-runs
-applied-item-late amount (Adjust counter next) map h = search late-runs
-
--- and where it leads
-judge-late : (c : Check) (item : Item) → Late earlyCheck c → Late earlyItem item → Late (earlyTurn earlyStop) (judge c item)
-judge-late (Failed fault) item h i = search late-runs
-judge-late Passed (FaultyItem fault) h i = search late-runs
-judge-late Passed (End next) h i = search late-runs
-judge-late Passed (Move counter next) h i = search late-runs
-judge-late Passed (Adjust counter next) h i = search late-runs
-
--- so every turn of a body, and the body
-turn-late : (file : List ℕ) (table : List Slot) (amount : ℕ) (s : BodyState) (map : List ℕ)
-    → Late (earlyRan (earlyTurn earlyStop)) (turn file table amount s map)
-unfolding turn
-turn-late file table amount s map =
-    let item = item-late file table (s .at) (s .counter) in
-    late-ran _ _ _ (judge-late _ _ (late-answer _ _ (applied-item-late amount _ map item)) item)
-
-body-late : (file : List ℕ) (table : List Slot) (amount at : ℕ) (map : List ℕ) → Late (earlyRan earlyStop) (body file table amount at map)
-unfolding items
-body-late file table amount at map = search (late-runs, turn-late)
-
--- ---- a block
-
--- a name, by its definition
-definition-late : (next : ℕ) (d : Definition) → Late earlyBlock (byDefinition next d)
-definition-late next Missing = search late-runs
-definition-late next (Own i) = search late-runs
-definition-late next (Lent i) = search late-runs
-
--- a block, read
-block-late : (file : List ℕ) (high : ℕ) (lent own : List ℕ) (c : Cursor) → Late earlyBlock (read file high lent own c)
-unfolding read readPlain readNames readNewName readAddress readUpdate readRelocatable readRoom
-block-late file high lent own c = search (late-runs, definition-late) depth 14
-
--- and carried out
-applied-late : (file lent own : List ℕ) (c : Cursor) (b : Block) (map : List ℕ) → Late earlyBlock b
-    → Late (earlyRan earlyStop) (applied file lent own c b map)
-applied-late file lent own c (Plain address from size) map h = search late-runs
-applied-late file lent own c (Relocatable true number offset from size) map h = search late-runs
-applied-late file lent own c (Relocatable false number offset from size) map h = search late-runs
-applied-late file lent own c (Update source from) map h = body-late file (c .table) _ from map
-applied-late file lent own c (NewName from address) map h = search late-runs
-applied-late file lent own c (Faulty fault) map h = search late-runs
-
-applied-at-late : (file : List ℕ) (g : Inputs) (z : Progress) (map : List ℕ) → Late (earlyRan earlyStop) (appliedAt file g z map)
-unfolding appliedAt
-applied-at-late file g z map = applied-late file _ _ (z .cursor) _ map (block-late file (g .high) (g .names) (z .names) (z .cursor))
-
--- ---- a load
-
--- where a block leads
-judge-block-late : (file : List ℕ) (z : Progress) (b : Block) (es : List Event) (s : Stop) → Late earlyStop s
-    → Late (earlyTurn earlyVerdict) (judge-block file z b es s)
-judge-block-late file z b es (broken fault) h = search late-runs
-judge-block-late file z b es (done next) h = search late-runs
-
--- so every turn of a file, and all its blocks
-turn-block-late : (file : List ℕ) (g : Inputs) (z : Progress) (map : List ℕ) → Late (earlyRan (earlyTurn earlyVerdict)) (turn-block file g z map)
-unfolding turn-block
-turn-block-late file g z map = search (late-runs, judge-block-late file z (blockAt file g z), applied-at-late)
-
-blocks-late : (file : List ℕ) (g : Inputs) → Late (earlyRan earlyVerdict) (blocksOf file g)
-unfolding blocksFrom
-blocks-late file g = search (late-runs, turn-block-late)
-
--- the opening, and then the blocks
-opened-late : (g : Inputs) (c : Check) (rest : Ran Verdict) → Late earlyCheck c → Late (earlyRan earlyVerdict) rest
-    → Late (earlyRan earlyVerdict) (opened g c rest)
-opened-late g Passed rest h i = i
-opened-late g (Failed fault) rest h i = search late-runs
-
-judged-late : (file : List ℕ) (g : Inputs) → Late (earlyRan earlyVerdict) (judged file g)
-unfolding judged opening
-judged-late file g = search (late-runs, opened-late, blocks-late) depth 6
+judged-faults : (file : List ℕ) (g : Inputs) → g .high ≤ 65535 → Verdicts (length file) (judged file g .answer)
+unfolding judged
+judged-faults file g top = opened-faults _ g (opening file) _ (opening-faults file .faults) (blocks-faults file g top)
 
 -- what is reported of it
-report-late : (memory : List ℕ) (v : Verdict) (es : List Event) → Late earlyVerdict v → Late earlyOutcome (report memory v es)
-report-late memory (finished z) es h = search late-runs
-report-late memory (refused fault z) es h = search late-runs
+report-faults : {len : ℕ} (memory : List ℕ) (v : Verdict) (es : List Event) → Verdicts len v → ByFile len (report memory v es)
+report-faults memory (finished z) es h = record { decided = tt }
+report-faults memory (refused fault offset z) es h = record { decided = h .faults }
 
--- why a call is refused with 1, 2 or 3
+-- ---- the offset of every call
+
+-- a check passed, or failed at an offset up to n
+abbrev CheckOffset : ℕ → Check → Type 0
+CheckOffset n Passed = Unit {0}
+CheckOffset n (Failed fault offset) = offset ≤ n
+
+-- (the same as a record)
+record Offset (n : ℕ) (c : Check) : Type 0 where
+  within : CheckOffset n c
+
+-- the checks before the first block name 0, or the length of a file that is not too long
+admitting-offset : (file : List ℕ) (g : Inputs) (n : ℕ) → (length file ≤ 65536 → length file ≤ n) → Offset n (admitting file g)
+unfolding admitting opening
+admitting-offset file g n h =
+    on-need Failed (Offset n) _ _ _ _ (record { within = omega arith })
+    (λ _. on-need Failed (Offset n) _ _ _ _ (record { within = omega arith })
+    (λ i. on-need Failed (Offset n) _ _ _ _ (record { within = h (leb-true _ _ i) })
+    (λ _. on-need Failed (Offset n) _ _ _ _ (record { within = omega arith })
+    (λ _. record { within = tt }))))
+
+-- so the offset of what is refused before the first block has room in four bytes
+pub admit-fits : (file : List ℕ) (g : Inputs) {fault : Fault} {offset : ℕ} → admitting file g ≡ Failed fault offset → offset ≤ 65536
+admit-fits file g {fault} {offset} e =
+    let h : CheckOffset 65536 (Failed fault offset) = rw e at (admitting-offset file g 65536 (λ l. l) .within) in
+    h
+
+-- the offset of every call is in the file, or its length
+pub call-offset : (file : List ℕ) (g : Inputs) (right : Bool) (memory : List ℕ)
+    → offsetOf (report memory (call file g right .answer) (call file g right .events)) ≤ length file
+unfolding call load
+call-offset file g right memory =
+    on-need (atOnce g) (λ (o : Ran Verdict). offsetOf (report memory (o .answer) (o .events)) ≤ length file) _ _ _ _ (omega arith)
+    (λ _. by (admitting file g) refl (admitting-offset file g (length file) (λ l. omega arith) .within))
+  where
+    by : (c : Check) → admitting file g ≡ c → CheckOffset (length file) c
+        → offsetOf (report memory (opened g c (blocksOf file g) .answer) (opened g c (blocksOf file g) .events)) ≤ length file
+    by Passed e h =
+        let top = range-bounds g (admitted file g e .settings) .1 in
+        offset-within _ (report-faults memory _ (blocksOf file g .events) (blocks-faults file g top))
+    by (Failed fault offset) e h = h
+
+-- ---- why a call is refused with 1, 2 or 3
+
 pub call-causes : (file : List ℕ) (g : Inputs) (right : Bool) (memory : List ℕ)
     → Causes right (inRange g) (leb (length file) fileLimit) (report memory (call file g right .answer) (call file g right .events))
 unfolding call load judged admitting need
 call-causes file g right memory =
-    causes-of right (inRange g) (leb (length file) fileLimit) (λ h. rw h refl) (λ h i. rw (h, i) refl) (λ h i j. rw (h, i, j) refl)
-    (λ h i j. rw (h, i, j) (report-late memory _ _ (late-answer _ _ (judged-late file g))))
+    causes-of (length file) right (inRange g) (leb (length file) fileLimit) (λ h. rw h refl) (λ h i. rw (h, i) refl) (λ h i j. rw (h, i, j) refl)
+    (λ h i j. rw (h, i, j) (report-faults memory _ _ (judged-faults file g (range-bounds g i .1))))

@@ -53,7 +53,7 @@ Known z (Update (Number number) from) = slotAt (z .cursor .table) number .taken 
 Known z (Update (LentName i) from) = Unit {0}
 Known z (Update (OwnName i) from) = i < length (z .addresses)
 Known z (NewName from address) = Unit {0}
-Known z (Faulty fault) = Unit {0}
+Known z (Faulty fault offset) = Unit {0}
 
 module _ (y z : Progress) (grown : Grown y z) where
   -- a slot that is taken stays taken, and keeps its address
@@ -72,7 +72,7 @@ module _ (y z : Progress) (grown : Grown y z) where
   known-grown (Update (LentName i) from) h = tt
   known-grown (Update (OwnName i) from) h = omega (arith, h, grown .longer)
   known-grown (NewName from address) h = tt
-  known-grown (Faulty fault) h = tt
+  known-grown (Faulty fault offset) h = tt
 
   -- so a source's amount stays
   amount-grown : (lent : List ℕ) (source : Source) (from : ℕ) → Known y (Update source from)
@@ -89,7 +89,7 @@ module _ (y z : Progress) (grown : Grown y z) where
       h ∙ ap (λ (a : ℕ). place a (part file from size) ∷ []) (slot-address number k)
   rule-grown file g (Update source from) es k h = rw (← amount-grown (g .addresses) source from k) h
   rule-grown file g (NewName from address) es k h = h
-  rule-grown file g (Faulty fault) es k h = h
+  rule-grown file g (Faulty fault offset) es k h = h
 
 -- ---- one block more
 
@@ -110,7 +110,7 @@ advanced-slots c (Plain address from size) next p n h = refl
 advanced-slots c (Relocatable reserves number offset from size) next p n h = set-slots (c .table) number (slotFor c offset size) (p .passes) n h
 advanced-slots c (Update source from) next p n h = refl
 advanced-slots c (NewName from address) next p n h = refl
-advanced-slots c (Faulty fault) next p n h = refl
+advanced-slots c (Faulty fault offset) next p n h = refl
 
 -- progress grows with every block
 stepped-grown : (file : List ℕ) (y : Progress) (b : Block) (es : List Event) (next : ℕ) → Granted (y .cursor) b → Grown y (stepped file y b es next)
@@ -162,7 +162,7 @@ module _ (file : List ℕ) (g : Inputs) (y : Progress) (lent : ℕ) (tabled : Ta
         known-grown y (then (Update source from)) (stepped-grown file y (Update source from) _ next p) (Update source from)
         (source-known y source from _ _ lent f p counted)
     stepped-known (NewName from address) f p = tt
-    stepped-known (Faulty fault) f p = tt
+    stepped-known (Faulty fault offset) f p = tt
 
     -- its events are the rule's
     stepped-rule : (b : Block) → Fits (length file) (y .cursor) lent (length (y .names) / 8) b → Granted (y .cursor) b
@@ -178,7 +178,7 @@ module _ (file : List ℕ) (g : Inputs) (y : Progress) (lent : ℕ) (tabled : Ta
         rule-grown y (then (Update source from)) (stepped-grown file y (Update source from) es next p) file g (Update source from) es
         (source-known y source from _ _ lent f p counted) (each-map (adjusts-by amount) es (body-each file (y .cursor .table) amount from map))
     stepped-rule (NewName from address) f p e = refl
-    stepped-rule (Faulty fault) f p e = absurd (broken-done e)
+    stepped-rule (Faulty fault offset) f p e = absurd (broken-done e)
 
 -- the events of a block are lawful
 applied-lawful : (file lent own : List ℕ) (c : Cursor) (b : Block) (map : List ℕ) (n k : ℕ) → length map ≡ 65536
@@ -191,7 +191,7 @@ applied-lawful file lent own c (Relocatable false number offset from size) map n
     (omega (arith, length-part file from size (f .lies .1), f .lies .2), tt)
 applied-lawful file lent own c (Update source from) map n k l f p = body-lawful file (c .table) (amountOf (c .table) lent own source) from map l
 applied-lawful file lent own c (NewName from address) map n k l f p = tt
-applied-lawful file lent own c (Faulty fault) map n k l f p = tt
+applied-lawful file lent own c (Faulty fault offset) map n k l f p = tt
 
 -- ---- what every block keeps
 

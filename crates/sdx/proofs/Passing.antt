@@ -47,7 +47,7 @@ Passes c (Update (Number number) from) = slotAt (c .table) number .taken ≡ tru
 Passes c (Update (LentName i) from) = Unit {0}
 Passes c (Update (OwnName i) from) = Unit {0}
 Passes c (NewName from address) = Unit {0}
-Passes c (Faulty fault) = Unit {0}
+Passes c (Faulty fault offset) = Unit {0}
 
 -- (the same as a record)
 pub record Granted (c : Cursor) (b : Block) : Type 0 where
@@ -55,16 +55,16 @@ pub record Granted (c : Cursor) (b : Block) : Type 0 where
 
 module _ (file : List ℕ) (high : ℕ) (lent own : List ℕ) (c : Cursor) where
   -- a fault has nothing to pass
-  checked : (check : Bool) (fault : Fault) (b : Block) → (check ≡ true → Granted c b) → Granted c (need Faulty check fault b)
-  checked = on-need Faulty (Granted c) (λ fault. record { passes = tt })
+  checked : (check : Bool) (fault : Fault) (offset : ℕ) (b : Block) → (check ≡ true → Granted c b) → Granted c (need Faulty check fault offset b)
+  checked check fault offset b h = on-need Faulty (Granted c) check fault offset b (record { passes = tt }) h
 
   -- a plain block's last byte has an address
   plain-granted : Bytes file → (at : ℕ) → Granted c (readPlain file at)
   unfolding readPlain
   plain-granted bytes at =
-      checked _ _ _
-      (λ h. checked _ _ _
-      (λ i. checked _ _ _
+      checked _ _ _ _
+      (λ h. checked _ _ _ _
+      (λ i. checked _ _ _ _
       (λ j. let header : at + 4 ≤ length file = leb-true _ _ h in
       let order : value 2 file at ≤ value 2 file (at + 2) = leb-true _ _ i in
       let last : value 2 file (at + 2) < 65536 = value-lt 2 file (at + 2) (omega arith) bytes in
@@ -74,26 +74,26 @@ module _ (file : List ℕ) (high : ℕ) (lent own : List ℕ) (c : Cursor) where
   room-granted : (number : ℕ) (reserves : Bool) → Granted c (readRoom file high c number reserves)
   unfolding readRoom
   room-granted number reserves =
-      checked _ _ _
-      (λ h. checked _ _ _
-      (λ i. checked _ _ _
+      checked _ _ _ _
+      (λ h. checked _ _ _ _
+      (λ i. checked _ _ _ _
       (λ j. record { passes = not-true _ (and-true (not (slotAt (c .table) number .taken)) (ltb (c .count) mostBlocks) h .0) })))
 
   relocatable-granted : Granted c (readRelocatable file high c)
   unfolding readRelocatable
-  relocatable-granted = checked _ _ _ (λ h. checked _ _ _ (λ i. checked _ _ _ (λ j. room-granted _ _)))
+  relocatable-granted = checked _ _ _ _ (λ h. checked _ _ _ _ (λ i. checked _ _ _ _ (λ j. room-granted _ _)))
 
   -- the block of a body is there
   update-granted : Granted c (readUpdate file c)
   unfolding readUpdate
-  update-granted = checked _ _ _ (λ h. checked _ _ _ (λ i. checked _ _ _ (λ j. record { passes = j })))
+  update-granted = checked _ _ _ _ (λ h. checked _ _ _ _ (λ i. checked _ _ _ _ (λ j. record { passes = j })))
 
   -- (a name has no slot)
   names-granted : Granted c (readNames file lent own c)
   unfolding readNames
-  names-granted = checked _ _ _ (λ h. by (lookUp own lent (part file (c .at + 2) 8)))
+  names-granted = checked _ _ _ _ (λ h. by (lookUp own lent (part file (c .at + 2) 8)))
     where
-      by : (d : Definition) → Granted c (byDefinition (c .at + 12) d)
+      by : (d : Definition) → Granted c (byDefinition (c .at) d)
       by Missing = record { passes = tt }
       by (Own i) = record { passes = tt }
       by (Lent i) = record { passes = tt }
@@ -102,14 +102,14 @@ module _ (file : List ℕ) (high : ℕ) (lent own : List ℕ) (c : Cursor) where
   new-name-granted : Granted c (readNewName file c)
   unfolding readNewName readAddress
   new-name-granted =
-      checked _ _ _
-      (λ h. checked _ _ _ (λ i. checked _ _ _ (λ j. checked _ _ _ (λ k. checked _ _ _ (λ l. record { passes = tt })))))
+      checked _ _ _ _
+      (λ h. checked _ _ _ _ (λ i. checked _ _ _ _ (λ j. checked _ _ _ _ (λ k. checked _ _ _ _ (λ l. record { passes = tt })))))
 
   -- so every block has passed that is read
   pub read-granted : Bytes file → Granted c (read file high lent own c)
   unfolding read
   read-granted bytes =
-      checked _ _ _
+      checked _ _ _ _
       (λ h. on-pick (Granted c) _ _ _ (λ i. plain-granted bytes (c .at))
       (λ i. on-pick (Granted c) _ _ _ (λ j. names-granted)
       (λ j. on-pick (Granted c) _ _ _ (λ k. new-name-granted)
@@ -140,20 +140,20 @@ word-placed map a l e f =
     )
 
 -- so a word that is adjusted may be
-adjusting-lawful : (amount a : ℕ) (map : List ℕ) → length map ≡ 65536 → a ≤ 65534 → Lawful map (adjusting amount a map .events)
+adjusting-lawful : (at amount a : ℕ) (map : List ℕ) → length map ≡ 65536 → a ≤ 65534 → Lawful map (adjusting at amount a map .events)
 unfolding adjusting
-adjusting-lawful amount a map l h =
-    on-need failed (λ o. Lawful map (o .events)) (λ fault. tt) _ _ _
-    (λ i. on-need failed (λ o. Lawful map (o .events)) (λ fault. tt) _ _ _
+adjusting-lawful at amount a map l h =
+    on-need failed (λ o. Lawful map (o .events)) _ _ _ _ tt
+    (λ i. on-need failed (λ o. Lawful map (o .events)) _ _ _ _ tt
     (λ j. let w = word-placed map a (omega arith) i (not-true _ j) in ((refl, omega arith, w .0, w .1), tt)))
 
 -- an item, and a turn
 applied-item-lawful : (len at amount : ℕ) (item : Item) (map : List ℕ) → length map ≡ 65536 → Where len at item
-    → Lawful map (appliedItem amount item map .events)
-applied-item-lawful len at amount (FaultyItem fault) map l w = tt
+    → Lawful map (appliedItem at amount item map .events)
+applied-item-lawful len at amount (FaultyItem fault offset) map l w = tt
 applied-item-lawful len at amount (End next) map l w = tt
 applied-item-lawful len at amount (Move counter next) map l w = tt
-applied-item-lawful len at amount (Adjust counter next) map l w = adjusting-lawful amount counter map l (w .2)
+applied-item-lawful len at amount (Adjust counter next) map l w = adjusting-lawful at amount counter map l (w .2)
 
 turn-lawful : (file : List ℕ) (table : List Slot) (amount : ℕ) (s : BodyState) (map : List ℕ) → length map ≡ 65536
     → Lawful map (turn file table amount s map .events)
@@ -168,6 +168,6 @@ unfolding items
 body-lawful file table amount at map l =
     let each : (s : BodyState) (es : List Event) → Lawful (marks es map) (turn file table amount s (marks es map) .events) =
     λ s es. turn-lawful file table amount s (marks es map) (length-marks es map ∙ l) in
-    let x = walk-keeps (turn file table amount) (λ z. broken CutShort) (λ s. bytesLeft file (s .at)) (turn-falls file table amount) (λ s es. Lawful map es) map
+    let x = walk-keeps (turn file table amount) (λ z. broken CutShort (length file)) (λ s. bytesLeft file (s .at)) (turn-falls file table amount) (λ s es. Lawful map es) map
     (λ s z es h e. lawful-append map es _ h (each s es)) (begun at) tt in
     rw (x .events) (lawful-append map (x .before) _ (x .held) (each (x .state) (x .before)))

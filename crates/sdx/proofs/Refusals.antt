@@ -14,7 +14,7 @@ use Rattle.events.specs.Events.{Event, blank, Ran}
 use Rattle.passes.specs.Buffers.{Buffers}
 use Rattle.passes.specs.Walk.{Inputs, Progress, Verdict, finished, refused}
 use Rattle.sdx.proofs.Calling.{call-load}
-use Rattle.sdx.proofs.Faults.{call-causes}
+use Rattle.sdx.proofs.Faults.{call-offset, call-causes}
 use Rattle.sdx.proofs.Rules.{by-rules}
 use Rattle.sdx.specs.Refusals.{Refusals, RefusalsClaim}
 use Rattle.sdx.specs.Call.{load, call, report, memoryAfter, mapAfter, namesAfter, addressesAfter, Loaded, sized}
@@ -28,7 +28,7 @@ record Untouched (v : Verdict) (es : List Event) (m ns ads : List ℕ) : Type 0 
 
 refused-untouched : (v : Verdict) (es : List Event) (m ns ads : List ℕ) → isRefused (report m v es) ≡ true → Untouched v es m ns ads
 refused-untouched (finished z) es m ns ads e = absurd (false≢true e)
-refused-untouched (refused fault z) es m ns ads e = record { memory = refl; map = refl; names = refl; addresses = refl }
+refused-untouched (refused fault offset z) es m ns ads e = record { memory = refl; map = refl; names = refl; addresses = refl }
 
 -- a call with the right buffers is not refused with 1, one with others is
 module _ (file : List ℕ) (g : Inputs) (right : Bool) (b b′ : Buffers) (r : Outcome) (d : Loaded file g right b r b′) (fault : Fault) (offset side : ℕ)
@@ -65,13 +65,13 @@ module _ (file : List ℕ) (g : Inputs) (right : Bool) (b b′ : Buffers) (r : O
 
 -- an outcome that is a refusal is of a verdict that is one
 reported-refused : (m : List ℕ) (v : Verdict) (es : List Event) (fault : Fault) (offset side : ℕ) → report m v es ≡ Refused fault offset side
-    → ((y : Progress) × (v ≡ refused fault y) × (offset ≡ y .cursor .at)) × (side ≡ 0)
+    → ((y : Progress) × (v ≡ refused fault offset y)) × (side ≡ 0)
 reported-refused m (finished z) es fault offset side e = absurd (false≢true (ap isRefused e))
-reported-refused m (refused f y) es fault offset side e =
+reported-refused m (refused f i y) es fault offset side e =
     let k : f ≡ fault = cc in
-    let l : y .cursor .at ≡ offset = cc in
+    let l : i ≡ offset = cc in
     let s : 0 ≡ side = cc in
-    ((y, ap (λ (d : Fault). refused d y) k, sym l), sym s)
+    ((y, ap (λ (d : Fault). refused d i y) k ∙ ap (λ (n : ℕ). refused fault n y) l), sym s)
 
 -- every call, where the lengths are right or not
 refusals : (file : List ℕ) (g : Inputs) (right : Bool) (b b′ : Buffers) (r : Outcome) → Loaded file g right b r b′ → Refusals file g right b r b′
@@ -83,9 +83,9 @@ refusals file g right b b′ r d =
       causes = rw (d .outcome) (call-causes file g right (b .memory));
       only = λ h fault offset side e.
           let k = reported-refused (b .memory) (o .answer) (o .events) fault offset side (sym (load-is h) ∙ e) in
-          ((k .0 .0, by-rules file g .refuses-only fault (k .0 .0) (k .0 .1), k .0 .2), k .1);
-      all = λ h fault offset w. load-is h ∙ ap (λ (v : Verdict). report (b .memory) v (o .events)) (by-rules file g .refuses fault (w .0) (w .1))
-          ∙ ap (λ (n : ℕ). Refused fault n 0) (sym (w .2));
+          ((k .0 .0, by-rules file g .refuses-only fault offset (k .0 .0) (k .0 .1)), k .1);
+      all = λ h fault offset w. load-is h ∙ ap (λ (v : Verdict). report (b .memory) v (o .events)) (by-rules file g .refuses fault offset (w .0) (w .1));
+      offset-fits = rw (d .outcome) (call-offset file g right (b .memory));
       leaves = λ fault offset side e.
           let u = untouched file g right b b′ r d fault offset side e in
           record {

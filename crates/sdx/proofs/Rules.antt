@@ -49,7 +49,7 @@ module _ (file : List ℕ) (g : Inputs) (y : Progress) (map : List ℕ) where
   does-applied (Update source from) end fs h =
       body-by-rules file (y .cursor .table) (amountOf (y .cursor .table) (g .addresses) (y .addresses) source) from map .follows end fs h
   does-applied (NewName from address) end fs h = h
-  does-applied (Faulty fault) end fs h = absurd h
+  does-applied (Faulty fault offset) end fs h = absurd h
 
   applied-does : (found : Block) (end : ℕ) → comes found .answer ≡ done end → Does file g y map found end (comes found .events)
   applied-does (Plain address from size) end e = done-is (comes (Plain address from size)) e
@@ -57,24 +57,24 @@ module _ (file : List ℕ) (g : Inputs) (y : Progress) (map : List ℕ) where
   applied-does (Update source from) end e =
       body-by-rules file (y .cursor .table) (amountOf (y .cursor .table) (g .addresses) (y .addresses) source) from map .follows-only end e
   applied-does (NewName from address) end e = done-is (comes (NewName from address)) e
-  applied-does (Faulty fault) end e = absurd (broken-done e)
+  applied-does (Faulty fault offset) end e = absurd (broken-done e)
 
-  breaks-applied : (found : Block) (fault : Fault) → Breaks file g y map found fault → comes found .answer ≡ broken fault
-  breaks-applied (Plain address from size) fault h = absurd h
-  breaks-applied (Relocatable reserves number offset from size) fault h = absurd h
-  breaks-applied (Update source from) fault h =
-      body-by-rules file (y .cursor .table) (amountOf (y .cursor .table) (g .addresses) (y .addresses) source) from map .fails fault h
-  breaks-applied (NewName from address) fault h = absurd h
-  breaks-applied (Faulty found) fault h = ap broken (sym h)
+  breaks-applied : (found : Block) (fault : Fault) (at : ℕ) → Breaks file g y map found fault at → comes found .answer ≡ broken fault at
+  breaks-applied (Plain address from size) fault at h = absurd h
+  breaks-applied (Relocatable reserves number offset from size) fault at h = absurd h
+  breaks-applied (Update source from) fault at h =
+      body-by-rules file (y .cursor .table) (amountOf (y .cursor .table) (g .addresses) (y .addresses) source) from map .fails fault at h
+  breaks-applied (NewName from address) fault at h = absurd h
+  breaks-applied (Faulty found offset) fault at h = let e = h .0 in let i = h .1 in cc
 
-  applied-breaks : (found : Block) (fault : Fault) → comes found .answer ≡ broken fault → Breaks file g y map found fault
-  applied-breaks (Plain address from size) fault e = absurd (broken-done (sym e))
-  applied-breaks (Relocatable true number offset from size) fault e = absurd (broken-done (sym e))
-  applied-breaks (Relocatable false number offset from size) fault e = absurd (broken-done (sym e))
-  applied-breaks (Update source from) fault e =
-      body-by-rules file (y .cursor .table) (amountOf (y .cursor .table) (g .addresses) (y .addresses) source) from map .fails-only fault e
-  applied-breaks (NewName from address) fault e = absurd (broken-done (sym e))
-  applied-breaks (Faulty found) fault e = cc
+  applied-breaks : (found : Block) (fault : Fault) (at : ℕ) → comes found .answer ≡ broken fault at → Breaks file g y map found fault at
+  applied-breaks (Plain address from size) fault at e = absurd (broken-done (sym e))
+  applied-breaks (Relocatable true number offset from size) fault at e = absurd (broken-done (sym e))
+  applied-breaks (Relocatable false number offset from size) fault at e = absurd (broken-done (sym e))
+  applied-breaks (Update source from) fault at e =
+      body-by-rules file (y .cursor .table) (amountOf (y .cursor .table) (g .addresses) (y .addresses) source) from map .fails-only fault at e
+  applied-breaks (NewName from address) fault at e = absurd (broken-done (sym e))
+  applied-breaks (Faulty found offset) fault at e = (cc, cc)
 
 -- ---- the steps are the turns
 
@@ -107,7 +107,7 @@ module _ (file : List ℕ) (g : Inputs) (top : g .high ≤ 65535) where
   blocks-traced : EndsAt (turn file g) (Trace (NextBlock file g) (begun g)) blank (blocksOf file g)
   unfolding blocksFrom
   blocks-traced =
-      walk-traced (turn file g) (λ y. refused CutShort y) (λ y. bytesLeft file (y .cursor .at)) (turn-falls file g top) blank (NextBlock file g) turn-step
+      walk-traced (turn file g) (λ y. refused CutShort (length file) y) (λ y. bytesLeft file (y .cursor .at)) (turn-falls file g top) blank (NextBlock file g) turn-step
       (begun g)
 
   trace-blocks : (y : Progress) (es : List Event) (v : Verdict) → Trace (NextBlock file g) (begun g) y es
@@ -115,7 +115,7 @@ module _ (file : List ℕ) (g : Inputs) (top : g .high ≤ 65535) where
       → blocksOf file g ≡ record { answer = v; events = es ++ turn file g y (marks es blank) .events }
   unfolding blocksFrom
   trace-blocks y es v t e =
-      trace-ends (turn file g) (λ y. refused CutShort y) (λ y. bytesLeft file (y .cursor .at)) (turn-falls file g top) blank (NextBlock file g) step-turn
+      trace-ends (turn file g) (λ y. refused CutShort (length file) y) (λ y. bytesLeft file (y .cursor .at)) (turn-falls file g top) blank (NextBlock file g) step-turn
       t v e
 
   -- ---- the file
@@ -138,40 +138,41 @@ module _ (file : List ℕ) (g : Inputs) (top : g .high ≤ 65535) where
   followed z e = by (opening file) refl e
     where
       by : (c : Check) → opening file ≡ c → opened g c (blocksOf file g) .answer ≡ finished z → Follows file g z (opened g c (blocksOf file g) .events)
-      by (Failed fault) o f = absurd (refused-finished f)
+      by (Failed fault offset) o f = absurd (refused-finished f)
       by Passed o f =
           let x = blocks-traced in
           let t = turn-finished file g (x .state) (marks (x .before) blank) z (x .answer ∙ ap ends f) in
           let es : blocksOf file g .events ≡ x .before = x .events ∙ ap (λ (fs : List Event). x .before ++ fs) (t .events) ∙ append-nil (x .before) in
           rw (es, ← t .state) (record { opens = o; blocks = x .held; ends = t .at-end })
 
-  pub fails-judged : (fault : Fault) (y : Progress) → Fails file g fault y → judged file g .answer ≡ refused fault y
+  pub fails-judged : (fault : Fault) (at : ℕ) (y : Progress) → Fails file g fault at y → judged file g .answer ≡ refused fault at y
   unfolding judged appliedAt
-  fails-judged fault y (in-opening o) = ap (λ (c : Check). opened g c (blocksOf file g) .answer) o
-  fails-judged fault y (in-block {es = es} o t more b) =
+  fails-judged fault at y (in-opening o) = ap (λ (c : Check). opened g c (blocksOf file g) .answer) o
+  fails-judged fault at y (in-block {es = es} o t more b) =
       let p = marks es blank in
       let found = blockAt file g y in
-      let e : appliedAt file g y p .answer ≡ broken fault = breaks-applied file g y p found fault b in
+      let e : appliedAt file g y p .answer ≡ broken fault at = breaks-applied file g y p found fault at b in
       ap (λ (q : Ran Verdict). q .answer)
       (judged-blocks o
-      ∙ trace-blocks y es (refused fault y) t
+      ∙ trace-blocks y es (refused fault at y) t
       (ap (λ (q : Ran (Turn Progress Verdict)). q .answer) (turn-block file g y p more)
       ∙ ap (judge file y found (appliedAt file g y p .events)) e))
 
-  pub failed : (fault : Fault) (y : Progress) → judged file g .answer ≡ refused fault y → Fails file g fault y
+  pub failed : (fault : Fault) (at : ℕ) (y : Progress) → judged file g .answer ≡ refused fault at y → Fails file g fault at y
   unfolding judged appliedAt
-  failed fault y e = by (opening file) refl e
+  failed fault at y e = by (opening file) refl e
     where
-      by : (c : Check) → opening file ≡ c → opened g c (blocksOf file g) .answer ≡ refused fault y → Fails file g fault y
-      by (Failed f) o e =
-          let k : f ≡ fault = cc in
+      by : (c : Check) → opening file ≡ c → opened g c (blocksOf file g) .answer ≡ refused fault at y → Fails file g fault at y
+      by (Failed f i) o e =
+          let k : Failed f i ≡ Failed fault at = cc in
           let l : begun g ≡ y = cc in
-          subst (Fails file g fault) l (in-opening (o ∙ ap Failed k))
+          subst (Fails file g fault at) l (in-opening (o ∙ k))
       by Passed o e =
           let x = blocks-traced in
           let p = marks (x .before) blank in
-          let t = turn-refused file g (x .state) p fault y (x .answer ∙ ap ends e) in
-          subst (Fails file g fault) (t .state) (in-block o (x .held) (t .more) (applied-breaks file g (x .state) p (blockAt file g (x .state)) fault (t .broke)))
+          let t = turn-refused file g (x .state) p fault at y (x .answer ∙ ap ends e) in
+          subst (Fails file g fault at) (t .state)
+          (in-block o (x .held) (t .more) (applied-breaks file g (x .state) p (blockAt file g (x .state)) fault at (t .broke)))
 
 -- ---- a load
 
@@ -189,7 +190,7 @@ module _ (file : List ℕ) (g : Inputs) where
   load-accepted z e = by (admitting file g) refl e
     where
       by : (c : Check) → admitting file g ≡ c → opened g c (blocksOf file g) .answer ≡ finished z → Accepts file g z (opened g c (blocksOf file g) .events)
-      by (Failed fault) o f = absurd (refused-finished f)
+      by (Failed fault offset) o f = absurd (refused-finished f)
       by Passed o f =
           let a = admitted file g o in
           let top = range-bounds g (a .settings) .1 in
@@ -200,27 +201,29 @@ module _ (file : List ℕ) (g : Inputs) where
             follows = subst (λ (q : Ran Verdict). Follows file g z (q .events)) j (followed file g top z (ap (λ (q : Ran Verdict). q .answer) j ∙ f));
           }
 
-  load-refuses : (fault : Fault) (y : Progress) → Refuses file g fault y → load file g .answer ≡ refused fault y
+  load-refuses : (fault : Fault) (at : ℕ) (y : Progress) → Refuses file g fault at y → load file g .answer ≡ refused fault at y
   unfolding load admitting need
-  load-refuses fault y (out-of-range h) = rw h refl
-  load-refuses fault y (too-long h k) = rw (h, lt-leb _ _ k) refl
-  load-refuses fault y (by-file h k f) =
-      ap (λ (q : Ran Verdict). q .answer) (load-judged file g h k) ∙ fails-judged file g (range-bounds g h .1) fault y f
+  load-refuses fault at y (out-of-range h) = rw h refl
+  load-refuses fault at y (too-long h k) = rw (h, lt-leb _ _ k) refl
+  load-refuses fault at y (by-file h k f) =
+      ap (λ (q : Ran Verdict). q .answer) (load-judged file g h k) ∙ fails-judged file g (range-bounds g h .1) fault at y f
 
-  load-refused : (fault : Fault) (y : Progress) → load file g .answer ≡ refused fault y → Refuses file g fault y
+  load-refused : (fault : Fault) (at : ℕ) (y : Progress) → load file g .answer ≡ refused fault at y → Refuses file g fault at y
   unfolding load judged admitting need
-  load-refused fault y e = by (inRange g) (leb (length file) 65536) refl refl e
+  load-refused fault at y e = by (inRange g) (leb (length file) 65536) refl refl e
     where
-      at-once : {f : Fault} → Refuses file g f (begun g) → refused f (begun g) ≡ refused fault y → Refuses file g fault y
+      at-once : {f : Fault} → Refuses file g f 0 (begun g) → refused f 0 (begun g) ≡ refused fault at y → Refuses file g fault at y
       at-once {f} h e =
           let k : f ≡ fault = cc in
+          let i : 0 ≡ at = cc in
           let l : begun g ≡ y = cc in
-          subst (Refuses file g fault) l (subst (λ (d : Fault). Refuses file g d (begun g)) k h)
+          subst (Refuses file g fault at) l
+          (subst (λ (n : ℕ). Refuses file g fault n (begun g)) i (subst (λ (d : Fault). Refuses file g d 0 (begun g)) k h))
 
       by : (c d : Bool) → inRange g ≡ c → leb (length file) 65536 ≡ d
-          → opened g (need Failed c SettingOutOfRange (need Failed d FileTooLong (opening file))) (blocksOf file g) .answer ≡ refused fault y
-          → Refuses file g fault y
-      by true true h k e = by-file h (leb-true _ _ k) (failed file g (range-bounds g h .1) fault y e)
+          → opened g (need Failed c SettingOutOfRange 0 (need Failed d FileTooLong 0 (opening file))) (blocksOf file g) .answer ≡ refused fault at y
+          → Refuses file g fault at y
+      by true true h k e = by-file h (leb-true _ _ k) (failed file g (range-bounds g h .1) fault at y e)
       by true false h k e = at-once (too-long h (leb-false _ _ k)) e
       by false d h k e = at-once (out-of-range h) e
 

@@ -41,24 +41,27 @@ sized g b =
     && (eqb (length (b .map)) memorySize
     && (eqb (length (b .names)) newNamesLength && (eqb (length (b .addresses)) newAddressesLength && listed g)))
 
--- a refusal before the first block: "0 for 1 to 4 and a cut opening"
-abbrev pub atOnce : Inputs → Fault → Ran Verdict
-atOnce g fault = record { answer = refused fault (begun g); events = [] }
+-- a refusal before the first block
+abbrev pub atOnce : Inputs → Fault → ℕ → Ran Verdict
+atOnce g fault offset = record { answer = refused fault offset (begun g); events = [] }
 
 -- "One leftover byte, or an empty file, is 5. The first word must be FFFA to FFFF, else 4."
 unfoldable pub opening : List ℕ → Check
-opening file = need Failed (leb 2 (length file)) CutShort (need Failed (leb firstMarker (value 2 file 0)) WrongOpening Passed)
+opening file =
+    need Failed (leb 2 (length file)) CutShort (length file)
+    (need Failed (leb firstMarker (value 2 file 0)) WrongOpening 0
+    Passed)
 
 -- where the checks before the first block have passed, the rest decides
 abbrev pub opened : Inputs → Check → Ran Verdict → Ran Verdict
 opened g Passed rest = rest
-opened g (Failed fault) rest = atOnce g fault
+opened g (Failed fault offset) rest = atOnce g fault offset
 
 -- what a load with the right buffers checks before the first block: 2, then 3, then the opening
 unfoldable pub admitting : List ℕ → Inputs → Check
 admitting file g =
-    need Failed (inRange g) SettingOutOfRange
-    (need Failed (leb (length file) fileLimit) FileTooLong
+    need Failed (inRange g) SettingOutOfRange 0
+    (need Failed (leb (length file) fileLimit) FileTooLong 0
     (opening file))
 
 -- a load with the right buffers
@@ -67,34 +70,34 @@ load file g = opened g (admitting file g) (blocksOf file g)
 
 -- and whatever the buffers: 1 first
 unfoldable pub call : List ℕ → Inputs → Bool → Ran Verdict
-call file g right = need (atOnce g) right WrongBuffer (load file g)
+call file g right = need (atOnce g) right WrongBuffer 0 (load file g)
 
 -- what is reported of a load into a memory: the start, the counts of its events, the number of new names and low afterwards; or a fault and
--- the offset of its block
+-- its offset
 abbrev pub report : List ℕ → Verdict → List Event → Outcome
 report memory (finished z) es =
     Accepted (startIn (marks es blank) (play es memory)) (placedIn es) (adjustedIn es) (length (z .addresses)) (z .cursor .low)
-report memory (refused fault z) es = Refused fault (z .cursor .at) 0
+report memory (refused fault offset z) es = Refused fault offset 0
 
 -- memory after a load: an acceptance plays its events, "A refusal leaves program memory untouched"
 abbrev pub memoryAfter : Verdict → List Event → List ℕ → List ℕ
 memoryAfter (finished z) es memory = play es memory
-memoryAfter (refused fault z) es memory = memory
+memoryAfter (refused fault offset z) es memory = memory
 
 -- the map after a load: "The map holds the marks"; "Every other refusal leaves .. the map all zero"
 abbrev pub mapAfter : Verdict → List Event → List ℕ
 mapAfter (finished z) es = marks es blank
-mapAfter (refused fault z) es = blank
+mapAfter (refused fault offset z) es = blank
 
 -- the new names after a load: "Every other refusal leaves .. new-name buffers .. as they were"
 abbrev pub namesAfter : Verdict → List ℕ → List ℕ
 namesAfter (finished z) names = filledUp newNamesLength (z .names)
-namesAfter (refused fault z) names = names
+namesAfter (refused fault offset z) names = names
 
 -- and their addresses
 abbrev pub addressesAfter : Verdict → List ℕ → List ℕ
 addressesAfter (finished z) addresses = filledUp newAddressesLength (z .addresses)
-addressesAfter (refused fault z) addresses = addresses
+addressesAfter (refused fault offset z) addresses = addresses
 
 -- What a call promises: it found the buffers b, of the right lengths or not, and answers r and leaves b′.
 pub record Loaded (file : List ℕ) (g : Inputs) (right : Bool) (b : Buffers) (r : Outcome) (b′ : Buffers) : Type 0 where

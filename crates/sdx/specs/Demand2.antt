@@ -97,7 +97,7 @@ ByRule file g z (Relocatable false number offset from size) es =
     es ≡ place (slotAt (z .cursor .table) number .address) (part file from size) ∷ []
 ByRule file g z (Update source from) es = Each (AdjustsBy (amountOf (z .cursor .table) (g .addresses) (z .addresses) source)) es
 ByRule file g z (NewName from address) es = es ≡ []
-ByRule file g z (Faulty fault) es = ⊥
+ByRule file g z (Faulty fault offset) es = ⊥
 
 -- what all blocks did, in file order (the latest effect stands first)
 unfoldable pub eventsOf : List Effect → List Event

@@ -4,10 +4,11 @@
 use mathlib.Core.Bool.{Bool, true, _&&_}
 use mathlib.Core.List.{List}
 use mathlib.Core.Path.{_≡_}
-use Prim.Native.Nat.{ℕ}
+use Prim.Native.Nat.{ℕ, _≤_}
 use lib.Dec.{leb}
 use lib.ListN.{length}
 use Rattle.answer.specs.Causes.{Causes}
+use Rattle.answer.specs.Report.{offsetOf}
 use Rattle.answer.specs.declared.Fault.{Fault}
 use Rattle.answer.specs.declared.Fault.the-variants.{WrongBuffer}
 use Rattle.answer.specs.declared.Outcome.{Outcome}
@@ -30,17 +31,19 @@ pub record RefusedCall (fault : Fault) (b b′ : Buffers) : Type 0 where
   -- "Every other refusal leaves .. the map all zero"
   pub other : ¬ (fault ≡ WrongBuffer) → b′ .map ≡ blank
 
--- the rules refuse a load with a fault whose block begins at an offset
+-- the rules refuse a load with a fault at an offset, wherever its walk stands
 abbrev pub RefusesAt : List ℕ → Inputs → Fault → ℕ → Type 0
-RefusesAt file g fault offset = (y : Progress) × Refuses file g fault y × (offset ≡ y .cursor .at)
+RefusesAt file g fault offset = (y : Progress) × Refuses file g fault offset y
 
 -- A call that answered r, where the lengths of all that is lent are right or not.
 pub record Refusals (file : List ℕ) (g : Inputs) (right : Bool) (b : Buffers) (r : Outcome) (b′ : Buffers) : Type 0 where
   -- "1, 2, 3 come in that order": each exactly for its cause
   pub causes : Causes right (inRange g) (leb (length file) fileLimit) r
-  -- with the right lengths it is refused exactly as the rules say, with the first fault and where its block begins (a load has no side: 0)
+  -- with the right lengths it is refused exactly as the rules say, with the first fault and its offset (a load has no side: 0)
   pub only : right ≡ true → (fault : Fault) (offset side : ℕ) → r ≡ Refused fault offset side → RefusesAt file g fault offset × (side ≡ 0)
   pub all : right ≡ true → (fault : Fault) (offset : ℕ) → RefusesAt file g fault offset → r ≡ Refused fault offset 0
+  -- its offset can be looked up in the file, or is the file's length
+  pub offset-fits : offsetOf r ≤ length file
   pub leaves : (fault : Fault) (offset side : ℕ) → r ≡ Refused fault offset side → RefusedCall fault b b′
 
 -- The claim: of every file, whatever the inputs and the buffers, and of every call that keeps the loader's contract.

@@ -36,16 +36,16 @@ Does file g y map (Relocatable reserves number offset from size) end fs = AtOnce
 Does file g y map (Update source from) end fs =
     FollowsBody file (y .cursor .table) (amountOf (y .cursor .table) (g .addresses) (y .addresses) source) from map end fs
 Does file g y map (NewName from address) end fs = AtOnce file g y map (NewName from address) end fs
-Does file g y map (Faulty fault) end fs = ⊥
+Does file g y map (Faulty fault offset) end fs = ⊥
 
--- a block breaks a rule first with this fault: as it is read, or in its body
-abbrev pub Breaks : List ℕ → Inputs → Progress → List ℕ → Block → Fault → Type 0
-Breaks file g y map (Plain address from size) fault = ⊥
-Breaks file g y map (Relocatable reserves number offset from size) fault = ⊥
-Breaks file g y map (Update source from) fault =
-    FailsBody file (y .cursor .table) (amountOf (y .cursor .table) (g .addresses) (y .addresses) source) from map fault
-Breaks file g y map (NewName from address) fault = ⊥
-Breaks file g y map (Faulty found) fault = fault ≡ found
+-- a block breaks a rule first with this fault, at this offset: as it is read, or in its body
+abbrev pub Breaks : List ℕ → Inputs → Progress → List ℕ → Block → Fault → ℕ → Type 0
+Breaks file g y map (Plain address from size) fault at = ⊥
+Breaks file g y map (Relocatable reserves number offset from size) fault at = ⊥
+Breaks file g y map (Update source from) fault at =
+    FailsBody file (y .cursor .table) (amountOf (y .cursor .table) (g .addresses) (y .addresses) source) from map fault at
+Breaks file g y map (NewName from address) fault at = ⊥
+Breaks file g y map (Faulty found offset) fault at = (fault ≡ found) × (at ≡ offset)
 
 -- The block at which a load stands at y, over the map as the events es left it, leads on to z by the events fs.
 pub record NextBlock (file : List ℕ) (g : Inputs) (y : Progress) (es : List Event) (z : Progress) (fs : List Event) : Type 0 where
@@ -63,14 +63,14 @@ pub record Follows (file : List ℕ) (g : Inputs) (z : Progress) (es : List Even
   pub blocks : Trace (NextBlock file g) (begun g) z es
   pub ends : z .cursor .at ≡ length file
 
--- A file breaks a rule first with this fault: in its opening, or before its end in the block at which a load stands at y, after others that
--- passed.
-pub data Fails (file : List ℕ) (g : Inputs) : Fault → Progress → Type 0 where
-  in-opening : {fault : Fault} → opening file ≡ Failed fault → Fails file g fault (begun g)
-  in-block : {fault : Fault} {y : Progress} {es : List Event} → opening file ≡ Passed → Trace (NextBlock file g) (begun g) y es
+-- A file breaks a rule first with this fault, at this offset: in its opening, or before its end in the block at which a load stands at y, after
+-- others that passed.
+pub data Fails (file : List ℕ) (g : Inputs) : Fault → ℕ → Progress → Type 0 where
+  in-opening : {fault : Fault} {at : ℕ} → opening file ≡ Failed fault at → Fails file g fault at (begun g)
+  in-block : {fault : Fault} {at : ℕ} {y : Progress} {es : List Event} → opening file ≡ Passed → Trace (NextBlock file g) (begun g) y es
       → ¬ (y .cursor .at ≡ length file)
-      → Breaks file g y (marks es blank) (blockAt file g y) fault
-      → Fails file g fault y
+      → Breaks file g y (marks es blank) (blockAt file g y) fault at
+      → Fails file g fault at y
 
 -- ---- a load of it, with the right buffers
 
@@ -80,11 +80,12 @@ pub record Accepts (file : List ℕ) (g : Inputs) (z : Progress) (es : List Even
   pub fits : length file ≤ fileLimit
   pub follows : Follows file g z es
 
--- It is refused with a fault, where it stands at some progress: "1, 2, 3 come in that order, then the file from its front".
-pub data Refuses (file : List ℕ) (g : Inputs) : Fault → Progress → Type 0 where
-  out-of-range : inRange g ≡ false → Refuses file g SettingOutOfRange (begun g)
-  too-long : inRange g ≡ true → fileLimit < length file → Refuses file g FileTooLong (begun g)
-  by-file : {fault : Fault} {y : Progress} → inRange g ≡ true → length file ≤ fileLimit → Fails file g fault y → Refuses file g fault y
+-- It is refused with a fault, at an offset, where it stands at some progress: "1, 2, 3 come in that order, then the file from its front".
+pub data Refuses (file : List ℕ) (g : Inputs) : Fault → ℕ → Progress → Type 0 where
+  out-of-range : inRange g ≡ false → Refuses file g SettingOutOfRange 0 (begun g)
+  too-long : inRange g ≡ true → fileLimit < length file → Refuses file g FileTooLong 0 (begun g)
+  by-file : {fault : Fault} {at : ℕ} {y : Progress} → inRange g ≡ true → length file ≤ fileLimit → Fails file g fault at y
+      → Refuses file g fault at y
 
 -- ---- the claim
 
@@ -92,8 +93,8 @@ pub data Refuses (file : List ℕ) (g : Inputs) : Fault → Progress → Type 0 
 pub record ByRules (file : List ℕ) (g : Inputs) : Type 0 where
   pub accepts : (z : Progress) (es : List Event) → Accepts file g z es → load file g ≡ record { answer = finished z; events = es }
   pub accepts-only : (z : Progress) → load file g .answer ≡ finished z → Accepts file g z (load file g .events)
-  pub refuses : (fault : Fault) (y : Progress) → Refuses file g fault y → load file g .answer ≡ refused fault y
-  pub refuses-only : (fault : Fault) (y : Progress) → load file g .answer ≡ refused fault y → Refuses file g fault y
+  pub refuses : (fault : Fault) (at : ℕ) (y : Progress) → Refuses file g fault at y → load file g .answer ≡ refused fault at y
+  pub refuses-only : (fault : Fault) (at : ℕ) (y : Progress) → load file g .answer ≡ refused fault at y → Refuses file g fault at y
 
 -- of every file, whatever the inputs
 abbrev pub RulesClaim : Type 0

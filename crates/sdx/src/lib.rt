@@ -39,11 +39,11 @@ pub fn load(
         new_names,
         new_addresses,
     ) {
-        return answer::refused(Fault::WrongBuffer);
+        return answer::refused(Fault::WrongBuffer, 0);
     }
     words::fill(map, 0);
-    if let Check::Failed(fault) = admit(file, low, high) {
-        return answer::refused(fault);
+    if let Check::Failed(fault, offset) = admit(file, low, high) {
+        return answer::refused(fault, offset);
     }
     load_blocks(
         file,
@@ -92,10 +92,10 @@ fn admit(file: &[u8], low: u32, high: u32) -> Check
     ensures { λ r. ⌜ r ≡ admitting (now (file .entry)) (inputs [] [] low high) ⌝ }
 {
     if !in_range(low, high) {
-        return Check::Failed(Fault::SettingOutOfRange);
+        return Check::Failed(Fault::SettingOutOfRange, 0);
     }
     if events::FILE < file.len() {
-        return Check::Failed(Fault::FileTooLong);
+        return Check::Failed(Fault::FileTooLong, 0);
     }
     opening(file)
 }
@@ -115,11 +115,11 @@ fn opening(file: &[u8]) -> Check
     ensures { λ r. ⌜ r ≡ openingOf (now (file .entry)) ⌝ }
 {
     if file.len() < 2 {
-        return Check::Failed(Fault::CutShort);
+        return Check::Failed(Fault::CutShort, file.len());
     }
     let word = words::word_at(file, 0);
     if word < blocks::FIRST_MARKER {
-        return Check::Failed(Fault::WrongOpening);
+        return Check::Failed(Fault::WrongOpening, 0);
     }
     Check::Passed
 }
@@ -141,11 +141,7 @@ fn load_blocks(
 {
     let checked = passes::check(file, low, high, known_names, known_addresses, memory, map);
     match checked {
-        WalkEnd::Stopped(fault, offset) => Outcome::Refused {
-            fault,
-            offset: offset as u32,
-            side: 0,
-        },
+        WalkEnd::Stopped(fault, offset) => answer::refused(fault, offset),
         WalkEnd::Finished(totals) => {
             let again = passes::walk(
                 file,

@@ -1,4 +1,5 @@
--- The bench table of document 01, P1 to P10, about the definitions that the loaders and the mover are proved to keep.
+-- The bench table of document 01, P1 to P10, about the definitions that the loaders and the mover are proved to keep. Document 02, wish 6: "P7, P9 and
+-- P10 then read offsets 19, 9 and 10".
 -- A row is a call and all that it gives: the nine numbers of its answer, and every byte of every buffer that it may write. Each
 -- holds zeros before the call; only before a move memory is as a load at the old bases left it.
 -- `TableHolds` is the statement, proved in proofs/Table.antt.
@@ -149,13 +150,13 @@ P6 =
       map = holds 7936 (1 ∷ 3 ∷ 3 ∷ []) ∷ [];
     }
 
--- "P6 without its last byte: 5 at offset 11."
+-- "P6 without its last byte: 5 at offset 11"; since wish 6 at 19, the file's length
 abbrev pub P7 : Row
 P7 =
     record {
       row = 7;
       case = loadSdx (take (length P6File - 1) P6File) 7936 39936;
-      numbers = refuses 5 11;
+      numbers = refuses 5 19;
       memory = [];
       map = [];
     }
@@ -164,24 +165,24 @@ P7 =
 abbrev pub P8 : Row
 P8 = record { row = 8; case = loadSdx [] 7936 39936; numbers = refuses 5 0; memory = []; map = [] }
 
--- "P1's file and bases with the fixup record `06 01 02`: 12 at offset 7."
+-- "P1's file and bases with the fixup record `06 01 02`: 12 at offset 7"; since wish 6 at 9, the item
 abbrev pub P9 : Row
 P9 =
     record {
       row = 9;
       case = loadAcx device (P1FileWith (0x06 ∷ 0x01 ∷ 0x02 ∷ [])) (at 8192);
-      numbers = refuses 12 7;
+      numbers = refuses 12 9;
       memory = [];
       map = [];
     }
 
--- "with `06 02 01 01`: 13 at offset 7."
+-- "with `06 02 01 01`: 13 at offset 7"; since wish 6 at 10, the second item
 abbrev pub P10 : Row
 P10 =
     record {
       row = 10;
       case = loadAcx device (P1FileWith (0x06 ∷ 0x02 ∷ 0x01 ∷ 0x01 ∷ [])) (at 8192);
-      numbers = refuses 13 7;
+      numbers = refuses 13 10;
       memory = [];
       map = [];
     }

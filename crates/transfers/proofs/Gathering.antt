@@ -28,7 +28,7 @@ use Rattle.events.specs.Events.{marks, blank, Ran}
 use Rattle.events.specs.Lists.{Each}
 use Rattle.records.proofs.Reading.{AfterCode, lies-as, fixups-after}
 use Rattle.records.proofs.Record.{the-type}
-use Rattle.fields.specs.Fields.{fieldsOf}
+use Rattle.fields.specs.Fields.{itemSize, fieldsOf}
 use Rattle.records.specs.Records.{read}
 use Rattle.records.specs.declared.Entry.{Entry}
 use Rattle.fields.specs.declared.Field.{Field}
@@ -118,7 +118,7 @@ fields-inside : (file : List ℕ) (b : Bases) (s : Progress) (fixup : Fixup) (fr
 fields-inside file b s fixup from n h e c =
     let p = marks (events b (s .pieces)) blank in
     let l : length p ≡ 65536 = length-marks (events b (s .pieces)) blank ∙ length-blank in
-    fields-fresh b (lastPlace b (s .pieces)) (lastSize (s .pieces)) (fieldsOf fixup (part file from n)) [] p (omega (arith, h, l)) tt
+    fields-fresh from (itemSize fixup) b (lastPlace b (s .pieces)) (lastSize (s .pieces)) (fieldsOf fixup (part file from n)) [] p (omega (arith, h, l)) tt
     (fixups-passed file b s p fixup from n e c) .inside
 
 -- what a record brings to the scratch is what its piece brings, or its fields
@@ -143,7 +143,7 @@ gathered-on file old new m t₀ t source target s (Fixups fixup from n) lm lt i 
     (omega arith)
     (omega arith) g)
 gathered-on file old new m t₀ t source target s (End entry next) lm lt i j ep es e o g = absurd o
-gathered-on file old new m t₀ t source target s (Faulty fault) lm lt i j ep es e o g = absurd o
+gathered-on file old new m t₀ t source target s (Faulty fault offset) lm lt i j ep es e o g = absurd o
 
 -- the fields of a record lie in the last code
 sound : (file : List ℕ) (b : Bases) (c : Cursor) (s : Progress) (r : Record) → lastPlace b (s .pieces) + lastSize (s .pieces) ≤ 65536
@@ -155,7 +155,7 @@ sound file b c s (Code kind address from n) i es e k = tt
 sound file b c s (Fixups fixup from n) i es e k =
     (lies-as file (s .at) (lastOf (s .pieces)) _ e .1, rw es (fields-inside file b s fixup from n i e k))
 sound file b c s (End entry next) i es e k = tt
-sound file b c s (Faulty fault) i es e k = tt
+sound file b c s (Faulty fault offset) i es e k = tt
 
 -- ---- a record gathered by the program, which lends parts of the buffers
 
@@ -198,7 +198,7 @@ module _ (file : List ℕ) (old new : Bases) (source target : Cursor) (m t : Lis
   unfolding scratchWith
   gathers-end e = rw e refl
 
-  pub gathers-fault : {fault : Fault} → r ≡ Faulty fault → t ≡ scratchWith file old new source target m t r
+  pub gathers-fault : {fault : Fault} {offset : ℕ} → r ≡ Faulty fault offset → t ≡ scratchWith file old new source target m t r
   unfolding scratchWith
   gathers-fault e = rw e refl
 

@@ -22,14 +22,14 @@ scratchWith file old new source target m t (Code kind address from n) = put t (t
 scratchWith file old new source target m t (Fixups fixup from n) =
     put t (target .place) (edited (shift old new) (fieldsOf fixup (part file from n)) (part t (target .place) (target .size)))
 scratchWith file old new source target m t (End entry next) = t
-scratchWith file old new source target m t (Faulty fault) = t
+scratchWith file old new source target m t (Faulty fault offset) = t
 
 -- a fixup record lies in its file, and its fields in so many code bytes
 abbrev pub Sound : List ℕ → ℕ → Record → Type 0
 Sound file size (Code kind address from n) = Unit {0}
 Sound file size (Fixups fixup from n) = (from + n ≤ length file) × Each (Inside size) (fieldsOf fixup (part file from n))
 Sound file size (End entry next) = Unit {0}
-Sound file size (Faulty fault) = Unit {0}
+Sound file size (Faulty fault offset) = Unit {0}
 
 -- a byte where the map has no mark, and where it has one
 abbrev pub chosen : ℕ → ℕ → ℕ → ℕ

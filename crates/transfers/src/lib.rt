@@ -105,7 +105,7 @@ fn gather_record(
             shift_fields(&file[from..next], fixup, old, new, &mut scratch[begin..end]);
         }
         Record::End { entry, next } => {}
-        Record::Faulty(fault) => {}
+        Record::Faulty(fault, offset) => {}
     }
 }
 

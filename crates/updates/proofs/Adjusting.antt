@@ -20,16 +20,16 @@ use Rattle.updates.specs.Bodies.{wordLoaded, adjusting, applied}
 
 -- ---- a word adjusted
 
-module _ (amount a : ℕ) (write : Bool) (m p : List ℕ) where
+module _ (at amount a : ℕ) (write : Bool) (m p : List ℕ) where
   -- a byte that is not loaded
-  pub adjusting-unloaded : wordLoaded p a ≡ false → Did Check (adjusting amount a p) write m p (Failed FieldNotLoaded) m p
+  pub adjusting-unloaded : wordLoaded p a ≡ false → Did Check (adjusting at amount a p) write m p (Failed FieldNotLoaded at) m p
   unfolding adjusting need
   adjusting-unloaded e = rw e (did-none _ write m p)
 
   module _ (loaded : wordLoaded p a ≡ true) where
     -- a byte that was adjusted before
     pub adjusting-twice : contains adjustedMark (midOf a (a + 2 - a) p) ≡ true
-        → Did Check (adjusting amount a p) write m p (Failed AdjustedTwice) m p
+        → Did Check (adjusting at amount a p) write m p (Failed AdjustedTwice at) m p
     unfolding adjusting need
     adjusting-twice t =
         let u : contains adjustedMark (part p a 2) ≡ true = rw (lent-is a 2 p) at t in
@@ -37,7 +37,7 @@ module _ (amount a : ℕ) (write : Bool) (m p : List ℕ) where
 
     -- the word grows
     pub adjusting-done : (m′ p′ : List ℕ) → contains adjustedMark (midOf a (a + 2 - a) p) ≡ false
-        → Reached (adjust 2 a amount ∷ []) write m p m′ p′ → Did Check (adjusting amount a p) write m p Passed m′ p′
+        → Reached (adjust 2 a amount ∷ []) write m p m′ p′ → Did Check (adjusting at amount a p) write m p Passed m′ p′
     unfolding adjusting need
     adjusting-done m′ p′ t d =
         let u : contains adjustedMark (part p a 2) ≡ false = rw (lent-is a 2 p) at t in
@@ -45,19 +45,19 @@ module _ (amount a : ℕ) (write : Bool) (m p : List ℕ) where
 
 -- ---- an item carried out
 
-module _ (amount : ℕ) (item : Item) (write : Bool) (m p : List ℕ) where
+module _ (at amount : ℕ) (item : Item) (write : Bool) (m p : List ℕ) where
   -- a faulty item fails with its fault
-  pub applied-wrong : (fault : Fault) → item ≡ Faulty fault → Did Check (applied amount item p) write m p (Failed fault) m p
-  applied-wrong fault e = rw e (did-none _ write m p)
+  pub applied-wrong : (fault : Fault) (offset : ℕ) → item ≡ Faulty fault offset → Did Check (applied at amount item p) write m p (Failed fault offset) m p
+  applied-wrong fault offset e = rw e (did-none _ write m p)
 
   -- the end, and a counter moved, pass and change nothing
-  pub applied-end : (next : ℕ) → item ≡ End next → Did Check (applied amount item p) write m p Passed m p
+  pub applied-end : (next : ℕ) → item ≡ End next → Did Check (applied at amount item p) write m p Passed m p
   applied-end next e = rw e (did-none _ write m p)
 
-  pub applied-move : (counter next : ℕ) → item ≡ Move counter next → Did Check (applied amount item p) write m p Passed m p
+  pub applied-move : (counter next : ℕ) → item ≡ Move counter next → Did Check (applied at amount item p) write m p Passed m p
   applied-move counter next e = rw e (did-none _ write m p)
 
   -- a word to adjust is adjusted as above
   pub applied-adjust : (counter next : ℕ) (r : Check) (m′ p′ : List ℕ) → item ≡ Adjust counter next
-      → Did Check (adjusting amount counter p) write m p r m′ p′ → Did Check (applied amount item p) write m p r m′ p′
+      → Did Check (adjusting at amount counter p) write m p r m′ p′ → Did Check (applied at amount item p) write m p r m′ p′
   applied-adjust counter next r m′ p′ e d = rw e d

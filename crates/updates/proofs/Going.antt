@@ -39,20 +39,20 @@ stateOf c = record { at = c .at; counter = c .counter }
 
 -- an item that passed leads to the cursor after it, which counts the words that it adjusted
 judge-on : (c : Cursor) (item : Item) → Onward item → judge Passed item ≡ leads (stateOf (advanced c item))
-judge-on c (Faulty fault) o = absurd o
+judge-on c (Faulty fault offset) o = absurd o
 judge-on c (End next) o = absurd o
 judge-on c (Move counter next) o = refl
 judge-on c (Adjust counter next) o = refl
 
 advanced-counts : (c : Cursor) (item : Item) → advanced c item .adjusted ≡ c .adjusted + adjusts item
-advanced-counts c (Faulty fault) = omega arith
+advanced-counts c (Faulty fault offset) = omega arith
 advanced-counts c (End next) = omega arith
 advanced-counts c (Move counter next) = omega arith
 advanced-counts c (Adjust counter next) = refl
 
 -- an item that is not the end (whose tag is 1), nor a fault, leads on
-onward-by-tag : (item : Item) → OneOf (0 ∷ 2 ∷ 3 ∷ []) (tagOf the-type item) → ((fault : Fault) → item ≡ Faulty fault → ⊥) → Onward item
-onward-by-tag (Faulty fault) t h = h fault refl
+onward-by-tag : (item : Item) → OneOf (0 ∷ 2 ∷ 3 ∷ []) (tagOf the-type item) → ((fault : Fault) (offset : ℕ) → item ≡ Faulty fault offset → ⊥) → Onward item
+onward-by-tag (Faulty fault offset) t h = h fault offset refl
 onward-by-tag (End next) t h = miss (0 ∷ 2 ∷ 3 ∷ []) 1 tt t
 onward-by-tag (Move counter next) t h = tt
 onward-by-tag (Adjust counter next) t h = tt
@@ -80,7 +80,7 @@ module _ {file : List ℕ} {table : List Slot} {amount first : ℕ} {write : Boo
   going-first l =
       record {
         events = [];
-        so-far = walk-begins (turn file table amount) (λ z. broken CutShort) (λ s. bytesLeft file (s .at)) (turn-falls file table amount) _ p₀;
+        so-far = walk-begins (turn file table amount) (λ z. broken CutShort (length file)) (λ s. bytesLeft file (s .at)) (turn-falls file table amount) _ p₀;
         reached = reached-none write m₀ p₀;
         counted = refl;
         behind = omega arith;
@@ -89,12 +89,12 @@ module _ {file : List ℕ} {table : List Slot} {amount first : ℕ} {write : Boo
 
   module _ {c : Cursor} {m p : List ℕ} (x : Going file table amount first write m₀ p₀ c m p) where
     module _ {item : Item} {r : Check} {m′ p′ : List ℕ} (is : item ≡ read file table (c .at) (c .counter))
-        (d : Did Check (applied amount item p) write m p r m′ p′) where
+        (d : Did Check (applied (c .at) amount item p) write m p r m′ p′) where
       -- the definition's turn
       here : Ran (Turn BodyState Stop)
       here = turn file table amount (stateOf c) (marks (x .events) p₀)
 
-      here-is : here ≡ record { answer = judge r item; events = applied amount item p .events }
+      here-is : here ≡ record { answer = judge r item; events = applied (c .at) amount item p .events }
       unfolding here turn
       here-is = rw (← is, ← x .reached .map, d .answer) refl
 
@@ -105,22 +105,22 @@ module _ {file : List ℕ} {table : List Slot} {amount first : ℕ} {write : Boo
       ended-is : (a : Stop) → judge r item ≡ ends a → body file table amount first p₀ ≡ record { answer = a; events = x .events ++ here .events }
       unfolding here items
       ended-is a e =
-          walk-ends (turn file table amount) (λ z. broken CutShort) (λ s. bytesLeft file (s .at)) (turn-falls file table amount) _ (x .events) (stateOf c) p₀
+          walk-ends (turn file table amount) (λ z. broken CutShort (length file)) (λ s. bytesLeft file (s .at)) (turn-falls file table amount) _ (x .events) (stateOf c) p₀
           (x .so-far)
           a (ap (λ (o : Ran (Turn BodyState Stop)). o .answer) here-is ∙ e)
 
       -- an item that failed ends the body with its fault
-      pub going-fails : {fault : Fault} → r ≡ Failed fault
-          → Did Ended (ended (body file table amount first p₀)) write m₀ p₀ (Broken fault) m′ p′
-      going-fails {fault} e =
-          let o = ended-is (broken fault) (ap (λ (k : Check). judge k item) e) in
+      pub going-fails : {fault : Fault} {offset : ℕ} → r ≡ Failed fault offset
+          → Did Ended (ended (body file table amount first p₀)) write m₀ p₀ (Broken fault offset) m′ p′
+      going-fails {fault} {offset} e =
+          let o = ended-is (broken fault offset) (ap (λ (k : Check). judge k item) e) in
           rw o (record { answer = refl; reached = now })
 
       -- what a passed item adjusts
       now-counts : r ≡ Passed → adjustedIn (x .events ++ here .events) ≡ c .adjusted + adjusts item
       now-counts e =
           let f : adjustedIn (here .events) ≡ adjusts item =
-          ap (λ (o : Ran (Turn BodyState Stop)). adjustedIn (o .events)) here-is ∙ applied-counts amount item p (sym (d .answer) ∙ e) in
+          ap (λ (o : Ran (Turn BodyState Stop)). adjustedIn (o .events)) here-is ∙ applied-counts (c .at) amount item p (sym (d .answer) ∙ e) in
           omega (arith, adjusted-append (x .events) (here .events), x .counted, f)
 
       -- after FC the body is done, with as many fields adjusted as the cursor counted
@@ -137,7 +137,7 @@ module _ {file : List ℕ} {table : List Slot} {amount first : ℕ} {write : Boo
       pub going-onward : r ≡ Passed → OneOf (0 ∷ 2 ∷ 3 ∷ []) (tagOf the-type item) → Onward item
       going-onward e t =
           onward-by-tag item t
-          (λ fault f. failed-passed (sym (ap (λ (i : Item). applied amount i p .answer) f) ∙ sym (d .answer) ∙ e))
+          (λ fault offset f. failed-passed (sym (ap (λ (i : Item). applied (c .at) amount i p .answer) f) ∙ sym (d .answer) ∙ e))
 
       here-leads : r ≡ Passed → Onward item → here .answer ≡ leads (stateOf (advanced c item))
       here-leads e o =
@@ -158,7 +158,7 @@ module _ {file : List ℕ} {table : List Slot} {amount first : ℕ} {write : Boo
           let k = advanced-counts c item in
           record {
             events = x .events ++ here .events;
-            so-far = walk-goes-on (turn file table amount) (λ z. broken CutShort) (λ s. bytesLeft file (s .at)) (turn-falls file table amount) _ (x .events)
+            so-far = walk-goes-on (turn file table amount) (λ z. broken CutShort (length file)) (λ s. bytesLeft file (s .at)) (turn-falls file table amount) _ (x .events)
                 (stateOf c) p₀
                 (x .so-far) z (here-leads e o);
             reached = now;

@@ -3,6 +3,7 @@
 use mathlib.Core.List.{List, [], _++_, append-nil}
 use mathlib.Core.Path.{_≡_, refl, sym, ap, _∙_}
 use Prim.Native.Nat.{ℕ}
+use lib.ListN.{length}
 use Rattle.answer.specs.declared.Fault.{Fault}
 use Rattle.answer.specs.declared.Fault.the-variants.{CutShort}
 use Rattle.events.proofs.Checks.{passed-is, failed-passed}
@@ -23,36 +24,35 @@ use Rattle.updates.specs.Rules.{itemAt, LeadsTo, NextItem, FollowsBody, 
 -- ---- where an item leads
 
 judge-on : (item : Item) (z : BodyState) → LeadsTo item z → judge Passed item ≡ leads z
-judge-on (Faulty fault) z h = absurd h
+judge-on (Faulty fault offset) z h = absurd h
 judge-on (End next) z h = absurd h
 judge-on (Move counter next) z h = ap leads (sym h)
 judge-on (Adjust counter next) z h = ap leads (sym h)
 
 judge-led : (c : Check) (item : Item) (z : BodyState) → judge c item ≡ leads z → (c ≡ Passed) × LeadsTo item z
-judge-led (Failed fault) item z e = absurd (ends-leads e)
-judge-led Passed (Faulty fault) z e = absurd (ends-leads e)
+judge-led (Failed fault offset) item z e = absurd (ends-leads e)
+judge-led Passed (Faulty fault offset) z e = absurd (ends-leads e)
 judge-led Passed (End next) z e = absurd (ends-leads e)
 judge-led Passed (Move counter next) z e = (refl, sym (leads-same e))
 judge-led Passed (Adjust counter next) z e = (refl, sym (leads-same e))
 
 judge-done : (c : Check) (item : Item) (end : ℕ) → judge c item ≡ ends (done end) → item ≡ End end
-judge-done (Failed fault) item end e = absurd (broken-done (ends-same e))
-judge-done Passed (Faulty fault) end e = absurd (broken-done (ends-same e))
+judge-done (Failed fault offset) item end e = absurd (broken-done (ends-same e))
+judge-done Passed (Faulty fault offset) end e = absurd (broken-done (ends-same e))
 judge-done Passed (End next) end e = ap End (done-same (ends-same e))
 judge-done Passed (Move counter next) end e = absurd (ends-leads (sym e))
 judge-done Passed (Adjust counter next) end e = absurd (ends-leads (sym e))
 
 -- a broken item did not pass
-judge-broken : (amount : ℕ) (map : List ℕ) (c : Check) (item : Item) (fault : Fault) → applied amount item map .answer ≡ c
-    → judge c item ≡ ends (broken fault) → c ≡ Failed fault
-judge-broken amount map (Failed f) item fault i e =
-    let k : broken f ≡ broken fault = ends-same e in
-    let l : f ≡ fault = cc in
-    ap Failed l
-judge-broken amount map Passed (Faulty f) fault i e = absurd (failed-passed i)
-judge-broken amount map Passed (End next) fault i e = absurd (broken-done (sym (ends-same e)))
-judge-broken amount map Passed (Move counter next) fault i e = absurd (ends-leads (sym e))
-judge-broken amount map Passed (Adjust counter next) fault i e = absurd (ends-leads (sym e))
+judge-broken : (at amount : ℕ) (map : List ℕ) (c : Check) (item : Item) (fault : Fault) (offset : ℕ) → applied at amount item map .answer ≡ c
+    → judge c item ≡ ends (broken fault offset) → c ≡ Failed fault offset
+judge-broken at amount map (Failed f j) item fault offset i e =
+    let k : broken f j ≡ broken fault offset = ends-same e in
+    cc
+judge-broken at amount map Passed (Faulty f j) fault offset i e = absurd (failed-passed i)
+judge-broken at amount map Passed (End next) fault offset i e = absurd (broken-done (sym (ends-same e)))
+judge-broken at amount map Passed (Move counter next) fault offset i e = absurd (ends-leads (sym e))
+judge-broken at amount map Passed (Adjust counter next) fault offset i e = absurd (ends-leads (sym e))
 
 module _ (file : List ℕ) (table : List Slot) (amount : ℕ) (p : List ℕ) where
   -- ---- the steps are the turns
@@ -69,13 +69,13 @@ module _ (file : List ℕ) (table : List Slot) (amount : ℕ) (p : List ℕ) whe
   unfolding turn
   turn-step y z es e =
       let l = judge-led _ (itemAt file table y) z e in
-      record { passes = passed-is (applied amount (itemAt file table y) (marks es p)) (l .0) refl; leads-to = l .1 }
+      record { passes = passed-is (applied (y .at) amount (itemAt file table y) (marks es p)) (l .0) refl; leads-to = l .1 }
 
   module _ (at : ℕ) where
     body-traced : EndsAt (turn file table amount) (Trace (NextItem file table amount p) (begun at)) p (body file table amount at p)
     unfolding items
     body-traced =
-        walk-traced (turn file table amount) (λ z. broken CutShort) (λ z. bytesLeft file (z .at)) (turn-falls file table amount) p
+        walk-traced (turn file table amount) (λ z. broken CutShort (length file)) (λ z. bytesLeft file (z .at)) (turn-falls file table amount) p
         (NextItem file table amount p) turn-step (begun at)
 
     trace-body : (s : BodyState) (es : List Event) (a : Stop) → Trace (NextItem file table amount p) (begun at) s es
@@ -83,7 +83,7 @@ module _ (file : List ℕ) (table : List Slot) (amount : ℕ) (p : List ℕ) whe
         → body file table amount at p ≡ record { answer = a; events = es ++ turn file table amount s (marks es p) .events }
     unfolding items
     trace-body s es a t e =
-        trace-ends (turn file table amount) (λ z. broken CutShort) (λ z. bytesLeft file (z .at)) (turn-falls file table amount) p
+        trace-ends (turn file table amount) (λ z. broken CutShort (length file)) (λ z. bytesLeft file (z .at)) (turn-falls file table amount) p
         (NextItem file table amount p) step-turn t a e
 
     -- ---- both ways
@@ -107,27 +107,27 @@ module _ (file : List ℕ) (table : List Slot) (amount : ℕ) (p : List ℕ) whe
     unfolding turn
     followed-body end e =
         let x = body-traced in
-        let i = judge-done (applied amount (itemAt file table (x .state)) (marks (x .before) p) .answer) (itemAt file table (x .state)) end (x .answer ∙ ap ends e) in
+        let i = judge-done (applied (x .state .at) amount (itemAt file table (x .state)) (marks (x .before) p) .answer) (itemAt file table (x .state)) end (x .answer ∙ ap ends e) in
         let none = turn-end (x .state) (x .before) end i in
         let es : body file table amount at p .events ≡ x .before =
         x .events ∙ ap (λ (o : Ran (Turn BodyState Stop)). x .before ++ o .events) none ∙ append-nil (x .before) in
         rw es (record { last = x .state; items = x .held; is = i })
 
-    fails-body : (fault : Fault) → FailsBody file table amount at p fault → body file table amount at p .answer ≡ broken fault
+    fails-body : (fault : Fault) (offset : ℕ) → FailsBody file table amount at p fault offset → body file table amount at p .answer ≡ broken fault offset
     unfolding turn
-    fails-body fault h =
+    fails-body fault offset h =
         ap (λ (o : Ran Stop). o .answer)
-        (trace-body (h .last) (h .events) (broken fault) (h .items) (ap (λ (c : Check). judge c (itemAt file table (h .last))) (h .fails)))
+        (trace-body (h .last) (h .events) (broken fault offset) (h .items) (ap (λ (c : Check). judge c (itemAt file table (h .last))) (h .fails)))
 
-    failed-body : (fault : Fault) → body file table amount at p .answer ≡ broken fault → FailsBody file table amount at p fault
+    failed-body : (fault : Fault) (offset : ℕ) → body file table amount at p .answer ≡ broken fault offset → FailsBody file table amount at p fault offset
     unfolding turn
-    failed-body fault e =
+    failed-body fault offset e =
         let x = body-traced in
         record {
           last = x .state;
           events = x .before;
           items = x .held;
-          fails = judge-broken amount (marks (x .before) p) _ (itemAt file table (x .state)) fault refl (x .answer ∙ ap ends e);
+          fails = judge-broken (x .state .at) amount (marks (x .before) p) _ (itemAt file table (x .state)) fault offset refl (x .answer ∙ ap ends e);
         }
 
 pub by-rules : RulesClaim

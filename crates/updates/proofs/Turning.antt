@@ -31,56 +31,56 @@ pub record Adjusts (amount : ℕ) (e : Event) : Type 0 where
 -- a word: at most one event, one where it passed, and each of the kind above
 abbrev Counts : Check → ℕ → Type 0
 Counts Passed n = n ≡ 1
-Counts (Failed fault) n = n ≡ 0
+Counts (Failed fault offset) n = n ≡ 0
 
 record Word (amount a : ℕ) (o : Ran Check) : Type 0 where
   counts : Counts (o .answer) (adjustedIn (o .events))
   each : a ≤ 65534 → Each (Adjusts amount) (o .events)
 
-word-none : (amount a : ℕ) (fault : Fault) → Word amount a (failed fault)
+word-none : {amount a : ℕ} {fault : Fault} {offset : ℕ} → Word amount a (failed fault offset)
 unfolding adjustedIn
-word-none amount a fault = record { counts = refl; each = λ _. tt }
+word-none = record { counts = refl; each = λ _. tt }
 
-adjusting-word : (amount a : ℕ) (map : List ℕ) → Word amount a (adjusting amount a map)
+adjusting-word : (at amount a : ℕ) (map : List ℕ) → Word amount a (adjusting at amount a map)
 unfolding adjusting adjustedIn
-adjusting-word amount a map =
+adjusting-word at amount a map =
     let P = Word amount a in
-    on-need failed P (word-none _ _) _ _ _
-    (λ _. on-need failed P (word-none _ _) _ _ _
+    on-need failed P _ _ _ _ word-none
+    (λ _. on-need failed P _ _ _ _ word-none
     (λ _. record { counts = refl; each = λ h. (record { address = a; fits = h; same = refl }, tt) }))
 
 -- ---- an item that passed
 
 -- it leads on
 abbrev pub Onward : Item → Type 0
-Onward (Faulty fault) = ⊥
+Onward (Faulty fault offset) = ⊥
 Onward (End next) = ⊥
 Onward (Move counter next) = Unit {0}
 Onward (Adjust counter next) = Unit {0}
 
 -- the words that it adjusts
 abbrev pub adjusts : Item → ℕ
-adjusts (Faulty fault) = 0
+adjusts (Faulty fault offset) = 0
 adjusts (End next) = 0
 adjusts (Move counter next) = 0
 adjusts (Adjust counter next) = 1
 
 -- where it passed, its events adjust so many
-pub applied-counts : (amount : ℕ) (item : Item) (map : List ℕ) → applied amount item map .answer ≡ Passed
-    → adjustedIn (applied amount item map .events) ≡ adjusts item
+pub applied-counts : (at amount : ℕ) (item : Item) (map : List ℕ) → applied at amount item map .answer ≡ Passed
+    → adjustedIn (applied at amount item map .events) ≡ adjusts item
 unfolding adjustedIn
-applied-counts amount (Faulty fault) map e = refl
-applied-counts amount (End next) map e = refl
-applied-counts amount (Move counter next) map e = refl
-applied-counts amount (Adjust counter next) map e =
-    let h : Counts Passed (adjustedIn (adjusting amount counter map .events)) = rw e at (adjusting-word amount counter map .counts) in
+applied-counts at amount (Faulty fault offset) map e = refl
+applied-counts at amount (End next) map e = refl
+applied-counts at amount (Move counter next) map e = refl
+applied-counts at amount (Adjust counter next) map e =
+    let h : Counts Passed (adjustedIn (adjusting at amount counter map .events)) = rw e at (adjusting-word at amount counter map .counts) in
     h
 
-applied-each : (len at amount : ℕ) (item : Item) (map : List ℕ) → Where len at item → Each (Adjusts amount) (applied amount item map .events)
-applied-each len at amount (Faulty fault) map w = tt
+applied-each : (len at amount : ℕ) (item : Item) (map : List ℕ) → Where len at item → Each (Adjusts amount) (applied at amount item map .events)
+applied-each len at amount (Faulty fault offset) map w = tt
 applied-each len at amount (End next) map w = tt
 applied-each len at amount (Move counter next) map w = tt
-applied-each len at amount (Adjust counter next) map w = adjusting-word amount counter map .each (w .2)
+applied-each len at amount (Adjust counter next) map w = adjusting-word at amount counter map .each (w .2)
 
 -- ---- where a turn leads
 
@@ -92,8 +92,8 @@ pub record Leads (len : ℕ) (s z : BodyState) (check : Check) (item : Item) : T
   pub counts : s .at + adjusts item ≤ z .at
 
 judge-leads : (len : ℕ) (s z : BodyState) (check : Check) (item : Item) → Where len (s .at) item → judge check item ≡ leads z → Leads len s z check item
-judge-leads len s z (Failed fault) item w e = absurd (ends-leads e)
-judge-leads len s z Passed (Faulty fault) w e = absurd (ends-leads e)
+judge-leads len s z (Failed fault offset) item w e = absurd (ends-leads e)
+judge-leads len s z Passed (Faulty fault offset) w e = absurd (ends-leads e)
 judge-leads len s z Passed (End next) w e = absurd (ends-leads e)
 judge-leads len s z Passed (Move counter next) w e =
     let f : next ≡ z .at = ap (λ (t : BodyState). t .at) (leads-same e) in
@@ -104,7 +104,7 @@ judge-leads len s z Passed (Adjust counter next) w e =
 
 module _ (file : List ℕ) (table : List Slot) (amount : ℕ) where
   turn-leads : (s z : BodyState) (map : List ℕ) → turn file table amount s map .answer ≡ leads z
-      → Leads (length file) s z (applied amount (read file table (s .at) (s .counter)) map .answer) (read file table (s .at) (s .counter))
+      → Leads (length file) s z (applied (s .at) amount (read file table (s .at) (s .counter)) map .answer) (read file table (s .at) (s .counter))
   unfolding turn
   turn-leads s z map e =
       judge-leads (length file) s z _ (read file table (s .at) (s .counter)) (lies-as file table (s .at) (s .counter) _ refl) e
@@ -123,7 +123,7 @@ module _ (file : List ℕ) (table : List Slot) (amount : ℕ) where
   unfolding turn
   turn-further s z map e =
       let h = turn-leads s z map e in
-      let k = applied-counts amount (read file table (s .at) (s .counter)) map (h .passed) in
+      let k = applied-counts (s .at) amount (read file table (s .at) (s .counter)) map (h .passed) in
       (h .further, h .inside, rw k (h .counts))
 
   -- every event of a turn adjusts a word by the amount
@@ -136,20 +136,20 @@ module _ (file : List ℕ) (table : List Slot) (amount : ℕ) where
 -- ---- where a turn ends a body
 
 abbrev nextOf : Stop → ℕ
-nextOf (broken fault) = 0
+nextOf (broken fault offset) = 0
 nextOf (done next) = suc next
 
 -- a body that broke at a fault is not done, and one that is done ends at one offset
-pub broken-done : {fault : Fault} {next : ℕ} → broken fault ≡ done next → ⊥
-broken-done {fault} {next} e = let z : 0 ≡ suc next = ap nextOf e in omega arith
+pub broken-done : {fault : Fault} {offset next : ℕ} → broken fault offset ≡ done next → ⊥
+broken-done {fault} {offset} {next} e = let z : 0 ≡ suc next = ap nextOf e in omega arith
 
 pub done-same : {n k : ℕ} → done n ≡ done k → n ≡ k
 done-same {n} {k} e = let z : suc n ≡ suc k = ap nextOf e in omega arith
 
 judge-done : (len at next : ℕ) (check : Check) (item : Item) → Where len at item → judge check item ≡ ends (done next)
     → (at < next) × (next ≤ len) × (check ≡ Passed) × (adjusts item ≡ 0)
-judge-done len at next (Failed fault) item w e = absurd (broken-done (ends-same e))
-judge-done len at next Passed (Faulty fault) w e = absurd (broken-done (ends-same e))
+judge-done len at next (Failed fault offset) item w e = absurd (broken-done (ends-same e))
+judge-done len at next Passed (Faulty fault offset) w e = absurd (broken-done (ends-same e))
 judge-done len at next Passed (End end) w e =
     let f : end ≡ next = done-same (ends-same e) in
     (omega arith, omega arith, refl, refl)
@@ -164,4 +164,4 @@ unfolding turn
 turn-done file table amount s map next e =
     let h = judge-done (length file) (s .at) next _ (read file table (s .at) (s .counter))
     (lies-as file table (s .at) (s .counter) _ refl) e in
-    (h .0, h .1, applied-counts amount (read file table (s .at) (s .counter)) map (h .2) ∙ h .3)
+    (h .0, h .1, applied-counts (s .at) amount (read file table (s .at) (s .counter)) map (h .2) ∙ h .3)

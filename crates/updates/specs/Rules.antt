@@ -21,14 +21,14 @@ itemAt file table s = read file table (s .at) (s .counter)
 
 -- where an item leads that is not the last, and no fault: behind it, with the counter as it sets it
 abbrev pub LeadsTo : Item → BodyState → Type 0
-LeadsTo (Faulty fault) z = ⊥
+LeadsTo (Faulty fault offset) z = ⊥
 LeadsTo (End next) z = ⊥
 LeadsTo (Move counter next) z = z ≡ record { at = next; counter = Set counter }
 LeadsTo (Adjust counter next) z = z ≡ record { at = next; counter = Set counter }
 
 -- The item at which a body stands at s passes, over the map p as the events es left it, and leads on to z by the events fs.
 pub record NextItem (file : List ℕ) (table : List Slot) (amount : ℕ) (p : List ℕ) (s : BodyState) (es : List Event) (z : BodyState) (fs : List Event) : Type 0 where
-  pub passes : applied amount (itemAt file table s) (marks es p) ≡ passed fs
+  pub passes : applied (s .at) amount (itemAt file table s) (marks es p) ≡ passed fs
   pub leads-to : LeadsTo (itemAt file table s) z
 
 -- A body whose words grow by the amount, from an offset on over the map p, follows the rules: item after item to its FC, behind which it ends, by
@@ -38,12 +38,12 @@ pub record FollowsBody (file : List ℕ) (table : List Slot) (amount at : ℕ) (
   pub items : Trace (NextItem file table amount p) (begun at) last es
   pub is : itemAt file table last ≡ End end
 
--- It breaks a rule first with this fault, in an item after others that passed.
-pub record FailsBody (file : List ℕ) (table : List Slot) (amount at : ℕ) (p : List ℕ) (fault : Fault) : Type 0 where
+-- It breaks a rule first with this fault, at this offset, in an item after others that passed.
+pub record FailsBody (file : List ℕ) (table : List Slot) (amount at : ℕ) (p : List ℕ) (fault : Fault) (offset : ℕ) : Type 0 where
   pub last : BodyState
   pub events : List Event
   pub items : Trace (NextItem file table amount p) (begun at) last events
-  pub fails : applied amount (itemAt file table last) (marks events p) .answer ≡ Failed fault
+  pub fails : applied (last .at) amount (itemAt file table last) (marks events p) .answer ≡ Failed fault offset
 
 -- The definition of a body comes to exactly this.
 pub record ByRules (file : List ℕ) (table : List Slot) (amount at : ℕ) (p : List ℕ) : Type 0 where
@@ -51,8 +51,10 @@ pub record ByRules (file : List ℕ) (table : List Slot) (amount at : ℕ) (p : 
       → body file table amount at p ≡ record { answer = done end; events = es }
   pub follows-only : (end : ℕ) → body file table amount at p .answer ≡ done end
       → FollowsBody file table amount at p end (body file table amount at p .events)
-  pub fails : (fault : Fault) → FailsBody file table amount at p fault → body file table amount at p .answer ≡ broken fault
-  pub fails-only : (fault : Fault) → body file table amount at p .answer ≡ broken fault → FailsBody file table amount at p fault
+  pub fails : (fault : Fault) (offset : ℕ) → FailsBody file table amount at p fault offset
+      → body file table amount at p .answer ≡ broken fault offset
+  pub fails-only : (fault : Fault) (offset : ℕ) → body file table amount at p .answer ≡ broken fault offset
+      → FailsBody file table amount at p fault offset
 
 -- of every body
 abbrev pub RulesClaim : Type 0

@@ -12,9 +12,9 @@ ghost use Rattle.items.specs.declared.Item.the-variants.{Adjust};
 ghost use Rattle.updates.specs.Bodies.{isLoaded, wordLoaded, adjusting, applied, body as bodyOf, ended};
 ghost use Rattle.updates.specs.Cursor.{firstCursor, advanced};
 
-// How a body ends: at a fault, or with the offset after it and the number of words adjusted.
+// How a body ends: at a fault and its offset, or with the offset after it and the number of words adjusted.
 pub enum Ended {
-    Broken(Fault),
+    Broken(Fault, usize),
     Done { next: usize, adjusted: usize },
 }
 
@@ -42,9 +42,9 @@ pub fn body(
     loop {
         let counter = cursor.counter;
         let item = items::read(file, table, cursor.at, counter);
-        let check = apply(item, amount, write, memory, map);
-        if let Check::Failed(fault) = check {
-            return Ended::Broken(fault);
+        let check = apply(item, cursor.at, amount, write, memory, map);
+        if let Check::Failed(fault, offset) = check {
+            return Ended::Broken(fault, offset);
         }
         if let Item::End(next) = item {
             return Ended::Done {
@@ -79,32 +79,48 @@ fn is_loaded(mark: u8) -> bool
     }
 }
 
-// Carries out an item.
-fn apply(item: Item, amount: u16, write: bool, memory: &mut [u8], map: &mut [u8]) -> Check
+// Carries out the item at `at`.
+fn apply(
+    item: Item,
+    at: usize,
+    amount: u16,
+    write: bool,
+    memory: &mut [u8],
+    map: &mut [u8],
+) -> Check
     requires { ⌜ ((counter next : ℕ) → item ≡ Adjust counter next → counter ≤ 65534) × (length (now memory) ≡ 65536) × (length (now map) ≡ 65536) ⌝ }
-    ensures { λ r. ⌜ Did Check (applied amount item (now (map .entry))) write (now (memory .entry)) (now (map .entry)) r (now (memory .exit)) (now (map .exit)) ⌝ }
+    ensures { λ r. ⌜ Did Check (applied at amount item (now (map .entry))) write (now (memory .entry)) (now (map .entry)) r (now (memory .exit)) (now (map .exit)) ⌝ }
 {
     match item {
-        Item::Faulty(fault) => Check::Failed(fault),
+        Item::Faulty(fault, offset) => Check::Failed(fault, offset),
         Item::End(next) => Check::Passed,
         Item::Move { counter, next } => Check::Passed,
-        Item::Adjust { counter, next } => adjust(counter as usize, amount, write, memory, map),
+        Item::Adjust { counter, next } => {
+            adjust(counter as usize, at, amount, write, memory, map)
+        }
     }
 }
 
-// Adjusts the word at `at`, if it is loaded (12) and not adjusted since (13).
-fn adjust(at: usize, amount: u16, write: bool, memory: &mut [u8], map: &mut [u8]) -> Check
+// Adjusts the word at `at`, if it is loaded (12) and not adjusted since (13). Its item stands at `item`.
+fn adjust(
+    at: usize,
+    item: usize,
+    amount: u16,
+    write: bool,
+    memory: &mut [u8],
+    map: &mut [u8],
+) -> Check
     requires { ⌜ (at ≤ 65534) × (length (now memory) ≡ 65536) × (length (now map) ≡ 65536) ⌝ }
-    ensures { λ r. ⌜ Did Check (adjusting amount at (now (map .entry))) write (now (memory .entry)) (now (map .entry)) r (now (memory .exit)) (now (map .exit)) ⌝ }
+    ensures { λ r. ⌜ Did Check (adjusting item amount at (now (map .entry))) write (now (memory .entry)) (now (map .entry)) r (now (memory .exit)) (now (map .exit)) ⌝ }
 {
     let loaded = word_loaded(map, at);
     if !loaded {
-        return Check::Failed(Fault::FieldNotLoaded);
+        return Check::Failed(Fault::FieldNotLoaded, item);
     }
     let end = at + 2;
     let adjusted = words::contains(&map[at..end], events::ADJUSTED);
     if adjusted {
-        return Check::Failed(Fault::AdjustedTwice);
+        return Check::Failed(Fault::AdjustedTwice, item);
     }
     events::adjust_word(at, amount, write, memory, map);
     Check::Passed
@@ -127,7 +143,7 @@ fn advance(cursor: Cursor, item: Item) -> Cursor
     ensures { λ r. ⌜ r ≡ advanced cursor item ⌝ }
 {
     match item {
-        Item::Faulty(fault) => cursor,
+        Item::Faulty(fault, offset) => cursor,
         Item::End(next) => cursor,
         Item::Move { counter, next } => Cursor {
             at: next,

@@ -21,6 +21,9 @@ shared-slice-read-wide c = search needs
 wide-requires : tie.Need-wide-requires
 wide-requires c κs = search needs
 
+add-t15 : tie.Need-add-t15
+add-t15 c = search needs
+
 returns-2 : tie.Need-returns-2
 returns-2 c = relocatable-number _ _ _ (c .before .before .before .if1 .left) _ (c .before .wide .ensures .0) (c .if2 .taken)
 
@@ -35,6 +38,9 @@ read-room-requires c κs = search needs
 
 read-room-requires-2 : tie.Need-read-room-requires-2
 read-room-requires-2 c κs = search needs
+
+add-t19 : tie.Need-add-t19
+add-t19 c = search needs
 
 returns-3 : tie.Need-returns-3
 returns-3 c =
@@ -63,11 +69,13 @@ read-relocatable-spec =
     add-wide
     shared-slice-read-wide
     wide-requires
+    add-t15
     returns-2
     add-id
     shared-slice-read-id
     read-room-requires
     read-room-requires-2
+    add-t19
     returns-3
     returns-4
     returns-5)

@@ -43,8 +43,8 @@ body-requires c κs =
 enum-known-found-4 : tie.Need-enum-known-found-4
 enum-known-found-4 c = search needs
 
-add-t38 : tie.Need-add-t38
-add-t38 c =
+add-t39 : tie.Need-add-t39
+add-t39 c =
     let i = name-inside _ _ _ _ _ (c .before .before .before .before .before .before .before .before .pre .2) _ _ (c .before .found4 .given .1) in
     omega (arith, i, c .before .before .before .before .before .before .before .before .pre .0)
 
@@ -91,7 +91,7 @@ returns-4 : tie.Need-returns-4
 returns-4 c = applied-name _ _ _ _ _ _ _ _ _ _ (c .before .found4 .given .1)
 
 returns-5 : tie.Need-returns-5
-returns-5 c = applied-faulty _ _ _ _ _ _ _ _ _ (c .before .found5 .given .1)
+returns-5 c = applied-faulty _ _ _ _ _ _ _ _ _ _ (c .before .found5 .given .1)
 
 pub apply-spec : {M : Type 1} → statement M
 apply-spec =
@@ -106,7 +106,7 @@ apply-spec =
     amount-requires
     body-requires
     enum-known-found-4
-    add-t38
+    add-t39
     enum-known-found-5
     same-length
     same-length-2

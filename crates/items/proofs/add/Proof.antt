@@ -23,6 +23,9 @@ returns c = adding-high _ _ _ _ (c .before .before .counter .given .1) (c .if1 .
 cast-t12 : tie.Need-cast-t12
 cast-t12 c = search needs
 
+add-t8 : tie.Need-add-t8
+add-t8 c = search needs
+
 returns-2 : tie.Need-returns-2
 returns-2 c = adding-unset _ _ _ (c .enum-told .given .1)
 
@@ -32,4 +35,13 @@ returns-3 c = adding-there _ _ _ _ (c .before .before .counter .given .1) (c .if
 pub add-spec : {M : Type 1} → statement M
 add-spec =
     tie.close
-    (tie.spec enum-told enum-known-counter cast-to add-to returns cast-t12 returns-2 returns-3)
+    (tie.spec
+    enum-told
+    enum-known-counter
+    cast-to
+    add-to
+    returns
+    cast-t12
+    add-t8
+    returns-2
+    returns-3)

@@ -23,6 +23,9 @@ returns c = skipping-high _ _ _ (c .before .before .counter .given .1) (c .if1 .
 cast-t10 : tie.Need-cast-t10
 cast-t10 c = search needs
 
+add-t7 : tie.Need-add-t7
+add-t7 c = search needs
+
 returns-2 : tie.Need-returns-2
 returns-2 c = skipping-unset _ _ (c .enum-told .given .1)
 
@@ -32,4 +35,13 @@ returns-3 c = skipping-there _ _ _ (c .before .before .counter .given .1) (c .if
 pub skip-spec : {M : Type 1} → statement M
 skip-spec =
     tie.close
-    (tie.spec enum-told enum-known-counter cast-to add-to returns cast-t10 returns-2 returns-3)
+    (tie.spec
+    enum-told
+    enum-known-counter
+    cast-to
+    add-to
+    returns
+    cast-t10
+    add-t7
+    returns-2
+    returns-3)

@@ -137,7 +137,7 @@ returns-2 : tie.Need-returns-2 Inv-loop μ-loop
 returns-2 c =
     let d = c .before .before .before .before .before .before .before in
     let r = d .before .before .before .before .before in
-    going-stops (stood r .loop .inv .4) (r .read .ensures .0) (r .before .before .before .if1 .left) (d .apply .ensures) _
+    going-stops (stood r .loop .inv .4) (r .read .ensures .0) (r .before .before .before .if1 .left) (d .apply .ensures) _ _
     (c .before .end .given .1)
 
 enum-known-end-2 : tie.Need-enum-known-end-2 Inv-loop μ-loop

@@ -17,7 +17,7 @@ add-if1 c =
     omega (arith, s .pre, c .before .width .ensures)
 
 returns : tie.Need-returns
-returns c = adjusting-outside _ _ _ _ _ _ _ _ (c .before .before .width .ensures .0) (c .if1 .taken)
+returns c = adjusting-outside _ _ _ _ _ _ _ _ _ (c .before .before .width .ensures .0) (c .if1 .taken)
 
 add-at : tie.Need-add-at
 add-at c = search needs
@@ -43,7 +43,7 @@ same-length c = search needs
 returns-2 : tie.Need-returns-2
 returns-2 c =
     let i = c .before .before .before .before .before in
-    adjusting-twice _ _ _ _ _ _ _ _ (i .before .before .width .ensures .0) (i .if1 .left) (sym (c .before .contains .ensures) ∙ c .if2 .taken)
+    adjusting-twice _ _ _ _ _ _ _ _ _ (i .before .before .width .ensures .0) (i .if1 .left) (sym (c .before .contains .ensures) ∙ c .if2 .taken)
 
 sub-fill : tie.Need-sub-fill
 sub-fill c = search needs
@@ -72,7 +72,7 @@ returns-3 c =
     let t = f .before .before in
     let i = t .before .before .before .before .before in
     let s = i .before .before .before .before .before in
-    adjusting-done _ _ _ _ _ _ _ _ (i .before .before .width .ensures .0) _ _ (i .if1 .left) (omega (arith, s .pre, i .if1 .left))
+    adjusting-done _ _ _ _ _ _ _ _ _ (i .before .before .width .ensures .0) _ _ (i .if1 .left) (omega (arith, s .pre, i .if1 .left))
     (sym (t .before .contains .ensures) ∙ t .if2 .left) (f .fill .ensures) (c .before .before .write-field .ensures)
 
 pub adjust-field-spec : {M : Type 1} → statement M

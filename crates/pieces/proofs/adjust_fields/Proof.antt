@@ -2,7 +2,7 @@
 -- the fields before it left (`Adjusting`).
 -- Assumes nothing.
 use mathlib.Core.Path.{_≡_}
-use Prim.Native.Nat.{_-_, _≤_}
+use Prim.Native.Nat.{_+_, _-_, _≤_}
 use native.Mathlib.Omega.{arith}
 use borrow.Author.Needs.{needs}
 use lib.ListN.{length, drop}
@@ -13,12 +13,12 @@ use Rattle.pieces.proofs.adjust_fields.Statement.{statement}
 use Rattle.pieces.proofs.adjust_fields.Tie as tie
 
 abbrev Inv-loop : tie.InvT-loop
-Inv-loop items fixup bases place size write memory₀ map₀ step i₀ memory map i = (i ≤ length items) × (step ≡ itemSize fixup)
+Inv-loop items from fixup bases place size write memory₀ map₀ step i₀ memory map i = (i ≤ length items) × (step ≡ itemSize fixup)
     × (length memory ≡ 65536) × (length map ≡ 65536)
-    × Adjusting bases place size write (fieldsOf fixup items) memory₀ map₀ (fieldsOf fixup (drop i items)) memory map
+    × Adjusting from (itemSize fixup) bases place size write (fieldsOf fixup items) memory₀ map₀ (from + i) (fieldsOf fixup (drop i items)) memory map
 
 abbrev μ-loop : tie.MeasureT-loop
-μ-loop items fixup bases place size write memory₀ map₀ step i₀ memory map i = length items - i
+μ-loop items from fixup bases place size write memory₀ map₀ step i₀ memory map i = length items - i
 
 item-size-requires : tie.Need-item-size-requires Inv-loop μ-loop
 item-size-requires c κs = search needs
@@ -26,7 +26,7 @@ item-size-requires c κs = search needs
 loop-holds : tie.Need-loop-holds Inv-loop μ-loop
 loop-holds c =
     let s = c .before .before .before .before in
-    (omega arith, c .item-size .ensures, s .pre .2, s .pre .3, adjusting-none)
+    (omega arith, c .item-size .ensures, s .pre .2, s .pre .3, adjusting-none (omega arith))
 
 add-loop : tie.Need-add-loop Inv-loop μ-loop
 add-loop c =
@@ -36,6 +36,9 @@ add-loop c =
 
 field-at-requires : tie.Need-field-at-requires Inv-loop μ-loop
 field-at-requires c κs = rw (← c .before .loop .inv .1) (c .loop-test .taken)
+
+add-adjust-field : tie.Need-add-adjust-field Inv-loop μ-loop
+add-adjust-field c = search needs
 
 adjust-field-requires : tie.Need-adjust-field-requires Inv-loop μ-loop
 adjust-field-requires c κs =
@@ -86,7 +89,7 @@ loop-again c =
       search needs,
       search needs,
       adjusting-more (next-field _ _ _ _ _ e (f .before .loop-test .taken) (f .field-at .ensures .0)) (l .inv .4) (a .adjust-field .ensures)
-          (c .enum-told .given .1),
+          (omega (arith, e)) (c .enum-told .given .1),
     )
 
 same-length-3 : tie.Need-same-length-3 Inv-loop μ-loop
@@ -110,6 +113,7 @@ adjust-fields-spec =
     loop-holds
     add-loop
     field-at-requires
+    add-adjust-field
     adjust-field-requires
     enum-known-check
     same-length

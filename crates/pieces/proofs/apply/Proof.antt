@@ -12,7 +12,7 @@ enum-known-found c = search needs
 add-next : tie.Need-add-next
 add-next c =
     let s = c .before .before .before .before .before .before in
-    let w = rw (c .before .found .given .1) at (s .pre .1) in
+    let w = rw (c .before .found .given .1) at (s .pre .2) in
     omega (arith, w, s .pre .0)
 
 place-of-requires : tie.Need-place-of-requires
@@ -27,8 +27,11 @@ part-place-code-start c = search needs
 part-place-code-end : tie.Need-part-place-code-end
 part-place-code-end c =
     let s = c .before .before .before .before .before .before .before in
-    let w = rw (c .before .before .found .given .1) at (s .pre .1) in
+    let w = rw (c .before .before .found .given .1) at (s .pre .2) in
     omega (arith, w)
+
+add-place-code : tie.Need-add-place-code
+add-place-code c = search needs
 
 limit-requires : tie.Need-limit-requires
 limit-requires c κs = search needs
@@ -37,8 +40,8 @@ place-code-requires : tie.Need-place-code-requires
 place-code-requires c κs =
     let g = c .before .before .before .before in
     let s = g .before .before .before .before .before .before .before in
-    let w = rw (g .before .before .found .given .1) at (s .pre .1) in
-    (g .place-of .ensures .1, lent-fits _ _ _ w (s .pre .0), c .before .before .limit .ensures .1, s .pre .3, s .pre .4)
+    let w = rw (g .before .before .found .given .1) at (s .pre .2) in
+    (g .place-of .ensures .1, lent-fits _ _ _ w (s .pre .0) .0, c .before .before .limit .ensures .1, s .pre .4, s .pre .5)
 
 enum-known-found-2 : tie.Need-enum-known-found-2
 enum-known-found-2 c = search needs
@@ -46,7 +49,7 @@ enum-known-found-2 c = search needs
 add-next-2 : tie.Need-add-next-2
 add-next-2 c =
     let s = c .before .before .before .before .before .before in
-    let w = rw (c .before .found2 .given .1) at (s .pre .1) in
+    let w = rw (c .before .found2 .given .1) at (s .pre .2) in
     omega (arith, w, s .pre .0)
 
 sub-items : tie.Need-sub-items
@@ -58,17 +61,20 @@ part-items-start c = search needs
 part-items-end : tie.Need-part-items-end
 part-items-end c =
     let s = c .before .before .before .before .before .before in
-    let w = rw (c .before .found2 .given .1) at (s .pre .1) in
+    let w = rw (c .before .found2 .given .1) at (s .pre .2) in
     omega (arith, w)
 
 adjust-fields-requires : tie.Need-adjust-fields-requires
 adjust-fields-requires c κs =
     let s = c .before .before .before .before .before .before .before .before .before in
-    let w = rw (c .before .before .before .before .found2 .given .1) at (s .pre .1) in
-    (lent-fits _ _ _ w (s .pre .0), s .pre .2, s .pre .3, s .pre .4)
+    let w = rw (c .before .before .before .before .found2 .given .1) at (s .pre .2) in
+    (lent-fits _ _ _ w (s .pre .0) .1, s .pre .3, s .pre .4, s .pre .5)
 
 enum-known-found-3 : tie.Need-enum-known-found-3
 enum-known-found-3 c = search needs
+
+add-end : tie.Need-add-end
+add-end c = search needs
 
 end-requires : tie.Need-end-requires
 end-requires c κs = search needs
@@ -87,7 +93,7 @@ returns c =
     let o = c .before .before .before .before in
     let l = o .before .before .before in
     let g = l .before .before in
-    applied-code _ _ _ _ _ _ _ _ _ _ _ _ _ _ _ _ _ (g .before .before .found .given .1) (g .place-of .ensures .0) (l .limit .ensures .0)
+    applied-code _ _ _ _ _ _ _ _ _ _ _ _ _ _ _ _ _ _ (g .before .before .found .given .1) (g .place-of .ensures .0) (l .limit .ensures .0)
     (o .place-code .ensures)
 
 same-length-3 : tie.Need-same-length-3
@@ -99,13 +105,13 @@ same-length-4 c = search needs
 returns-2 : tie.Need-returns-2
 returns-2 c =
     let o = c .before .before .before .before in
-    applied-fixups _ _ _ _ _ _ _ _ _ _ _ _ _ _ (o .before .before .before .before .before .found2 .given .1) (o .adjust-fields .ensures)
+    applied-fixups _ _ _ _ _ _ _ _ _ _ _ _ _ _ _ (o .before .before .before .before .before .found2 .given .1) (o .adjust-fields .ensures)
 
 returns-3 : tie.Need-returns-3
-returns-3 c = applied-end _ _ _ _ _ _ _ _ _ _ _ (c .before .before .found3 .given .1) (c .end .ensures)
+returns-3 c = applied-end _ _ _ _ _ _ _ _ _ _ _ _ (c .before .before .found3 .given .1) (c .end .ensures)
 
 returns-4 : tie.Need-returns-4
-returns-4 c = applied-faulty _ _ _ _ _ _ _ _ _ (c .before .found4 .given .1)
+returns-4 c = applied-faulty _ _ _ _ _ _ _ _ _ _ _ (c .before .found4 .given .1)
 
 pub apply-spec : {M : Type 1} → statement M
 apply-spec =
@@ -117,6 +123,7 @@ apply-spec =
     sub-place-code
     part-place-code-start
     part-place-code-end
+    add-place-code
     limit-requires
     place-code-requires
     enum-known-found-2
@@ -126,6 +133,7 @@ apply-spec =
     part-items-end
     adjust-fields-requires
     enum-known-found-3
+    add-end
     end-requires
     enum-known-found-4
     same-length

@@ -11,7 +11,7 @@ add-end : tie.Need-add-end
 add-end c = search needs
 
 returns : tie.Need-returns
-returns c = placing-high _ _ _ _ _ _ (c .if1 .taken)
+returns c = placing-high _ _ _ _ _ _ _ (c .if1 .taken)
 
 sub-is-zero : tie.Need-sub-is-zero
 sub-is-zero c = search needs
@@ -29,7 +29,7 @@ same-length : tie.Need-same-length
 same-length c = search needs
 
 returns-2 : tie.Need-returns-2
-returns-2 c = placing-taken _ _ _ _ _ _ (c .before .before .before .before .if1 .left)
+returns-2 c = placing-taken _ _ _ _ _ _ _ (c .before .before .before .before .if1 .left)
     (sym (c .before .is-zero .ensures) ∙ not-true _ (c .if2 .taken))
 
 place-requires : tie.Need-place-requires
@@ -46,7 +46,7 @@ returns-3 c =
     let w = c .before .before .before .before in
     let z = w .before .before .before in
     let i = z .before .before .before .before in
-    placing-done _ _ _ _ _ _ _ _ (i .if1 .left) (sym (z .before .is-zero .ensures) ∙ not-false _ (z .if2 .left)) (w .place .ensures)
+    placing-done _ _ _ _ _ _ _ _ _ (i .if1 .left) (sym (z .before .is-zero .ensures) ∙ not-false _ (z .if2 .left)) (w .place .ensures)
 
 pub place-code-spec : {M : Type 1} → statement M
 place-code-spec =

@@ -23,6 +23,9 @@ shared-slice-read-wide c = search needs
 wide-requires : tie.Need-wide-requires
 wide-requires c κs = search needs
 
+add-t13 : tie.Need-add-t13
+add-t13 c = search needs
+
 returns-2 : tie.Need-returns-2
 unfolding readCode need
 returns-2 c =
@@ -71,6 +74,7 @@ read-code-spec =
     add-wide
     shared-slice-read-wide
     wide-requires
+    add-t13
     returns-2
     add-if3
     add-if3-2

@@ -32,6 +32,9 @@ word-at-requires c κs = search needs
 add-next : tie.Need-add-next
 add-next c = search needs
 
+add-t18 : tie.Need-add-t18
+add-t18 c = search needs
+
 returns-2 : tie.Need-returns-2
 unfolding readEnd need
 returns-2 c =
@@ -69,6 +72,7 @@ read-end-spec =
     add-word-at
     word-at-requires
     add-next
+    add-t18
     returns-2
     returns-3
     returns-4

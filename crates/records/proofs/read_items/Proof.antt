@@ -19,6 +19,9 @@ wide-requires c κs = search needs
 length-allowed-requires : tie.Need-length-allowed-requires
 length-allowed-requires c κs = search needs
 
+add-t11 : tie.Need-add-t11
+add-t11 c = search needs
+
 returns : tie.Need-returns
 unfolding readItems need
 returns c =
@@ -66,6 +69,7 @@ read-items-spec =
     shared-slice-read-wide
     wide-requires
     length-allowed-requires
+    add-t11
     returns
     add-if2
     add-if2-2

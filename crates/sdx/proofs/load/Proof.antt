@@ -11,6 +11,7 @@ use Rattle.passes.specs.Buffers.{buffers}
 use Rattle.passes.specs.Walk.{inputs}
 use Rattle.events.specs.declared.Check.the-variants.{Passed}
 use Rattle.sdx.proofs.Calling.{admit-settings, admitted, range-bounds, loaded-wrong, loaded-sized, loaded-at-once, right-sizes}
+use Rattle.sdx.proofs.Faults.{admit-fits}
 use Rattle.sdx.specs.Call.{sized, admitting}
 use Rattle.sdx.proofs.load.Statement.{statement}
 use Rattle.sdx.proofs.load.Tie as tie
@@ -46,7 +47,9 @@ enum-known-fault : tie.Need-enum-known-fault
 enum-known-fault c = search needs
 
 refused-requires-2 : tie.Need-refused-requires-2
-refused-requires-2 c κs = search needs
+refused-requires-2 c κs =
+    let h = admit-fits _ _ (sym (c .before .before .before .admit .ensures) ∙ c .before .fault .given .1) in
+    omega (arith, h)
 
 same-length-5 : tie.Need-same-length-5
 same-length-5 c = search needs

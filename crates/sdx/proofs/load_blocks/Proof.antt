@@ -14,8 +14,8 @@ check-requires c κs = search needs
 enum-known-checked : tie.Need-enum-known-checked
 enum-known-checked c = search needs
 
-cast-t20 : tie.Need-cast-t20
-cast-t20 c =
+refused-requires : tie.Need-refused-requires
+refused-requires c κs =
     let h = c .before .before .before .before .before .before .before .check .ensures .bounded .offset _ _ (c .before .checked .given .1) in
     omega (arith, h)
 
@@ -62,9 +62,9 @@ same-length-2 c = search needs
 
 returns : tie.Need-returns
 returns c =
-    let c7 = c .before .before .before .before .before .before .before in
-    let s = c7 .before .before .before .before .before .before .before .before .before .before in
-    blocks-refused _ _ (s .pre .7) (c7 .check .ensures) (c .before .checked .given .1)
+    let c8 = c .before .before .before .before .before .before .before .before in
+    let s = c8 .before .before .before .before .before .before .before .before .before .before in
+    blocks-refused _ _ (s .pre .7) (c8 .check .ensures) (c .before .before .checked .given .1) (c .refused .ensures)
 
 same-length-3 : tie.Need-same-length-3
 same-length-3 c = search needs
@@ -93,7 +93,7 @@ load-blocks-spec =
     (tie.spec
     check-requires
     enum-known-checked
-    cast-t20
+    refused-requires
     enum-known-checked-2
     walk-requires
     finish-requires

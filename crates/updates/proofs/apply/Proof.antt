@@ -26,13 +26,13 @@ adjust-requires c κs =
     (s .pre .0 _ _ (c .before .before .before .item4 .given .1), s .pre .1, s .pre .2)
 
 returns : tie.Need-returns
-returns c = applied-wrong _ _ _ _ _ _ (c .before .item .given .1)
+returns c = applied-wrong _ _ _ _ _ _ _ _ (c .before .item .given .1)
 
 returns-2 : tie.Need-returns-2
-returns-2 c = applied-end _ _ _ _ _ _ (c .before .item2 .given .1)
+returns-2 c = applied-end _ _ _ _ _ _ _ (c .before .item2 .given .1)
 
 returns-3 : tie.Need-returns-3
-returns-3 c = applied-move _ _ _ _ _ _ _ (c .before .item3 .given .1)
+returns-3 c = applied-move _ _ _ _ _ _ _ _ (c .before .item3 .given .1)
 
 same-length : tie.Need-same-length
 same-length c = search needs
@@ -43,7 +43,7 @@ same-length-2 c = search needs
 returns-4 : tie.Need-returns-4
 returns-4 c =
     let o = c .before .before .before .before in
-    applied-adjust _ _ _ _ _ _ _ _ _ _ (o .before .before .before .before .item4 .given .1) (o .adjust .ensures)
+    applied-adjust _ _ _ _ _ _ _ _ _ _ _ (o .before .before .before .before .item4 .given .1) (o .adjust .ensures)
 
 pub apply-spec : {M : Type 1} → statement M
 apply-spec =

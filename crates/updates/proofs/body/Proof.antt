@@ -91,8 +91,8 @@ loop-again c =
     let l = f .before .loop in
     let p = c .before .before .enum-told .given .1 in
     let on = going-onward (l .inv .2) (f .read .ensures) (o .apply .ensures) p (c .before .match2 .keys2) in (
-      o .apply .kept .1 .1 .1 .0 ∙ l .inv .0,
-      o .apply .kept .1 .1 .1 .1 .0 ∙ l .inv .1,
+      o .apply .kept .1 .1 .1 .1 .0 ∙ l .inv .0,
+      o .apply .kept .1 .1 .1 .1 .1 .0 ∙ l .inv .1,
       rw (c .advance .ensures) (going-on (l .inv .2) (f .read .ensures) (o .apply .ensures) p on),
     )
 
