@@ -50,11 +50,11 @@ static void explain_opening(FILE *stream, const struct options *options, const s
         fprintf(stream, "it opens as an ACX handler in device form may: '%s--form device' was meant?\n", sdx ? "tekoweapa acx " : "");
 }
 
-/* A block of type FFFB has its name behind the type. */
+/* The offset of this refusal is that of the name. */
 static void explain_name(FILE *stream, const struct options *options, const struct buffers *buffers, size_t offset)
 {
     fputs("the name is ", stream);
-    print_name(stream, buffers->file + offset + 2, HEX_ESCAPE);
+    print_name(stream, buffers->file + offset, HEX_ESCAPE);
     fputs(options->names == NULL ? "; --names lends none\n" : "; it is neither in the --names list nor defined before\n", stream);
 }
 

@@ -20,7 +20,7 @@
 #include <stdint.h>
 
 /* The version of this header and of the library behind it: both change together. */
-#define TKW_VERSION "1.2.0"
+#define TKW_VERSION "1.3.0"
 
 #ifdef __cplusplus
 extern "C" {
@@ -44,7 +44,7 @@ enum { TKW_UNTOUCHED = 0, TKW_PLACED = 1, TKW_RESERVED = 2, TKW_ADJUSTED = 3 };
  * only number, offset and side. */
 enum tkw_answer {
     TKW_AT_NUMBER = 0,        /* 0, or the fault: what the call returns */
-    TKW_AT_OFFSET = 1,        /* of a refusal: the offset in the file of the block or record at fault */
+    TKW_AT_OFFSET = 1,        /* of a refusal: the offset of the first byte at fault; the file's length for 5, 0 for 1 to 4 */
     TKW_AT_SIDE = 2,          /* of a refused move: 0 for the old bases, 1 for the new */
     TKW_AT_START_PRESENT = 3, /* 1 if the file names a start, else 0 */
     TKW_AT_START = 4,         /* the start address */

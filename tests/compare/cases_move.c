@@ -1,4 +1,5 @@
-/* Directed cases for the mover: P2 and P5 of document 01's table, both sides of a refusal, overlapping places, live data, vectors. */
+/* Directed cases for the mover: P2 and P5 of document 01's table, both sides of a refusal, overlapping places, live data, vectors, and the
+ * places that document 02's wish 6 gives to refusals. */
 #include "directed.h"
 
 #define P1 "00 05 00 00 4C 03 00 06 01 01 0B 02 00 00"
@@ -50,19 +51,36 @@ static const struct directed cases[] = {
     {"both bases out of range", MOVE(1, 65536, 128, 65536, 128), P1, REFUSED(2, 0)},
     {"a faulty file before a new base out of range", MOVE(1, 8192, 128, 65536, 128), "0C", REFUSED(6, 0)},
     {"a file too long before a new base out of range", MOVE(1, 8192, 128, 65536, 128), "00*65537", REFUSED(3, 0)},
-    {"fits at neither", MOVE(1, 65534, 128, 65535, 128), P1, REFUSED(10, 0)},
-    {"fits at the old only", MOVE(1, 8192, 128, 65534, 128), P1, REFUSED_AT_NEW(10, 0)},
-    {"fits at the new only", MOVE(1, 65534, 128, 8192, 128), P1, REFUSED(10, 0)},
+    {"fits at neither", MOVE(1, 65534, 128, 65535, 128), P1, REFUSED(10, 2)},
+    {"fits at the old only", MOVE(1, 8192, 128, 65534, 128), P1, REFUSED_AT_NEW(10, 2)},
+    {"fits at the new only", MOVE(1, 65534, 128, 8192, 128), P1, REFUSED(10, 2)},
     {"fits at both ends of memory", MOVE(1, 0, 128, 65533, 128), P1, STARTED(65533, 3, 1), "FFFD: 4C 00 00", .before = "0000: 4C 03 00"},
-    {"zero page fits at the old only", MOVE(1, 8192, 254, 8192, 255), "0A 04 00 00 77 78 " END, REFUSED_AT_NEW(10, 0)},
-    {"onto an absolute piece", MOVE(1, 8192, 128, 0x3000, 128), "01 03 01 30 77 " PLAIN_4, REFUSED_AT_NEW(17, 5)},
-    {"off an absolute piece", MOVE(1, 0x3000, 128, 8192, 128), "01 03 01 30 77 " PLAIN_4, REFUSED(17, 5)},
-    {"onto a vector", MOVE(1, 8192, 128, 0x01FD, 128), VECTOR PLAIN_4, REFUSED_AT_NEW(17, 9), "0200: 00 21", .before = "0200: 00 21"},
+    {"zero page fits at the old only", MOVE(1, 8192, 254, 8192, 255), "0A 04 00 00 77 78 " END, REFUSED_AT_NEW(10, 2)},
+    {"onto an absolute piece", MOVE(1, 8192, 128, 0x3000, 128), "01 03 01 30 77 " PLAIN_4, REFUSED_AT_NEW(17, 7)},
+    {"off an absolute piece", MOVE(1, 0x3000, 128, 8192, 128), "01 03 01 30 77 " PLAIN_4, REFUSED(17, 7)},
+    {"onto a vector", MOVE(1, 8192, 128, 0x01FD, 128), VECTOR PLAIN_4, REFUSED_AT_NEW(17, 11), "0200: 00 21", .before = "0200: 00 21"},
     {"up to a vector", MOVE(1, 8192, 128, 0x01FC, 128), VECTOR PLAIN_4, LOADED(6, 1), "01FC: 11 22 33 44 FC 02", .before = "0200: 00 21; 2000: 11 22 33 44"},
-    {"onto zero page", MOVE(1, 8192, 128, 125, 128), "0A 03 00 00 77 " PLAIN_4, REFUSED_AT_NEW(17, 5)},
+    {"onto zero page", MOVE(1, 8192, 128, 125, 128), "0A 03 00 00 77 " PLAIN_4, REFUSED_AT_NEW(17, 7)},
     {"up to zero page", MOVE(1, 8192, 128, 124, 128), "0A 03 00 00 77 " PLAIN_4, LOADED(5, 0)},
-    {"start too high at the new", MOVE(1, 8192, 128, 8193, 128), "00 02 00 00 0B 02 FF DF", REFUSED_AT_NEW(20, 4)},
-    {"start too high at the old", MOVE(1, 8193, 128, 8192, 128), "00 02 00 00 0B 02 FF DF", REFUSED(20, 4)},
+    {"start too high at the new", MOVE(1, 8192, 128, 8193, 128), "00 02 00 00 0B 02 FF DF", REFUSED_AT_NEW(20, 6)},
+    {"start too high at the old", MOVE(1, 8193, 128, 8192, 128), "00 02 00 00 0B 02 FF DF", REFUSED(20, 6)},
+
+    /* Document 02, wish 6: "A refusal's offset should be that of the first byte of the field or item at fault, in both loaders, HEX and moves
+     * by file". Whatever is no matter of bases is seen at the old ones; of the rest each stands behind other records, at either side. */
+    {"at the opening: its first byte", MOVE(0, 8192, 128, 8448, 128), "F1 FF " P1, REFUSED(4, 0)},
+    {"at the opening: its second byte", MOVE(0, 8192, 128, 8448, 128), "F0 FE " P1, REFUSED(4, 0)},
+    {"at the file's length: half an opening", MOVE(0, 8192, 128, 8448, 128), "F0", REFUSED(5, 1)},
+    {"at the address: main fits at the old only", MOVE(1, 8192, 128, 65533, 128), "0A 03 00 00 77 " PLAIN_4, REFUSED_AT_NEW(10, 7)},
+    {"at the address: main fits at the new only", MOVE(1, 65533, 128, 8192, 128), "0A 03 00 00 77 " PLAIN_4, REFUSED(10, 7)},
+    {"at the address: main fits at the old only, disk form", MOVE(0, 8192, 128, 65533, 128), "F0 FF 0A 03 00 00 77 " PLAIN_4, REFUSED_AT_NEW(10, 9)},
+    {"at the address: zero page fits at the old only", MOVE(1, 8192, 254, 8448, 255), VECTOR "0A 04 00 00 77 78 " END, REFUSED_AT_NEW(10, 11)},
+    {"at the address: zero page fits at the new only", MOVE(1, 8192, 255, 8448, 254), VECTOR "0A 04 00 00 77 78 " END, REFUSED(10, 11)},
+    {"at the item: of the old bases, before what is at the new", MOVE(1, 8192, 128, 0x01FD, 128), "01 05 00 02 00 00 00 02 02 02 FF " PLAIN_4, REFUSED(12, 10)},
+    {"at the address: shared at the new only, disk form", MOVE(0, 8192, 128, 0x01FD, 128), "F0 FF " VECTOR PLAIN_4, REFUSED_AT_NEW(17, 13)},
+    {"at the address: shared at the old only, disk form", MOVE(0, 0x01FD, 128, 8192, 128), "F0 FF " VECTOR PLAIN_4, REFUSED(17, 13)},
+    {"at the start: too high at the new, after fixups", MOVE(1, 8192, 128, 8193, 128), VECTOR "0B 02 FF DF", REFUSED_AT_NEW(20, 11)},
+    {"at the start: too high at the old, after fixups", MOVE(1, 8193, 128, 8192, 128), VECTOR "0B 02 FF DF", REFUSED(20, 11)},
+    {"at the start: too high at the new, disk form", MOVE(0, 8192, 128, 8193, 128), "F0 FF " VECTOR "0B 02 FF DF", REFUSED_AT_NEW(20, 13)},
 };
 
 void cases_move(struct driver *driver)

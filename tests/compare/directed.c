@@ -118,3 +118,13 @@ void run_directed(struct driver *driver, const struct directed *directed)
     }
     count(driver, good);
 }
+
+void run_cut(struct driver *driver, const struct directed *whole, size_t length)
+{
+    char name[64], file[512];
+    snprintf(name, sizeof name, "%s, cut to %zu bytes", whole->name, length);
+    snprintf(file, sizeof file, "%.*s", 3 * (int)length, whole->file);
+    struct directed cut = {.name = name, .call = whole->call, .file = file, REFUSED(5, (uint32_t)length)};
+    memcpy(cut.settings, whole->settings, sizeof cut.settings);
+    run_directed(driver, &cut);
+}

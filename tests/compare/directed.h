@@ -1,4 +1,4 @@
-/* Directed cases: a request with the result that document 01 gives it, written out. */
+/* Directed cases: a request with the result that documents 01 and 02 give it, written out. */
 #ifndef DIRECTED_H
 #define DIRECTED_H
 
@@ -41,6 +41,9 @@ struct directed {
 
 /* Runs one case, at every placement of the buffers and by the short call too if it is at the default settings, and counts it. */
 void run_directed(struct driver *driver, const struct directed *directed);
+
+/* Runs a case with its file, written in hex pairs alone, cut to so many bytes. Document 02, wish 6: "for 5 the file's length". */
+void run_cut(struct driver *driver, const struct directed *whole, size_t length);
 
 void cases_sdx(struct driver *driver);
 void cases_acx(struct driver *driver);

@@ -214,13 +214,29 @@ static void put_field(struct plan *plan, int64_t counter, uint32_t field)
     put_word(plan->making, field);
 }
 
+/* An item for no field: FF, FE with a block that need not be there, or any byte. */
+static void put_stray_item(struct plan *plan)
+{
+    switch (pick(plan, 3)) {
+    case 0:
+        put_byte(plan->making, 0xFF);
+        break;
+    case 1:
+        put_byte(plan->making, 0xFE);
+        put_byte(plan->making, pick(plan, 10));
+        break;
+    default:
+        put_byte(plan->making, pick(plan, 256));
+    }
+}
+
 static void put_body(struct plan *plan)
 {
     int64_t counter = -1;
     uint32_t field = 0;
     for (uint32_t i = pick(plan, 6); i > 0 && pick_field(plan, &field); i--) {
         if (wrong(plan))
-            put_byte(plan->making, rng_once_in(plan->rng, 2) ? 0xFF : pick(plan, 256));
+            put_stray_item(plan);
         put_field(plan, counter, field);
         counter = field;
         if (field <= 65534)
@@ -228,6 +244,9 @@ static void put_body(struct plan *plan)
     }
     if (rng_once_in(plan->rng, 8) && plan->block_count > 0 && counter >= 0 && counter < 60000)
         put_byte(plan->making, 0xFF);
+    /* From the top of memory, by a slip, past it. */
+    if (counter >= 65536 - 250 && wrong(plan))
+        put_byte(plan->making, rng_once_in(plan->rng, 2) ? 0xFF : (uint32_t)(65535 - counter));
     if (!wrong(plan))
         put_byte(plan->making, 0xFC);
 }

@@ -133,11 +133,11 @@ def a_refusal_shows_the_place(desk):
     desk.put("image", LOADED)
     same(desk.text(REFUSED, "acx", "f", "--form", "device", "--dump"), """\
 refused with 12: field not loaded
-at offset 7 ($0007) of 14
-  $0000  00 05 00 00 4C 03 00[06]01 02 0B 02 00 00        ....L.........
+at offset 9 ($0009) of 14
+  $0000  00 05 00 00 4C 03 00 06 01[02]0B 02 00 00        ....L.........
 """, "report")
     same(desk.text(REFUSED, "move", "f", "--form", "device", "--memory", "image", "--to-main", "1").splitlines()[1],
-         "at offset 7 ($0007) of 14 (side: old bases)", "side")
+         "at offset 9 ($0009) of 14 (side: old bases)", "side")
 
 
 @test
@@ -147,7 +147,7 @@ def the_side_of_a_refused_move_is_shown(desk):
     for option, other, side, number in (("--to-main", "--from-main", "new", 1), ("--from-main", "--to-main", "old", 0)):
         words = ("move", "f", "--form", "device", "--memory", "image", option, "65534", other, "8192")
         same(desk.text(REFUSED, *words).splitlines()[:2],
-             ["refused with 10: doesn't fit", f"at offset 0 ($0000) of 14 (side: {side} bases)"], f"{side} side")
+             ["refused with 10: doesn't fit", f"at offset 2 ($0002) of 14 (side: {side} bases)"], f"{side} side")
         same(desk.answer(REFUSED, *words)["side"], number, f"{side} side in JSON")
 
 
@@ -192,7 +192,7 @@ def json_has_all_members_in_order(desk):
          '{"from":8193,"to":8194,"mark":3,"meaning":"adjusted","length":2}]}\n', "acceptance")
     desk.put("f", P9)
     same(desk.text(REFUSED, *words),
-         opening + '"number":12,"meaning":"field not loaded","offset":7,"side":null,"start":null,"init":null,"placed":null,"adjusted":null,'
+         opening + '"number":12,"meaning":"field not loaded","offset":9,"side":null,"start":null,"init":null,"placed":null,"adjusted":null,'
          '"new_names":[],"low":null,"ranges":[]}\n', "refusal")
 
 
@@ -255,22 +255,22 @@ def files_for_every_refusal():
         2: (["acx", "--main", "65536"], P1, 0),
         3: (["acx"], bytes(65537), 0),
         4: (["sdx"], bytes(20), 0),
-        5: (["sdx"], P6[:-1], 11),
+        5: (["sdx"], P6[:-1], 19),
         6: (["acx", *device], b"\x0C", 0),
-        7: (["sdx"], block + block, 10),
-        8: (["sdx"], bytes.fromhex("FD FF 01 00 00 FC"), 0),
-        9: (["acx", *device], bytes.fromhex("00 01 00"), 0),
-        10: (["sdx", "--low", "8", "--high", "9"], block, 0),
-        11: (["sdx"], block + bytes.fromhex("FD FF 01 00 00 00 FC"), 10),
-        12: (["acx", *device], P9, 7),
-        13: (["acx", *device], P10, 7),
-        14: (["sdx"], block + b"\xFB\xFFUNKNOWN!\x00\x00\xFC", 10),
-        15: (["sdx"], block + new_name * 33, 10 + 32 * len(new_name)),
-        16: (["sdx"], block + bytes.fromhex("FC FF 01 02 10") + b"NEWNAMES", 10),
-        17: (["acx", *device], bytes.fromhex("01 03 00 20 00 01 03 00 20 00"), 5),
+        7: (["sdx"], block + block, 12),
+        8: (["sdx"], bytes.fromhex("FD FF 01 00 00 FC"), 2),
+        9: (["acx", *device], bytes.fromhex("00 01 00"), 1),
+        10: (["sdx", "--low", "8", "--high", "9"], block, 6),
+        11: (["sdx"], block + bytes.fromhex("FD FF 01 00 00 00 FC"), 15),
+        12: (["acx", *device], P9, 9),
+        13: (["acx", *device], P10, 10),
+        14: (["sdx"], block + b"\xFB\xFFUNKNOWN!\x00\x00\xFC", 12),
+        15: (["sdx"], block + new_name * 33, 10 + 32 * len(new_name) + 5),
+        16: (["sdx"], block + bytes.fromhex("FC FF 01 02 10") + b"NEWNAMES", 13),
+        17: (["acx", *device], bytes.fromhex("01 03 00 20 00 01 03 00 20 00"), 7),
         18: (["acx", *device], bytes.fromhex("01 03 00 20 00 07 01 00"), 5),
-        19: (["acx", *device], bytes.fromhex("0B 00 00 00 00"), 0),
-        20: (["acx", *device], bytes.fromhex("0B 02 00 FF"), 0),
+        19: (["acx", *device], bytes.fromhex("0B 00 00 00 00"), 4),
+        20: (["acx", *device], bytes.fromhex("0B 02 00 FF"), 2),
     }
 
 

@@ -11,8 +11,8 @@
 struct reading {
     const uint8_t *file;
     size_t file_length;
-    size_t next;      /* the first byte not read yet */
-    size_t record_at; /* the offset of the record being read */
+    size_t next;     /* the first byte not read yet */
+    size_t fault_at; /* where the fault is, once there is one */
     struct bases bases;
     struct handler *handler;
     uint32_t start_flag, start;
@@ -102,29 +102,44 @@ static uint32_t take_word(struct reading *reading)
     return word;
 }
 
+/* Document 02, wish 6: "A refusal's offset should be that of the first byte of the field or item at fault". Gives the number back. */
+static uint32_t fault(struct reading *reading, uint32_t number, size_t at)
+{
+    reading->fault_at = at;
+    return number;
+}
+
+/* Wish 6: "for 5 the file's length" */
+static uint32_t cut_short(struct reading *reading)
+{
+    return fault(reading, 5, reading->file_length);
+}
+
 /* "Code 00, 0A, 01" */
 static uint32_t code_record(struct reading *reading, uint32_t type)
 {
-    /* "length byte present (5); 2 to 255 (9)" */
+    /* "length byte present (5); 2 to 255 (9)". Wish 6: "for 9 the ... length" */
     if (!present(reading, 1))
-        return 5;
+        return cut_short(reading);
+    size_t length_at = reading->next;
     uint32_t length = take_byte(reading);
     if (length < 2)
-        return 9;
+        return fault(reading, 9, length_at);
     /* "that many bytes present (5), the first two the address, the rest n code bytes, 0 to 253" */
     if (!present(reading, length))
-        return 5;
+        return cut_short(reading);
+    size_t address_at = reading->next;
     struct piece piece = {.type = type, .address = take_word(reading), .n = length - 2};
     piece.code = reading->file + reading->next;
     reading->next += piece.n;
-    /* "Place + n <= 65,536, for 0A <= 256 (10)" */
+    /* "Place + n <= 65,536, for 0A <= 256 (10)". Wish 6: "for 10 and 17 the address" */
     uint32_t place = second_place(&piece, reading->bases);
     if (place + piece.n > (type == CODE_ZERO ? 256u : 65536u))
-        return 10;
+        return fault(reading, 10, address_at);
     /* "no address already placed (17)" */
     for (uint32_t i = 0; i < piece.n; i++)
         if (reading->marks[place + i] != UNTOUCHED)
-            return 17;
+            return fault(reading, 17, address_at);
     memset(reading->marks + place, PLACED, piece.n);
     reading->handler->pieces[reading->handler->piece_count++] = piece;
     return 0;
@@ -147,7 +162,7 @@ static bool suits(const struct handler *handler, uint32_t type)
     }
 }
 
-/* "Item by item: index inside the record, for words index + 1 too (12); no byte adjusted before (13)." */
+/* "Item by item: index inside the record, for words index + 1 too (12); no byte adjusted before (13)." Gives the number alone. */
 static uint32_t fixup_item(struct reading *reading, const struct field *field)
 {
     struct handler *handler = reading->handler;
@@ -163,31 +178,33 @@ static uint32_t fixup_item(struct reading *reading, const struct field *field)
     return 0;
 }
 
-/* "Fixups" */
-static uint32_t fixup_record(struct reading *reading, uint32_t type)
+/* "Fixups"; the type has been read. */
+static uint32_t fixup_record(struct reading *reading, uint32_t type, size_t type_at)
 {
     bool with_lsb = type == 0x08 || type == 0x09;
-    /* "length byte present (5); the last code record before it of the right kind (18)" */
+    /* "length byte present (5); the last code record before it of the right kind (18)". Wish 6: "for 18 the type" */
     if (!present(reading, 1))
-        return 5;
+        return cut_short(reading);
+    size_t length_at = reading->next;
     uint32_t length = take_byte(reading);
     if (!suits(reading->handler, type))
-        return 18;
-    /* "Length 1 to 253; for 08 and 09 even, 0 to 254 (9). Bytes present (5)." */
+        return fault(reading, 18, type_at);
+    /* "Length 1 to 253; for 08 and 09 even, 0 to 254 (9). Bytes present (5)." Wish 6: "for 9 the ... length" */
     if (with_lsb ? length % 2 != 0 || length > 254 : length < 1 || length > 253)
-        return 9;
+        return fault(reading, 9, length_at);
     if (!present(reading, length))
-        return 5;
-    /* "08, 09 take (index, LSB)" */
+        return cut_short(reading);
+    /* "08, 09 take (index, LSB)". Wish 6: "in update bodies and fixup lists the item" */
     uint32_t item_length = with_lsb ? 2 : 1;
     for (uint32_t i = 0; i < length; i += item_length) {
+        size_t item_at = reading->next;
         struct field field = {.piece = reading->handler->piece_count - 1, .type = (uint8_t)type};
         field.index = (uint8_t)take_byte(reading);
         if (with_lsb)
             field.lsb = (uint8_t)take_byte(reading);
         uint32_t number = fixup_item(reading, &field);
         if (number != 0)
-            return number;
+            return fault(reading, number, item_at);
     }
     return 0;
 }
@@ -197,32 +214,34 @@ static uint32_t end_record(struct reading *reading)
 {
     /* "flag and address present (5); flag 0 none, 1 absolute, 2 plus main base (6)" */
     if (!present(reading, 3))
-        return 5;
+        return cut_short(reading);
+    size_t flag_at = reading->next;
     uint32_t flag = take_byte(reading);
+    size_t address_at = reading->next;
     uint32_t address = take_word(reading);
     if (flag > 2)
-        return 6;
+        return fault(reading, 6, flag_at);
     uint32_t start = flag == 2 ? address + reading->bases.main : address;
-    /* "sum <= 65,535 for flags 1, 2 (20)" */
+    /* "sum <= 65,535 for flags 1, 2 (20)". Wish 6: "for 20 the start's first byte" */
     if (flag != 0 && start > 65535)
-        return 20;
-    /* "nothing after (19)" */
+        return fault(reading, 20, address_at);
+    /* "nothing after (19)". Wish 6: "for 19 the first byte too many" */
     if (reading->next != reading->file_length)
-        return 19;
+        return fault(reading, 19, reading->next);
     reading->start_flag = flag;
     reading->start = start;
     return 0;
 }
 
-/* "Disk form opens F0 FF (under two bytes 5, else 4); device form has no opening." */
+/* "Disk form opens F0 FF (under two bytes 5, else 4); device form has no opening." The opening is one field, whichever byte is wrong. */
 static uint32_t opening(struct reading *reading, uint32_t form)
 {
     if (form == 1)
         return 0;
     if (!present(reading, 2))
-        return 5;
+        return cut_short(reading);
     if (take_byte(reading) != 0xF0 || take_byte(reading) != 0xFF)
-        return 4;
+        return fault(reading, 4, 0);
     return 0;
 }
 
@@ -230,16 +249,16 @@ static uint32_t opening(struct reading *reading, uint32_t form)
 static uint32_t all_records(struct reading *reading)
 {
     for (;;) {
-        reading->record_at = reading->next;
         if (!present(reading, 1))
-            return 5;
+            return cut_short(reading);
+        size_t type_at = reading->next;
         uint32_t type = take_byte(reading);
         if (type > 0x0B)
-            return 6;
+            return fault(reading, 6, type_at);
         if (type == 0x0B)
             return end_record(reading);
         bool code = type == CODE_MAIN || type == CODE_ZERO || type == CODE_ABSOLUTE;
-        uint32_t number = code ? code_record(reading, type) : fixup_record(reading, type);
+        uint32_t number = code ? code_record(reading, type) : fixup_record(reading, type, type_at);
         if (number != 0)
             return number;
     }
@@ -259,7 +278,7 @@ static struct outcome acceptance(const struct reading *reading)
     return outcome;
 }
 
-/* "1, 2, 3 come in that order, then the file from its front". Refusal 1 has been judged before. */
+/* "1, 2, 3 come in that order, then the file from its front"; the offset is "0 for 1 to 4". Refusal 1 has been judged before. */
 struct outcome second_examine(uint32_t form, const uint8_t *file, size_t file_length, struct bases bases, struct handler *handler)
 {
     /* "form (0 disk, 1 device), main base 0 to 65,535, zero-page base 0 to 255" */
@@ -270,13 +289,11 @@ struct outcome second_examine(uint32_t form, const uint8_t *file, size_t file_le
     handler->piece_count = 0;
     handler->field_count = 0;
     struct reading reading = {.file = file, .file_length = file_length, .bases = bases, .handler = handler};
-    /* The offset is "0 for 1 to 4 and a cut opening". */
     uint32_t number = opening(&reading, form);
+    if (number == 0)
+        number = all_records(&reading);
     if (number != 0)
-        return second_refusal(number, 0);
-    number = all_records(&reading);
-    if (number != 0)
-        return second_refusal(number, reading.record_at);
+        return second_refusal(number, reading.fault_at);
     return acceptance(&reading);
 }
 

@@ -21,7 +21,8 @@ struct outcome {
 uint32_t second_word(const uint8_t *bytes);
 void second_put_word(uint8_t *bytes, uint32_t word);
 
-/* "A refusal reports its number and the offset of the block or record where it arose ..., all else zero." */
+/* "A refusal reports its number and the offset ..., all else zero." Document 02, wish 6: "A refusal's offset should be that of the first byte
+ * of the field or item at fault". */
 struct outcome second_refusal(uint32_t number, size_t offset);
 
 /* Writes the answer; "the number is also returned". */

@@ -18,7 +18,7 @@ struct load {
     const uint8_t *file;
     size_t file_length;
     size_t next;     /* the first byte not read yet */
-    size_t block_at; /* the offset of the block being read */
+    size_t fault_at; /* where the fault is, once there is one */
     uint32_t low, high;
     const uint8_t *known_names, *known_addresses;
     size_t known_count;
@@ -48,6 +48,19 @@ static uint32_t take_word(struct load *load)
     return word;
 }
 
+/* Document 02, wish 6: "A refusal's offset should be that of the first byte of the field or item at fault". Gives the number back. */
+static uint32_t fault(struct load *load, uint32_t number, size_t at)
+{
+    load->fault_at = at;
+    return number;
+}
+
+/* Wish 6: "for 5 the file's length" */
+static uint32_t cut_short(struct load *load)
+{
+    return fault(load, 5, load->file_length);
+}
+
 /* "Bytes placed is the sum of all data lengths, overwritten ones included." */
 static void place(struct load *load, uint32_t address, uint32_t length)
 {
@@ -62,16 +75,17 @@ static uint32_t plain_block(struct load *load, bool start_read, uint32_t start)
 {
     /* "Start and end present (5)" */
     if (!present(load, start_read ? 2 : 4))
-        return 5;
+        return cut_short(load);
     if (!start_read)
         start = take_word(load);
+    size_t end_at = load->next;
     uint32_t end = take_word(load);
-    /* "end >= start (9)" */
+    /* "end >= start (9)". Wish 6: "for 9 the end word" */
     if (end < start)
-        return 9;
+        return fault(load, 9, end_at);
     /* "end - start + 1 bytes present (5)" */
     if (!present(load, end - start + 1))
-        return 5;
+        return cut_short(load);
     /* "Placed there." */
     place(load, start, end - start + 1);
     return 0;
@@ -82,27 +96,30 @@ static uint32_t relocatable_block(struct load *load)
 {
     /* "Number, id, offset word, length word present (5)" */
     if (!present(load, 6))
-        return 5;
+        return cut_short(load);
+    size_t number_at = load->next;
     uint32_t number = take_byte(load);
+    size_t id_at = load->next;
     uint32_t id = take_byte(load);
     uint32_t offset = take_word(load);
+    size_t length_at = load->next;
     uint32_t length = take_word(load);
     /* "number <= 7 (6)" */
     if (number > 7)
-        return 6;
+        return fault(load, 6, number_at);
     /* "id hex 00, or 80 for reserve only (6)" */
     if (id != 0x00 && id != 0x80)
-        return 6;
+        return fault(load, 6, id_at);
     bool reserving = id == 0x80;
-    /* "number new and fewer than seven blocks so far (7)" */
+    /* "number new and fewer than seven blocks so far (7)"; the field at fault is the number for both */
     if (load->blocks[number].there || load->block_count >= BLOCKS_MOST)
-        return 7;
+        return fault(load, 7, number_at);
     /* "unless reserving, data present (5)" */
     if (!reserving && !present(load, length))
-        return 5;
-    /* "low + length <= high (10)" */
+        return cut_short(load);
+    /* "low + length <= high (10)". Wish 6: "for 10 ... in SDX, the length word" */
     if (load->low + length > load->high)
-        return 10;
+        return fault(load, 10, length_at);
     /* "It gets address low; low rises by the length. Reserving marks 2 and writes nothing. Length 0 is allowed." */
     load->blocks[number] = (struct block){.there = true, .address = load->low, .offset = offset, .length = length};
     load->block_count++;
@@ -114,7 +131,7 @@ static uint32_t relocatable_block(struct load *load)
     return 0;
 }
 
-/* The checks of an item from the counter on, and the adjusting: "word grows by" the amount, "modulo 65,536". */
+/* The checks of an item from the counter on, and the adjusting: "word grows by" the amount, "modulo 65,536". Gives the number alone. */
 static uint32_t adjust(struct load *load, int32_t counter, uint32_t amount)
 {
     /* "counter at most ... 65,534 to adjust (11)" */
@@ -135,21 +152,17 @@ static uint32_t adjust(struct load *load, int32_t counter, uint32_t amount)
     return 0;
 }
 
-/* One item other than FC. "Each item: present (5); for FE, number (6), block there (8); counter set where one is added (11); counter at
- * most 65,535, or 65,534 to adjust (11)" */
+/* One item other than FC, all of it present: "for FE, number (6), block there (8); counter set where one is added (11); counter at most
+ * 65,535, or 65,534 to adjust (11)". Gives the number alone. */
 static uint32_t update_item(struct load *load, uint32_t item, int32_t *counter, uint32_t amount)
 {
     /* "FD with a word sets the counter there and adjusts." */
     if (item == 0xFD) {
-        if (!present(load, 2))
-            return 5;
         *counter = (int32_t)take_word(load);
         return adjust(load, *counter, amount);
     }
     /* "FE with a number sets it to that block's address and adjusts nothing." */
     if (item == 0xFE) {
-        if (!present(load, 1))
-            return 5;
         uint32_t number = take_byte(load);
         if (number > 7)
             return 6;
@@ -174,14 +187,19 @@ static uint32_t update_body(struct load *load, uint32_t amount)
 {
     int32_t counter = COUNTER_UNSET;
     for (;;) {
+        /* "Each item: present (5)"; "FD with a word", "FE with a number" */
         if (!present(load, 1))
-            return 5;
+            return cut_short(load);
+        size_t item_at = load->next;
         uint32_t item = take_byte(load);
         if (item == 0xFC)
             return 0;
+        if (!present(load, item == 0xFD ? 2 : item == 0xFE ? 1 : 0))
+            return cut_short(load);
+        /* Wish 6: "in update bodies and fixup lists the item" */
         uint32_t number = update_item(load, item, &counter, amount);
         if (number != 0)
-            return number;
+            return fault(load, number, item_at);
     }
 }
 
@@ -190,15 +208,16 @@ static uint32_t update_block(struct load *load)
 {
     /* "Number and length word present (5)" */
     if (!present(load, 3))
-        return 5;
+        return cut_short(load);
+    size_t number_at = load->next;
     uint32_t number = take_byte(load);
     /* "The length is ignored." */
     take_word(load);
     /* "number <= 7 (6); block there (8)" */
     if (number > 7)
-        return 6;
+        return fault(load, 6, number_at);
     if (!load->blocks[number].there)
-        return 8;
+        return fault(load, 8, number_at);
     /* "Each listed word grows by block address - block offset, modulo 65,536." */
     return update_body(load, (load->blocks[number].address + 65536 - load->blocks[number].offset) % 65536);
 }
@@ -224,14 +243,14 @@ static uint32_t names_block(struct load *load)
 {
     /* "Eight-byte name and length word present (5)" */
     if (!present(load, NAME_LENGTH + 2))
-        return 5;
-    const uint8_t *name = load->file + load->next;
+        return cut_short(load);
+    size_t name_at = load->next;
     load->next += NAME_LENGTH;
     take_word(load);
-    /* "name known (14)" */
+    /* "name known (14)". Wish 6: "for 14 and 15 the name" */
     uint32_t address;
-    if (!find_name(load, name, &address))
-        return 14;
+    if (!find_name(load, load->file + name_at, &address))
+        return fault(load, 14, name_at);
     /* "Each listed word grows by its address, modulo 65,536." */
     return update_body(load, address);
 }
@@ -241,25 +260,27 @@ static uint32_t new_name_block(struct load *load)
 {
     /* "Number, offset word, name present (5)" */
     if (!present(load, 3 + NAME_LENGTH))
-        return 5;
+        return cut_short(load);
+    size_t number_at = load->next;
     uint32_t number = take_byte(load);
+    size_t offset_at = load->next;
     uint32_t offset = take_word(load);
-    const uint8_t *name = load->file + load->next;
+    size_t name_at = load->next;
     load->next += NAME_LENGTH;
     /* "number <= 7 (6); block there (8)" */
     if (number > 7)
-        return 6;
+        return fault(load, 6, number_at);
     const struct block *block = &load->blocks[number];
     if (!block->there)
-        return 8;
+        return fault(load, 8, number_at);
     /* "0 <= offset - block offset < length (16)" */
     if (offset < block->offset || offset - block->offset >= block->length)
-        return 16;
-    /* "at most 32 (15)" */
+        return fault(load, 16, offset_at);
+    /* "at most 32 (15)". Wish 6: "for 14 and 15 the name" */
     if (load->new_count == NEW_MOST)
-        return 15;
+        return fault(load, 15, name_at);
     /* "Its address is block address + offset - block offset." "New names and addresses stand in file order." */
-    memcpy(load->new_names + load->new_count * NAME_LENGTH, name, NAME_LENGTH);
+    memcpy(load->new_names + load->new_count * NAME_LENGTH, load->file + name_at, NAME_LENGTH);
     second_put_word(load->new_addresses + load->new_count * 2, block->address + offset - block->offset);
     load->new_count++;
     return 0;
@@ -271,10 +292,11 @@ static uint32_t one_block(struct load *load)
 {
     /* "One leftover byte, or an empty file, is 5." */
     if (!present(load, 2))
-        return 5;
+        return cut_short(load);
+    bool first = load->next == 0;
     uint32_t word = take_word(load);
-    if (load->block_at == 0 && word < 0xFFFA)
-        return 4;
+    if (first && word < 0xFFFA)
+        return fault(load, 4, 0);
     switch (word) {
     case 0xFFFA:
     case 0xFFFF:
@@ -296,7 +318,6 @@ static uint32_t one_block(struct load *load)
 static uint32_t all_blocks(struct load *load)
 {
     do {
-        load->block_at = load->next;
         uint32_t number = one_block(load);
         if (number != 0)
             return number;
@@ -327,7 +348,7 @@ static struct outcome acceptance(const struct load *load)
     return outcome;
 }
 
-/* "1, 2, 3 come in that order, then the file from its front". Refusal 1 has been judged before. */
+/* "1, 2, 3 come in that order, then the file from its front"; the offset is "0 for 1 to 4". Refusal 1 has been judged before. */
 static struct outcome judge(struct load *load)
 {
     /* "low and high, with low <= high <= 65,535" */
@@ -337,7 +358,7 @@ static struct outcome judge(struct load *load)
         return second_refusal(3, 0);
     uint32_t number = all_blocks(load);
     if (number != 0)
-        return second_refusal(number, load->block_at);
+        return second_refusal(number, load->fault_at);
     return acceptance(load);
 }
 

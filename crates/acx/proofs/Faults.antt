@@ -1,4 +1,4 @@
--- What a file is refused with: not 1, 2 or 3, which are left to lengths and settings, so that each has its one cause; and at an offset of the file.
+-- What a file is refused with: not 1, 2 or 3, which are left to lengths and settings, so that each has its one cause; and in the file, or at its end.
 -- Assumes nothing.
 use mathlib.Core.Bool.{Bool, true, false≢true}
 use mathlib.Core.List.{List}
@@ -16,7 +16,7 @@ use Rattle.answer.specs.Report.{offsetOf}
 use Rattle.answer.specs.declared.Fault.{Fault}
 use Rattle.answer.specs.declared.Fault.the-variants.{WrongBuffer}
 use Rattle.answer.specs.declared.Outcome.the-variants.{Refused}
-use Rattle.events.proofs.Faults.{CheckFaults, Checks, Ending, from-ends}
+use Rattle.events.proofs.Faults.{CheckFaults, Checks, fails, Ending, from-ends}
 use Rattle.events.specs.Events.{Event, blank, Ran}
 use Rattle.events.specs.declared.Check.{Check}
 use Rattle.events.specs.declared.Check.the-variants.{Passed, Failed}
@@ -67,8 +67,8 @@ records-faults file b at =
 pub opening-faults : (form : Form) (file : List ℕ) → Checks (length file) (opening form file)
 unfolding opening
 opening-faults Disk file =
-    on-need Failed (Checks (length file)) _ _ _ _ (record { faults = record { late = refl; within = omega arith } })
-    (λ _. on-need Failed (Checks (length file)) _ _ _ _ (record { faults = record { late = refl; within = omega arith } })
+    on-need Failed (Checks (length file)) _ _ _ _ (fails refl (omega arith))
+    (λ _. on-need Failed (Checks (length file)) _ _ _ _ (fails refl (omega arith))
     (λ _. record { faults = tt }))
 opening-faults Device file = record { faults = tt }
 
@@ -85,7 +85,7 @@ report-faults : {len : ℕ} (v : Verdict) (es : List Event) → Verdicts len v �
 report-faults (accepted ps start) es h = record { decided = tt }
 report-faults (refused fault offset) es h = record { decided = h .faults }
 
--- the offset of what is reported is no larger
+-- the offset of what is reported is at most so many
 abbrev OffsetFits : ℕ → Ran Verdict → Type 0
 OffsetFits len o = offsetOf (reported o .answer) ≤ len
 

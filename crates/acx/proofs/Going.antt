@@ -85,7 +85,7 @@ module _ {file : List ℕ} {b : Bases} {first : ℕ} {write : Bool} {m₀ : List
           let o = tracks-ends (x .came) _ (turn-is file b here there (Failed fault offset) _ (answer-is ∙ e) refl) in
           rw o (record { answer = eq; reached = now })
 
-      -- at an offset of the file
+      -- at an offset in the file, or at its end
       pub going-offset : {fault : Fault} {offset : ℕ} → r ≡ Failed fault offset → offset ≤ length file
       going-offset e =
           check-within (applied-faults file (c .at) b (c .place) (c .size) found p (lies-as file (c .at) (c .last) found (sym is))) (sym (d .answer) ∙ e)

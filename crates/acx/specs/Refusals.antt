@@ -35,7 +35,7 @@ pub record Refusals (form : ℕ) (b : Bases) (file : List ℕ) (right : Bool) (m
   -- with the right lengths it is refused exactly as the rules say, with the first fault and its offset (a load has no side: 0)
   pub only : right ≡ true → (fault : Fault) (offset side : ℕ) → r ≡ Refused fault offset side → Refuses form b file fault offset × (side ≡ 0)
   pub all : right ≡ true → (fault : Fault) (offset : ℕ) → Refuses form b file fault offset → r ≡ Refused fault offset 0
-  -- its offset can be looked up in the file, or is the file's length
+  -- its offset can be looked up in the file, or is the file's length (of an acceptance it is 0)
   pub offset-fits : offsetOf r ≤ length file
   pub leaves : (fault : Fault) (offset side : ℕ) → r ≡ Refused fault offset side → RefusedCall fault m p m′ p′
 

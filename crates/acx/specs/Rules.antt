@@ -59,11 +59,11 @@ pub record Follows (form : Form) (file : List ℕ) (b : Bases) (ps : List Piece)
 
 -- A file breaks a rule first with this fault, at this offset: in its opening, or in a record after others that passed.
 pub data Fails (form : Form) (file : List ℕ) (b : Bases) : Fault → ℕ → Type 0 where
-  in-opening : {fault : Fault} {offset : ℕ} → opening form file ≡ Failed fault offset → Fails form file b fault offset
-  in-record : {fault : Fault} {offset : ℕ} {s : Progress} {es : List Event} → opening form file ≡ Passed
+  in-opening : {fault : Fault} {at : ℕ} → opening form file ≡ Failed fault at → Fails form file b fault at
+  in-record : {fault : Fault} {at : ℕ} {s : Progress} {es : List Event} → opening form file ≡ Passed
       → Trace (NextRecord file b) (begun (openingSize form)) s es
-      → checked file b s (marks es blank) .answer ≡ Failed fault offset
-      → Fails form file b fault offset
+      → checked file b s (marks es blank) .answer ≡ Failed fault at
+      → Fails form file b fault at
 
 -- ---- a load of it, with the right buffers
 

@@ -37,7 +37,8 @@ pub data Verdict : Type 0 where
 
 -- ---- the opening
 
--- "Disk form opens F0 FF (under two bytes 5, else 4); device form has no opening." (F0 FF, low byte first, is the word FFF0)
+-- "Disk form opens F0 FF (under two bytes 5, else 4); device form has no opening." (F0 FF, low byte first, is the word FFF0) Offsets: "0 for 1 to 4";
+-- document 02, wish 6, "for 5 the file's length".
 unfoldable pub opening : Form → List ℕ → Check
 opening Disk file =
     need Failed (leb 2 (length file)) CutShort (length file)

@@ -55,7 +55,7 @@ pub enum Outcome {
 // The numbers of an answer: number, offset, side, start present, start address, placed, adjusted, new names, low.
 pub type Numbers = [u32; 9];
 
-// The refusal of a load, for a fault at an offset of its file.
+// A refusal with a fault and its offset, at side 0.
 pub fn refused(fault: Fault, offset: usize) -> Outcome
     requires { ⌜ offset < 4294967296 ⌝ }
     ensures { λ r. ⌜ r ≡ Refused fault offset 0 ⌝ }

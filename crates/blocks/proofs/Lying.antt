@@ -35,11 +35,12 @@ BlockFaults len (NewName from address) = Unit {0}
 BlockFaults len (Faulty fault offset) = OfFile len fault offset
 
 module _ (file : List ℕ) (high : ℕ) (lent own : List ℕ) (c : Cursor) where
-  -- both
+  -- it lies so, and its fault is one of the file
   record Lain (b : Block) : Type 0 where
     fits : Fits (length file) c (length lent / 8) (length own / 8) b
     faults : BlockFaults (length file) b
 
+  -- so it does behind a check, whose own fault is one of the file
   checked : (check : Bool) (fault : Fault) (offset : ℕ) (b : Block) → isEarly fault ≡ false → offset ≤ length file → (check ≡ true → Lain b)
       → Lain (need Faulty check fault offset b)
   checked check fault offset b l w h =

@@ -1,4 +1,4 @@
--- What a block is refused with where it is carried out: not 1, 2 or 3, and at an offset of its file (`answer`, proofs/Faults.antt).
+-- What a block is refused with where it is carried out: not 1, 2 or 3, and in the file, or at its end (`answer`, proofs/Faults.antt).
 -- Assumes nothing.
 use mathlib.Core.Bool.{true, false}
 use mathlib.Core.List.{List}

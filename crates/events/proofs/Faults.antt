@@ -1,9 +1,10 @@
 -- What a check and a walk are refused with (`answer`, proofs/Faults.antt).
 -- Assumes nothing.
+use mathlib.Core.Bool.{false}
 use mathlib.Core.List.{List}
 use mathlib.Core.Path.{_≡_}
 use Prim.Native.Nat.{ℕ, zero, suc, _≤_}
-use Rattle.answer.proofs.Faults.{OfFile}
+use Rattle.answer.proofs.Faults.{isEarly, OfFile}
 use Rattle.answer.specs.declared.Fault.{Fault}
 use Rattle.events.specs.Events.{Event, marks, Ran}
 use Rattle.events.specs.Walk.{Turn, ends, leads, onward, walk, from}
@@ -18,6 +19,14 @@ CheckFaults len (Failed fault offset) = OfFile len fault offset
 -- (the same as a record)
 pub record Checks (len : ℕ) (c : Check) : Type 0 where
   pub faults : CheckFaults len c
+
+-- of a part of the work, by its answer
+abbrev pub Faults : ℕ → Ran Check → Type 0
+Faults len o = Checks len (o .answer)
+
+-- a check failed with a fault that is not 1, 2 or 3, in the file or at its end
+pub fails : {len : ℕ} {fault : Fault} {offset : ℕ} → isEarly fault ≡ false → offset ≤ len → Checks len (Failed fault offset)
+fails l w = record { faults = record { late = l; within = w } }
 
 -- so where it failed, the offset is one of the file's, or its length
 pub check-within : {len : ℕ} {c : Check} {fault : Fault} {offset : ℕ} → Checks len c → c ≡ Failed fault offset → offset ≤ len

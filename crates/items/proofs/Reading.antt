@@ -140,7 +140,7 @@ Where len at (Adjust counter next) = (at < next) × (next ≤ len) × (counter �
 pub record Lies (len at : ℕ) (item : Item) : Type 0 where
   pub lies : Where len at item
 
--- a fault of an item, at an offset of the file
+-- a fault of an item, in the file or at its end
 bad : {len at : ℕ} {fault : Fault} {offset : ℕ} → isEarly fault ≡ false → offset ≤ len → Lies len at (Faulty fault offset)
 bad l w = record { lies = record { late = l; within = w } }
 

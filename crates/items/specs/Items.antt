@@ -1,6 +1,6 @@
 -- One item of an update body, with no map in mind: "00 to FB adds that amount, then adjusts the word at the counter. FC ends. FD with a word
 -- sets the counter there and adjusts. FE with a number sets it to that block's address and adjusts nothing. FF adds 250 and adjusts nothing."
--- Whatever is wrong with an item, the offset is its own: document 02, wish 6, "in update bodies .. the item, for 5 the file's length".
+-- A fault has the offset of its item, 5 that of the file's end: document 02, wish 6, "in update bodies .. the item, for 5 the file's length".
 -- Assumes nothing.
 use mathlib.Core.Bool.{false}
 use mathlib.Core.List.{List}

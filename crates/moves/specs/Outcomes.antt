@@ -109,7 +109,7 @@ pub record Refusals (file : List ℕ) (c : Call) (m : List ℕ) (r : Outcome) (m
   -- "Beyond that it is refused exactly if .."
   pub only : sized c m ≡ true → (fault : Fault) (offset side : ℕ) → r ≡ Refused fault offset side → RefusesMove file c fault offset side
   pub all : sized c m ≡ true → (fault : Fault) (offset side : ℕ) → RefusesMove file c fault offset side → r ≡ Refused fault offset side
-  -- its offset can be looked up in the file, or is the file's length
+  -- its offset can be looked up in the file, or is the file's length (of an acceptance it is 0)
   pub offset-fits : offsetOf r ≤ length file
   pub leaves : (fault : Fault) (offset side : ℕ) → r ≡ Refused fault offset side → RefusedMove c fault m m′ p′ s′
 

@@ -1,8 +1,7 @@
--- What a walk is refused with: not 1, 2 or 3, and at an offset of its file (`answer`, proofs/Faults.antt).
+-- What a walk is refused with: not 1, 2 or 3, and in the file, or at its end (`answer`, proofs/Faults.antt).
 -- Assumes nothing.
-use mathlib.Core.Bool.{Bool, true, false}
 use mathlib.Core.List.{List}
-use mathlib.Core.Path.{_≡_, refl}
+use mathlib.Core.Path.{refl}
 use Prim.Native.Nat.{ℕ, _≤_}
 use native.Mathlib.Omega.{arith}
 use lib.Dec.{eqb}

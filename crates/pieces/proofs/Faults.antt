@@ -1,22 +1,16 @@
--- What a record is refused with at its bases: not 1, 2 or 3, which are left to lengths and settings, and at an offset of its file (`answer`,
+-- What a record is refused with at its bases: not 1, 2 or 3, which are left to lengths and settings, and in the file, or at its end (`answer`,
 -- proofs/Faults.antt).
 -- Assumes nothing.
-use mathlib.Core.Bool.{false}
 use mathlib.Core.List.{List, [], _∷_}
-use mathlib.Core.Path.{_≡_, refl, ap}
+use mathlib.Core.Path.{refl}
 use Prim.Native.Nat.{ℕ, _+_, _*_, _≤_}
 use native.Mathlib.Nat.{suc-mul}
 use native.Mathlib.Omega.{arith}
 use lib.ListN.{length}
 use Rattle.answer.proofs.Checks.{on-need}
-use Rattle.answer.proofs.Faults.{isEarly}
-use Rattle.answer.specs.declared.Fault.{Fault}
-use Rattle.events.proofs.Faults.{Checks}
-use Rattle.events.specs.Events.{Ran, failed}
-use Rattle.events.specs.declared.Check.{Check}
-use Rattle.events.specs.declared.Check.the-variants.{Failed}
+use Rattle.events.proofs.Faults.{Checks, Faults, fails}
+use Rattle.events.specs.Events.{failed}
 use Rattle.fields.proofs.Listing.{items-fit}
-use Rattle.fields.specs.Fields.{itemSize, fieldsOf}
 use Rattle.fields.specs.declared.Field.{Field}
 use Rattle.records.proofs.Reading.{Where}
 use Rattle.records.specs.declared.Entry.{Entry}
@@ -27,19 +21,11 @@ use Rattle.words.specs.Runs.{part}
 use Rattle.pieces.specs.AtBases.{placing, adjusting, ending, applied}
 use Rattle.pieces.specs.declared.Bases.{Bases}
 
--- a part of the work is refused so, if it is
-abbrev Faults : ℕ → Ran Check → Type 0
-Faults len o = Checks len (o .answer)
-
--- a fault of a check, at an offset of the file
-bad : {len : ℕ} {fault : Fault} {offset : ℕ} → isEarly fault ≡ false → offset ≤ len → Checks len (Failed fault offset)
-bad l w = record { faults = record { late = l; within = w } }
-
 -- code
 placing-faults : (len at a limit : ℕ) (code map : List ℕ) → at ≤ len → Faults len (placing at a limit code map)
 unfolding placing
 placing-faults len at a limit code map h =
-    on-need failed (Faults len) _ _ _ _ (bad refl h) (λ _. on-need failed (Faults len) _ _ _ _ (bad refl h) (λ _. record { faults = tt }))
+    on-need failed (Faults len) _ _ _ _ (fails refl h) (λ _. on-need failed (Faults len) _ _ _ _ (fails refl h) (λ _. record { faults = tt }))
 
 -- fields, whose items all end in the file
 adjusting-faults : (len at step : ℕ) (b : Bases) (a n : ℕ) (fs : List Field) (map : List ℕ) → at + length fs * step ≤ len
@@ -50,15 +36,15 @@ adjusting-faults len at step b a n (f ∷ fs) map h =
     let e = suc-mul (length fs) step in
     let here : at ≤ len = omega arith in
     let more : at + step + length fs * step ≤ len = omega (arith, e) in
-    on-need failed (Faults len) _ _ _ _ (bad refl here)
-    (λ _. on-need failed (Faults len) _ _ _ _ (bad refl here)
+    on-need failed (Faults len) _ _ _ _ (fails refl here)
+    (λ _. on-need failed (Faults len) _ _ _ _ (fails refl here)
     (λ _. record { faults = adjusting-faults len (at + step) step b a n fs _ more .faults }))
 
 -- the end record
 ending-faults : (len at : ℕ) (b : Bases) (entry : Entry) (next : ℕ) → at ≤ len → next ≤ len → Faults len (ending at b entry next len)
 unfolding ending
 ending-faults len at b entry next h i =
-    on-need failed (Faults len) _ _ _ _ (bad refl h) (λ _. on-need failed (Faults len) _ _ _ _ (bad refl i) (λ _. record { faults = tt }))
+    on-need failed (Faults len) _ _ _ _ (fails refl h) (λ _. on-need failed (Faults len) _ _ _ _ (fails refl i) (λ _. record { faults = tt }))
 
 -- a record that lies in the file
 pub applied-faults : (file : List ℕ) (at : ℕ) (b : Bases) (a k : ℕ) (r : Record) (map : List ℕ) → Where (length file) at r

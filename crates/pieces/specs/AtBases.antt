@@ -56,12 +56,12 @@ ending at b entry next fileLength =
 
 -- a record lies below an offset
 abbrev pub EndsBy : ℕ → Record → Type 0
-EndsBy offset (Code kind address from n) = from + n ≤ offset
-EndsBy offset (Fixups fixup from n) = from + n ≤ offset
-EndsBy offset (End entry next) = next ≤ offset
-EndsBy offset (Faulty fault at) = Unit {0}
+EndsBy limit (Code kind address from n) = from + n ≤ limit
+EndsBy limit (Fixups fixup from n) = from + n ≤ limit
+EndsBy limit (End entry next) = next ≤ limit
+EndsBy limit (Faulty fault offset) = Unit {0}
 
--- the record at an offset of the file, where the last code record before it has k bytes at a (the address of a code record or a start is its third byte)
+-- the record at an offset of the file, where the last code record before it has k bytes at a (its address, if it has one, begins at its third byte)
 unfoldable pub applied : List ℕ → ℕ → Bases → ℕ → ℕ → Record → List ℕ → Ran Check
 applied file at b a k (Code kind address from n) map = placing (at + 2) (placeAt b kind address) (limitOf kind) (part file from n) map
 applied file at b a k (Fixups fixup from n) map = adjusting from (itemSize fixup) b a k (fieldsOf fixup (part file from n)) map

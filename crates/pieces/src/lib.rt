@@ -51,15 +51,8 @@ pub fn apply(
         } => {
             let next = from + count;
             let to = place_of(bases, kind, address);
-            place_code(
-                &file[from..next],
-                at + 2,
-                to,
-                limit(kind),
-                write,
-                memory,
-                map,
-            )
+            let code = &file[from..next];
+            place_code(code, at + 2, to, limit(kind), write, memory, map)
         }
         Record::Fixups {
             fixup,
@@ -177,10 +170,11 @@ fn adjust_fields(
     Check::Passed
 }
 
-// Adjusts a field of the `size` code bytes at `place`, if it lies inside and no byte of it was adjusted before. Its item stands at `item`.
+// Adjusts a field of the `size` code bytes at `place`, if it lies inside and no byte of it was adjusted before. The item that lists it stands
+// at `at` (of one field it does not matter how far apart items stand).
 fn adjust_field(
     field: Field,
-    item: usize,
+    at: usize,
     bases: Bases,
     place: usize,
     size: usize,
@@ -189,20 +183,20 @@ fn adjust_field(
     map: &mut [u8],
 ) -> Check
     requires { ⌜ (field .index < 256) × (field .lsb < 256) × (place + size ≤ 65536) × (length (now memory) ≡ 65536) × (length (now map) ≡ 65536) ⌝ }
-    ensures { λ r. ⌜ Did Check (adjusting item 0 bases place size (field ∷ []) (now (map .entry))) write (now (memory .entry)) (now (map .entry)) r (now (memory .exit)) (now (map .exit)) ⌝ }
+    ensures { λ r. ⌜ Did Check (adjusting at 0 bases place size (field ∷ []) (now (map .entry))) write (now (memory .entry)) (now (map .entry)) r (now (memory .exit)) (now (map .exit)) ⌝ }
 {
     let fixup = field.fixup;
     let width = fields::width(fixup);
     if size < field.index + width {
-        return Check::Failed(Fault::FieldNotLoaded, item);
+        return Check::Failed(Fault::FieldNotLoaded, at);
     }
-    let at = place + field.index;
-    let past = at + width;
-    let adjusted = words::contains(&map[at..past], events::ADJUSTED);
+    let address = place + field.index;
+    let past = address + width;
+    let adjusted = words::contains(&map[address..past], events::ADJUSTED);
     if adjusted {
-        return Check::Failed(Fault::AdjustedTwice, item);
+        return Check::Failed(Fault::AdjustedTwice, at);
     }
-    words::fill(&mut map[at..past], events::ADJUSTED);
+    words::fill(&mut map[address..past], events::ADJUSTED);
     write_field(field, bases, place, size, write, memory);
     Check::Passed
 }

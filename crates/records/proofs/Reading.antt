@@ -33,7 +33,7 @@ Where len at (Faulty fault offset) = OfFile len fault offset
 pub record Lies (len at : ℕ) (r : Record) : Type 0 where
   pub lies : Where len at r
 
--- a fault of a record, at an offset of the file
+-- a fault of a record, in the file or at its end
 bad : {len at : ℕ} {fault : Fault} {offset : ℕ} → isEarly fault ≡ false → offset ≤ len → Lies len at (Faulty fault offset)
 bad l w = record { lies = record { late = l; within = w } }
 

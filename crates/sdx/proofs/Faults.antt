@@ -1,8 +1,8 @@
--- What a file is refused with: not 1, 2 or 3, which are left to lengths and settings, so that each has its one cause; and at an offset of the file.
+-- What a file is refused with: not 1, 2 or 3, which are left to lengths and settings, so that each has its one cause; and in the file, or at its end.
 -- Assumes nothing.
-use mathlib.Core.Bool.{Bool, true, false}
+use mathlib.Core.Bool.{Bool}
 use mathlib.Core.List.{List}
-use mathlib.Core.Path.{_≡_, refl, sym, ap}
+use mathlib.Core.Path.{_≡_, refl}
 use Prim.Native.Nat.{ℕ, _≤_}
 use native.Mathlib.Omega.{arith}
 use borrow.Author.Tests.{leb-true}
@@ -15,7 +15,7 @@ use Rattle.answer.specs.Causes.{Causes}
 use Rattle.answer.specs.Checks.{need}
 use Rattle.answer.specs.Report.{offsetOf}
 use Rattle.answer.specs.declared.Fault.{Fault}
-use Rattle.events.proofs.Faults.{CheckFaults, Checks}
+use Rattle.events.proofs.Faults.{CheckFaults, Checks, fails}
 use Rattle.events.specs.Events.{Event, Ran}
 use Rattle.events.specs.Sizes.{fileLimit}
 use Rattle.events.specs.declared.Check.{Check}
@@ -29,8 +29,8 @@ use Rattle.sdx.specs.Call.{inRange, atOnce, opening, opened, admitting, 
 opening-faults : (file : List ℕ) → Checks (length file) (opening file)
 unfolding opening
 opening-faults file =
-    on-need Failed (Checks (length file)) _ _ _ _ (record { faults = record { late = refl; within = omega arith } })
-    (λ _. on-need Failed (Checks (length file)) _ _ _ _ (record { faults = record { late = refl; within = omega arith } })
+    on-need Failed (Checks (length file)) _ _ _ _ (fails refl (omega arith))
+    (λ _. on-need Failed (Checks (length file)) _ _ _ _ (fails refl (omega arith))
     (λ _. record { faults = tt }))
 
 -- and then the blocks

@@ -1,4 +1,5 @@
 -- A call of the loader, whatever comes in: "1, 2, 3 come in that order, then the file from its front".
+-- Offsets: "0 for 1 to 4"; document 02, wish 6, "for 5 the file's length".
 -- Assumes nothing.
 use mathlib.Core.Bool.{Bool, _&&_}
 use mathlib.Core.List.{List, []}

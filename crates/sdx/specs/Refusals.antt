@@ -42,7 +42,7 @@ pub record Refusals (file : List ℕ) (g : Inputs) (right : Bool) (b : Buffers) 
   -- with the right lengths it is refused exactly as the rules say, with the first fault and its offset (a load has no side: 0)
   pub only : right ≡ true → (fault : Fault) (offset side : ℕ) → r ≡ Refused fault offset side → RefusesAt file g fault offset × (side ≡ 0)
   pub all : right ≡ true → (fault : Fault) (offset : ℕ) → RefusesAt file g fault offset → r ≡ Refused fault offset 0
-  -- its offset can be looked up in the file, or is the file's length
+  -- its offset can be looked up in the file, or is the file's length (of an acceptance it is 0)
   pub offset-fits : offsetOf r ≤ length file
   pub leaves : (fault : Fault) (offset side : ℕ) → r ≡ Refused fault offset side → RefusedCall fault b b′
 

@@ -1,4 +1,4 @@
--- What a body is refused with: not 1, 2 or 3, and at an offset of its file (`answer`, proofs/Faults.antt).
+-- What a body is refused with: not 1, 2 or 3, and in the file, or at its end (`answer`, proofs/Faults.antt).
 -- Assumes nothing.
 use mathlib.Core.List.{List}
 use mathlib.Core.Path.{_≡_, refl}
@@ -8,8 +8,8 @@ use lib.ListN.{length}
 use Rattle.answer.proofs.Checks.{on-need}
 use Rattle.answer.proofs.Faults.{OfFile}
 use Rattle.answer.specs.declared.Fault.{Fault}
-use Rattle.events.proofs.Faults.{CheckFaults, Checks, Ending, from-ends}
-use Rattle.events.specs.Events.{Ran, failed}
+use Rattle.events.proofs.Faults.{CheckFaults, Checks, Faults, fails, Ending, from-ends}
+use Rattle.events.specs.Events.{failed}
 use Rattle.events.specs.declared.Check.{Check}
 use Rattle.events.specs.declared.Check.the-variants.{Passed, Failed}
 use Rattle.items.proofs.Reading.{Where, lies-as}
@@ -32,17 +32,11 @@ pub record Stops (len : ℕ) (s : Stop) : Type 0 where
 pub stop-within : {len : ℕ} {s : Stop} {fault : Fault} {offset : ℕ} → Stops len s → s ≡ broken fault offset → offset ≤ len
 stop-within {len} {s} {fault} {offset} h e = let g : StopFaults len (broken fault offset) = rw e at (h .faults) in g .within
 
--- a part of the work, by its answer
-abbrev Faults : ℕ → Ran Check → Type 0
-Faults len o = Checks len (o .answer)
-
 -- a word, whose item stands in the file
-adjusting-faults : (len at amount a : ℕ) (map : List ℕ) → at ≤ len → Checks len (adjusting at amount a map .answer)
+adjusting-faults : (len at amount a : ℕ) (map : List ℕ) → at ≤ len → Faults len (adjusting at amount a map)
 unfolding adjusting
 adjusting-faults len at amount a map h =
-    on-need failed (Faults len) _ _ _ _ (record { faults = record { late = refl; within = h } })
-    (λ _. on-need failed (Faults len) _ _ _ _ (record { faults = record { late = refl; within = h } })
-    (λ _. record { faults = tt }))
+    on-need failed (Faults len) _ _ _ _ (fails refl h) (λ _. on-need failed (Faults len) _ _ _ _ (fails refl h) (λ _. record { faults = tt }))
 
 -- an item carried out
 applied-faults : (len at amount : ℕ) (item : Item) (map : List ℕ) → Where len at item → Checks len (applied at amount item map .answer)

@@ -1,4 +1,4 @@
--- An update body, item by item, each over the map as the items before it left it.
+-- An update body, item by item, each over the map as the items before it left it. Offsets: document 02, wish 6, "in update bodies .. the item".
 -- Assumes nothing.
 use mathlib.Core.Bool.{Bool, not, _&&_, _||_}
 use mathlib.Core.List.{List, [], _∷_}

@@ -101,28 +101,28 @@ fn apply(
     }
 }
 
-// Adjusts the word at `at`, if it is loaded (12) and not adjusted since (13). Its item stands at `item`.
+// Adjusts the word at an address, if it is loaded (12) and not adjusted since (13). The item that lists it stands at `at`.
 fn adjust(
+    address: usize,
     at: usize,
-    item: usize,
     amount: u16,
     write: bool,
     memory: &mut [u8],
     map: &mut [u8],
 ) -> Check
-    requires { ⌜ (at ≤ 65534) × (length (now memory) ≡ 65536) × (length (now map) ≡ 65536) ⌝ }
-    ensures { λ r. ⌜ Did Check (adjusting item amount at (now (map .entry))) write (now (memory .entry)) (now (map .entry)) r (now (memory .exit)) (now (map .exit)) ⌝ }
+    requires { ⌜ (address ≤ 65534) × (length (now memory) ≡ 65536) × (length (now map) ≡ 65536) ⌝ }
+    ensures { λ r. ⌜ Did Check (adjusting at amount address (now (map .entry))) write (now (memory .entry)) (now (map .entry)) r (now (memory .exit)) (now (map .exit)) ⌝ }
 {
-    let loaded = word_loaded(map, at);
+    let loaded = word_loaded(map, address);
     if !loaded {
-        return Check::Failed(Fault::FieldNotLoaded, item);
+        return Check::Failed(Fault::FieldNotLoaded, at);
     }
-    let end = at + 2;
-    let adjusted = words::contains(&map[at..end], events::ADJUSTED);
+    let end = address + 2;
+    let adjusted = words::contains(&map[address..end], events::ADJUSTED);
     if adjusted {
-        return Check::Failed(Fault::AdjustedTwice, item);
+        return Check::Failed(Fault::AdjustedTwice, at);
     }
-    events::adjust_word(at, amount, write, memory, map);
+    events::adjust_word(address, amount, write, memory, map);
     Check::Passed
 }
 

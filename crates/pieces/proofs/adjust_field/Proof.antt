@@ -19,8 +19,8 @@ add-if1 c =
 returns : tie.Need-returns
 returns c = adjusting-outside _ _ _ _ _ _ _ _ _ (c .before .before .width .ensures .0) (c .if1 .taken)
 
-add-at : tie.Need-add-at
-add-at c = search needs
+add-address : tie.Need-add-address
+add-address c = search needs
 
 add-past : tie.Need-add-past
 add-past c = search needs
@@ -82,7 +82,7 @@ adjust-field-spec =
     width-requires
     add-if1
     returns
-    add-at
+    add-address
     add-past
     sub-contains
     part-contains-start

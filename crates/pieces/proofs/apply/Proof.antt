@@ -18,14 +18,14 @@ add-next c =
 place-of-requires : tie.Need-place-of-requires
 place-of-requires c κs = search needs
 
-sub-place-code : tie.Need-sub-place-code
-sub-place-code c = search needs
+sub-code : tie.Need-sub-code
+sub-code c = search needs
 
-part-place-code-start : tie.Need-part-place-code-start
-part-place-code-start c = search needs
+part-code-start : tie.Need-part-code-start
+part-code-start c = search needs
 
-part-place-code-end : tie.Need-part-place-code-end
-part-place-code-end c =
+part-code-end : tie.Need-part-code-end
+part-code-end c =
     let s = c .before .before .before .before .before .before .before in
     let w = rw (c .before .before .found .given .1) at (s .pre .2) in
     omega (arith, w)
@@ -120,9 +120,9 @@ apply-spec =
     enum-known-found
     add-next
     place-of-requires
-    sub-place-code
-    part-place-code-start
-    part-place-code-end
+    sub-code
+    part-code-start
+    part-code-end
     add-place-code
     limit-requires
     place-code-requires
