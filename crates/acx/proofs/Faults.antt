@@ -3,16 +3,15 @@
 use mathlib.Core.Bool.{Bool, true, false≢true}
 use mathlib.Core.List.{List}
 use mathlib.Core.Path.{_≡_, refl, sym, ap, _∙_}
-use Prim.Native.Nat.{ℕ, _≤_}
+use Prim.Native.Nat.{ℕ}
 use native.Mathlib.Omega.{arith}
 use lib.Dec.{leb}
 use lib.ListN.{length}
 use Rattle.answer.proofs.Causes.{causes-of}
 use Rattle.answer.proofs.Checks.{on-need}
-use Rattle.answer.proofs.Faults.{OfFile, ByFile, offset-within}
+use Rattle.answer.proofs.Faults.{isEarly, OfFile, ByFile, Lies, early-located, by-file-lies}
 use Rattle.answer.specs.Causes.{Causes}
 use Rattle.answer.specs.Checks.{need}
-use Rattle.answer.specs.Report.{offsetOf}
 use Rattle.answer.specs.declared.Fault.{Fault}
 use Rattle.answer.specs.declared.Fault.the-variants.{WrongBuffer}
 use Rattle.answer.specs.declared.Outcome.the-variants.{Refused}
@@ -61,7 +60,7 @@ turn-faults file b s map =
 records-faults : (file : List ℕ) (b : Bases) (at : ℕ) → Verdicts (length file) (recordsOf file b at .answer)
 unfolding recordsFrom
 records-faults file b at =
-    from-ends (Verdicts (length file)) (turn file b) _ (λ s. record { faults = record { late = refl; within = omega arith } }) (turn-faults file b) _ _ blank
+    from-ends (Verdicts (length file)) (turn file b) _ (λ s. record { faults = record { late = refl; place = omega arith } }) (turn-faults file b) _ _ blank
 
 -- the opening
 pub opening-faults : (form : Form) (file : List ℕ) → Checks (length file) (opening form file)
@@ -85,22 +84,26 @@ report-faults : {len : ℕ} (v : Verdict) (es : List Event) → Verdicts len v �
 report-faults (accepted ps start) es h = record { decided = tt }
 report-faults (refused fault offset) es h = record { decided = h .faults }
 
--- the offset of what is reported is at most so many
-abbrev OffsetFits : ℕ → Ran Verdict → Type 0
-OffsetFits len o = offsetOf (reported o .answer) ≤ len
+-- so what is reported lies where it should
+abbrev Reports : ℕ → Ran Verdict → Type 0
+Reports len o = Lies len (reported o .answer)
 
--- so the offset of every call is in the file, or its length
-pub call-offset : (form : ℕ) (b : Bases) (file : List ℕ) (right : Bool) → offsetOf (reported (call form b file right) .answer) ≤ length file
+early : (len : ℕ) (fault : Fault) → isEarly fault ≡ true → Lies len (Refused fault 0 0)
+early len fault e = record { lies = early-located len fault e }
+
+-- of every call
+pub call-lies : (form : ℕ) (b : Bases) (file : List ℕ) (right : Bool) → Lies (length file) (reported (call form b file right) .answer)
 unfolding call load
-call-offset form b file right =
-    on-need atOnce (OffsetFits (length file)) _ _ _ _ (omega arith)
-    (λ _. on-need atOnce (OffsetFits (length file)) _ _ _ _ (omega arith)
-    (λ _. on-need atOnce (OffsetFits (length file)) _ _ _ _ (omega arith)
-    (λ _. offset-within _ (report-faults _ (judged (formOf form) file b .events) (judged-faults (formOf form) file b)))))
+call-lies form b file right =
+    let P = Reports (length file) in
+    on-need atOnce P _ _ _ _ (early _ _ refl)
+    (λ _. on-need atOnce P _ _ _ _ (early _ _ refl)
+    (λ _. on-need atOnce P _ _ _ _ (early _ _ refl)
+    (λ _. by-file-lies _ (report-faults _ (judged (formOf form) file b .events) (judged-faults (formOf form) file b)))))
 
-pub load-offset : (form : ℕ) (b : Bases) (file : List ℕ) → offsetOf (reported (load form b file) .answer) ≤ length file
+pub load-lies : (form : ℕ) (b : Bases) (file : List ℕ) → Lies (length file) (reported (load form b file) .answer)
 unfolding call need
-load-offset form b file = call-offset form b file true
+load-lies form b file = call-lies form b file true
 
 -- why a call is refused with 1, 2 or 3
 pub call-causes : (form : ℕ) (b : Bases) (file : List ℕ) (right : Bool)

@@ -6,8 +6,10 @@ use mathlib.Core.Path.{_≡_, refl, sym, ap, _∙_, subst}
 use Prim.Native.Nat.{ℕ}
 use lib.Dec.{leb}
 use lib.ListN.{length}
+use Rattle.answer.proofs.Faults.{located-as}
 use Rattle.answer.proofs.Outcomes.{isRefused, faultIn}
 use Rattle.answer.specs.Checks.{need, pick}
+use Rattle.answer.specs.Report.{Located}
 use Rattle.answer.specs.declared.Fault.{Fault}
 use Rattle.answer.specs.declared.Fault.the-variants.{WrongBuffer, SettingOutOfRange, FileTooLong}
 use Rattle.answer.specs.declared.Outcome.{Outcome}
@@ -16,7 +18,7 @@ use Rattle.events.specs.Events.{Event}
 use Rattle.events.specs.Sizes.{fileLimit}
 use Rattle.pieces.specs.declared.Bases.{Bases}
 use Rattle.acx.proofs.Calling.{refused-memory, refused-map, loaded-right}
-use Rattle.acx.proofs.Faults.{call-offset, call-causes, load-causes, load-late}
+use Rattle.acx.proofs.Faults.{call-lies, load-lies, call-causes, load-causes, load-late}
 use Rattle.acx.proofs.Rules.{by-rules}
 use Rattle.acx.specs.Call.{inRange, sized, load, call, Loaded}
 use Rattle.acx.specs.Refusals.{RefusedCall, Refusals, RefusalsClaim}
@@ -47,6 +49,10 @@ module _ (form : ℕ) (b : Bases) (file : List ℕ) (at : ℕ) where
   -- what the rules refuse a load with is reported
   refuses-reported : (fault : Fault) → Refuses form b file fault at → reported (load form b file) .answer ≡ Refused fault at 0
   refuses-reported fault h = ap (λ (v : Verdict). report v (load form b file .events)) (by-rules form b file .refuses fault at h)
+
+  -- where it lies
+  pub refuses-located : (fault : Fault) → Refuses form b file fault at → Located (length file) fault at
+  refuses-located fault h = located-as (load-lies form b file) (refuses-reported fault h)
 
   -- so they refuse it with 1 never
   pub refuses-sized : ¬ Refuses form b file WrongBuffer at
@@ -83,7 +89,7 @@ refusals form b file right m p r m′ p′ d =
           (by-rules form b file .refuses-only fault at (k .0), k .1);
       all = λ h fault at c. loaded-right h d .0
           ∙ ap (λ (v : Verdict). report v (load form b file .events)) (by-rules form b file .refuses fault at c);
-      offset-fits = rw (d .outcome) (call-offset form b file right);
+      located = λ fault at side e. located-as (rw (d .outcome) (call-lies form b file right)) e;
       leaves = λ fault at side e. by fault at side e right refl;
     }
   where

@@ -4,11 +4,11 @@
 use mathlib.Core.Bool.{Bool, true, _&&_}
 use mathlib.Core.List.{List}
 use mathlib.Core.Path.{_≡_}
-use Prim.Native.Nat.{ℕ, _≤_}
+use Prim.Native.Nat.{ℕ}
 use lib.Dec.{leb}
 use lib.ListN.{length}
 use Rattle.answer.specs.Causes.{Causes}
-use Rattle.answer.specs.Report.{offsetOf}
+use Rattle.answer.specs.Report.{Located}
 use Rattle.answer.specs.declared.Fault.{Fault}
 use Rattle.answer.specs.declared.Fault.the-variants.{WrongBuffer}
 use Rattle.answer.specs.declared.Outcome.{Outcome}
@@ -35,8 +35,8 @@ pub record Refusals (form : ℕ) (b : Bases) (file : List ℕ) (right : Bool) (m
   -- with the right lengths it is refused exactly as the rules say, with the first fault and its offset (a load has no side: 0)
   pub only : right ≡ true → (fault : Fault) (offset side : ℕ) → r ≡ Refused fault offset side → Refuses form b file fault offset × (side ≡ 0)
   pub all : right ≡ true → (fault : Fault) (offset : ℕ) → Refuses form b file fault offset → r ≡ Refused fault offset 0
-  -- its offset can be looked up in the file, or is the file's length (of an acceptance it is 0)
-  pub offset-fits : offsetOf r ≤ length file
+  -- its offset is that of a byte of the file; of 5 the file's length, of 1 to 4 zero
+  pub located : (fault : Fault) (offset side : ℕ) → r ≡ Refused fault offset side → Located (length file) fault offset
   pub leaves : (fault : Fault) (offset side : ℕ) → r ≡ Refused fault offset side → RefusedCall fault m p m′ p′
 
 -- The claim: of every file, all settings, whatever is lent, and every call that keeps the loader's contract.

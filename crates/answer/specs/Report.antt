@@ -2,7 +2,7 @@
 -- Assumes nothing.
 use mathlib.Core.List.{List, [], _∷_}
 use mathlib.Core.Path.{_≡_}
-use Prim.Native.Nat.{ℕ, _^_, _<_}
+use Prim.Native.Nat.{ℕ, _^_, _≤_, _<_}
 use lib.ListN.{getD}
 use Rattle.words.specs.Numbers.{encoded, decoded}
 use Rattle.answer.specs.declared.Fault.{Fault}
@@ -57,11 +57,7 @@ abbrev pub IsAccepted : Outcome → Type 0
 IsAccepted (Accepted start placed adjusted names low) = Unit {0}
 IsAccepted (Refused fault offset side) = ⊥
 
--- the offset and the counts of an outcome, "an absent number is zero"
-abbrev pub offsetOf : Outcome → ℕ
-offsetOf (Accepted start placed adjusted names low) = 0
-offsetOf (Refused fault offset side) = offset
-
+-- the counts of an outcome, "an absent number is zero"
 abbrev pub placedOf : Outcome → ℕ
 placedOf (Accepted start placed adjusted names low) = placed
 placedOf (Refused fault offset side) = 0
@@ -85,6 +81,17 @@ answerBytes outcome = encoded 4 (numbersOf outcome)
 -- the nine numbers that an answer holds
 abbrev pub numbersIn : List ℕ → List ℕ
 numbersIn answer = decoded 4 9 answer
+
+-- Where a refusal lies in a file of so many bytes.
+pub record Located (len : ℕ) (fault : Fault) (offset : ℕ) : Type 0 where
+  -- "0 for 1 to 4"
+  pub at-front : numberOf fault ≤ 4 → offset ≡ 0
+  -- document 02, wish 6: "for 5 the file's length"
+  pub at-end : numberOf fault ≡ 5 → offset ≡ len
+  -- any other at a byte of the file: "the first byte of the field or item at fault"
+  pub at-byte : 5 < numberOf fault → offset < len
+  -- so it is at most the file's length
+  pub within : offset ≤ len
 
 -- What an answer is that was written for an outcome: its bytes are the outcome's.
 pub record Written (outcome : Outcome) (answer : List ℕ) : Type 0 where

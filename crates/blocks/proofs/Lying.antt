@@ -10,7 +10,7 @@ use borrow.Author.Tests.{leb-true, ltb-true}
 use lib.Dec.{ltb}
 use lib.ListN.{length, getD}
 use Rattle.answer.proofs.Checks.{on-need, on-pick, and-true}
-use Rattle.answer.proofs.Faults.{isEarly, OfFile}
+use Rattle.answer.proofs.Faults.{isEarly, PlaceOf, OfFile}
 use Rattle.answer.specs.Checks.{need}
 use Rattle.answer.specs.declared.Fault.{Fault}
 use Rattle.items.specs.Items.{slotAt}
@@ -41,10 +41,11 @@ module _ (file : List ℕ) (high : ℕ) (lent own : List ℕ) (c : Cursor) where
     faults : BlockFaults (length file) b
 
   -- so it does behind a check, whose own fault is one of the file
-  checked : (check : Bool) (fault : Fault) (offset : ℕ) (b : Block) → isEarly fault ≡ false → offset ≤ length file → (check ≡ true → Lain b)
+  checked : (check : Bool) (fault : Fault) (offset : ℕ) (b : Block) → isEarly fault ≡ false → PlaceOf (length file) fault offset
+      → (check ≡ true → Lain b)
       → Lain (need Faulty check fault offset b)
   checked check fault offset b l w h =
-      on-need Faulty Lain check fault offset b (record { fits = record { lies = tt }; faults = record { late = l; within = w } }) h
+      on-need Faulty Lain check fault offset b (record { fits = record { lies = tt }; faults = record { late = l; place = w } }) h
 
   plain-lies : (at : ℕ) → c .at ≤ at → Lain (readPlain file at)
   unfolding readPlain
@@ -92,7 +93,7 @@ module _ (file : List ℕ) (high : ℕ) (lent own : List ℕ) (c : Cursor) where
   names-lies = checked _ _ _ _ refl (omega arith) (λ i. by (lookUp own lent (part file (c .at + 2) 8)) refl (leb-true _ _ i))
     where
       by : (d : Definition) → lookUp own lent (part file (c .at + 2) 8) ≡ d → c .at + 12 ≤ length file → Lain (byDefinition (c .at) d)
-      by Missing e l = record { fits = record { lies = tt }; faults = record { late = refl; within = omega arith } }
+      by Missing e l = record { fits = record { lies = tt }; faults = record { late = refl; place = omega arith } }
       by (Own i) e l = record { fits = record { lies = (omega arith, l, listed i (length own) (own-inside own lent _ i e)) }; faults = tt }
       by (Lent i) e l = record { fits = record { lies = (omega arith, l, listed i (length lent) (lent-inside own lent _ i e)) }; faults = tt }
 

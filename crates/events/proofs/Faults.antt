@@ -4,7 +4,7 @@ use mathlib.Core.Bool.{false}
 use mathlib.Core.List.{List}
 use mathlib.Core.Path.{_≡_}
 use Prim.Native.Nat.{ℕ, zero, suc, _≤_}
-use Rattle.answer.proofs.Faults.{isEarly, OfFile}
+use Rattle.answer.proofs.Faults.{isEarly, PlaceOf, OfFile, of-file-located}
 use Rattle.answer.specs.declared.Fault.{Fault}
 use Rattle.events.specs.Events.{Event, marks, Ran}
 use Rattle.events.specs.Walk.{Turn, ends, leads, onward, walk, from}
@@ -24,13 +24,13 @@ pub record Checks (len : ℕ) (c : Check) : Type 0 where
 abbrev pub Faults : ℕ → Ran Check → Type 0
 Faults len o = Checks len (o .answer)
 
--- a check failed with a fault that is not 1, 2 or 3, in the file or at its end
-pub fails : {len : ℕ} {fault : Fault} {offset : ℕ} → isEarly fault ≡ false → offset ≤ len → Checks len (Failed fault offset)
-fails l w = record { faults = record { late = l; within = w } }
+-- a check failed with a fault that is not 1, 2 or 3, at its place
+pub fails : {len : ℕ} {fault : Fault} {offset : ℕ} → isEarly fault ≡ false → PlaceOf len fault offset → Checks len (Failed fault offset)
+fails l w = record { faults = record { late = l; place = w } }
 
 -- so where it failed, the offset is one of the file's, or its length
 pub check-within : {len : ℕ} {c : Check} {fault : Fault} {offset : ℕ} → Checks len c → c ≡ Failed fault offset → offset ≤ len
-check-within {len} {c} {fault} {offset} h e = let g : CheckFaults len (Failed fault offset) = rw e at (h .faults) in g .within
+check-within {len} {c} {fault} {offset} h e = let g : CheckFaults len (Failed fault offset) = rw e at (h .faults) in of-file-located g .within
 
 -- what holds of the answer with which a turn ends its walk, if it does
 abbrev pub Ending : {S A : Type 0} → (A → Type 0) → Turn S A → Type 0

@@ -8,7 +8,7 @@ use native.Mathlib.Omega.{arith}
 use borrow.Author.Tests.{le-leb, lt-leb, lt-ltb, le-ltb, leb-true, ltb-true}
 use lib.ListN.{length, getD}
 use Rattle.answer.proofs.Checks.{on-need, on-pick}
-use Rattle.answer.proofs.Faults.{isEarly, OfFile}
+use Rattle.answer.proofs.Faults.{isEarly, PlaceOf, OfFile}
 use Rattle.answer.specs.Checks.{need, pick}
 use Rattle.answer.specs.declared.Fault.{Fault}
 use Rattle.answer.specs.declared.Fault.the-variants.{CutShort, NotKnown, BlockMissing, CounterUnusable}
@@ -140,9 +140,9 @@ Where len at (Adjust counter next) = (at < next) × (next ≤ len) × (counter �
 pub record Lies (len at : ℕ) (item : Item) : Type 0 where
   pub lies : Where len at item
 
--- a fault of an item, in the file or at its end
-bad : {len at : ℕ} {fault : Fault} {offset : ℕ} → isEarly fault ≡ false → offset ≤ len → Lies len at (Faulty fault offset)
-bad l w = record { lies = record { late = l; within = w } }
+-- a fault of an item, at its place
+bad : {len at : ℕ} {fault : Fault} {offset : ℕ} → isEarly fault ≡ false → PlaceOf len fault offset → Lies len at (Faulty fault offset)
+bad l w = record { lies = record { late = l; place = w } }
 
 -- 00 to FB
 adding-lies : (len at amount : ℕ) (counter : Counter) → at < len → Lies len at (adding at amount counter)

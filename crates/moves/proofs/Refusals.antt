@@ -3,20 +3,20 @@
 use mathlib.Core.Bool.{Bool, true, false, false≢true}
 use mathlib.Core.List.{List}
 use mathlib.Core.Path.{_≡_, refl, sym, ap, _∙_, subst}
-use Prim.Native.Nat.{ℕ, _≤_}
+use Prim.Native.Nat.{ℕ}
 use native.Mathlib.Omega.{arith}
 use borrow.Author.Tests.{leb-false}
 use lib.Dec.{leb}
 use lib.ListN.{length}
-use Rattle.acx.proofs.Faults.{load-offset}
-use Rattle.acx.proofs.Refusals.{refuses-sized, refuses-range, refuses-long}
+use Rattle.acx.proofs.Refusals.{refuses-located, refuses-sized, refuses-range, refuses-long}
 use Rattle.acx.proofs.Rules.{by-rules}
 use Rattle.acx.specs.Call.{inRange, load}
 use Rattle.acx.specs.Rules.{Refuses, out-of-range, too-long}
 use Rattle.acx.specs.Walk.{Verdict, accepted, refused, report}
+use Rattle.answer.proofs.Faults.{early-located}
 use Rattle.answer.proofs.Outcomes.{isRefused, faultIn}
 use Rattle.answer.specs.Checks.{need, pick}
-use Rattle.answer.specs.Report.{numberOf, offsetOf}
+use Rattle.answer.specs.Report.{numberOf, Located}
 use Rattle.answer.specs.declared.Fault.{Fault}
 use Rattle.answer.specs.declared.Fault.the-variants.{WrongBuffer, SettingOutOfRange, FileTooLong}
 use Rattle.answer.specs.declared.Outcome.{Outcome}
@@ -79,29 +79,6 @@ module _ (file : List ℕ) (c : Call) (m : List ℕ) where
         by (accepted ps start) (accepted qs start′) eu ev e =
             absurd (false≢true (ap (λ (v : Verdict). isRefused (report v (n .events))) (sym ev) ∙ ap isRefused e))
 
-  -- the offset of a call is that of a load, or 0
-  outcome-offset : offsetOf (outcomeOf file c m) ≤ length file
-  outcome-offset = by (sized c m) refl
-    where
-      o : Ran Verdict
-      o = load (c .form) (c .old) file
-
-      n : Ran Verdict
-      n = load (c .form) (c .new) file
-
-      sided : (u v : Verdict) → o .answer ≡ u → n .answer ≡ v → offsetOf (outcomeBy n (sides u v)) ≤ length file
-      sided (refused f a) v eu ev =
-          let h : offsetOf (report (refused f a) (o .events)) ≤ length file = rw eu at (load-offset (c .form) (c .old) file) in
-          h
-      sided (accepted ps start) (refused f a) eu ev =
-          let h : offsetOf (report (refused f a) (n .events)) ≤ length file = rw ev at (load-offset (c .form) (c .new) file) in
-          h
-      sided (accepted ps start) (accepted qs start′) eu ev = load-offset (c .form) (c .new) file
-
-      by : (t : Bool) → sized c m ≡ t → offsetOf (outcomeOf file c m) ≤ length file
-      by true h = rw (outcome-right h) (sided (o .answer) (n .answer) refl refl)
-      by false h = rw (outcome-wrong h) (omega arith)
-
 -- ---- which fault it is
 
 module _ (file : List ℕ) (c : Call) where
@@ -111,6 +88,11 @@ module _ (file : List ℕ) (c : Call) where
       refuses-sized (c .form) (c .old) file offset (subst (λ (f : Fault). Refuses (c .form) (c .old) file f offset) e k)
   move-sized fault offset side (at-new a k) e =
       refuses-sized (c .form) (c .new) file offset (subst (λ (f : Fault). Refuses (c .form) (c .new) file f offset) e k)
+
+  -- where it lies
+  move-located : (fault : Fault) (offset side : ℕ) → RefusesMove file c fault offset side → Located (length file) fault offset
+  move-located fault offset side (at-old k) = refuses-located (c .form) (c .old) file offset fault k
+  move-located fault offset side (at-new a k) = refuses-located (c .form) (c .new) file offset fault k
 
   -- 2 for a setting out of its range
   move-range : (fault : Fault) (offset side : ℕ) → RefusesMove file c fault offset side → fault ≡ SettingOutOfRange → OutOfRange file c side
@@ -152,6 +134,14 @@ module _ (file : List ℕ) (c : Call) (m : List ℕ) (r : Outcome) (m′ p′ s�
       by true h = absurd (move-sized file c fault offset side (refused-outcome file c m h fault offset side (sym (w .outcome) ∙ e)) f)
       by false h = h
 
+  located : (fault : Fault) (offset side : ℕ) → r ≡ Refused fault offset side → Located (length file) fault offset
+  located fault offset side e = by (sized c m) refl
+    where
+      by : (t : Bool) → sized c m ≡ t → Located (length file) fault offset
+      by true h = move-located file c fault offset side (refused-outcome file c m h fault offset side (sym (w .outcome) ∙ e))
+      by false h =
+          same-parts (λ f i j. Located (length file) f i) (early-located (length file) WrongBuffer refl) (sym (outcome-wrong file c m h) ∙ sym (w .outcome) ∙ e)
+
   leaves : (fault : Fault) (offset side : ℕ) → r ≡ Refused fault offset side → RefusedMove c fault m m′ p′ s′
   unfolding mapAfter scratchAfter pick
   leaves fault offset side e =
@@ -180,6 +170,6 @@ call-refusals file c m r m′ p′ s′ w =
           (h, l .0, l .1);
       only = λ h fault offset side e. refused-outcome file c m h fault offset side (sym (w .outcome) ∙ e);
       all = λ h fault offset side k. w .outcome ∙ outcome-refused file c m h fault offset side k;
-      offset-fits = rw (w .outcome) (outcome-offset file c m);
+      located = located file c m r m′ p′ s′ w;
       leaves = leaves file c m r m′ p′ s′ w;
     }

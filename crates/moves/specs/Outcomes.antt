@@ -4,13 +4,13 @@
 use mathlib.Core.Bool.{true, false}
 use mathlib.Core.List.{List}
 use mathlib.Core.Path.{_≡_}
-use Prim.Native.Nat.{ℕ, _+_, _≤_}
+use Prim.Native.Nat.{ℕ, _+_}
 use lib.Dec.{leb}
 use lib.ListN.{length, getD}
 use Rattle.acx.specs.Call.{inRange, Loaded}
 use Rattle.acx.specs.Demand2.{total}
 use Rattle.acx.specs.Rules.{Accepts, Refuses}
-use Rattle.answer.specs.Report.{offsetOf}
+use Rattle.answer.specs.Report.{Located}
 use Rattle.answer.specs.declared.Fault.{Fault}
 use Rattle.answer.specs.declared.Fault.the-variants.{WrongBuffer, SettingOutOfRange, FileTooLong}
 use Rattle.answer.specs.declared.Outcome.{Outcome}
@@ -109,8 +109,8 @@ pub record Refusals (file : List ℕ) (c : Call) (m : List ℕ) (r : Outcome) (m
   -- "Beyond that it is refused exactly if .."
   pub only : sized c m ≡ true → (fault : Fault) (offset side : ℕ) → r ≡ Refused fault offset side → RefusesMove file c fault offset side
   pub all : sized c m ≡ true → (fault : Fault) (offset side : ℕ) → RefusesMove file c fault offset side → r ≡ Refused fault offset side
-  -- its offset can be looked up in the file, or is the file's length (of an acceptance it is 0)
-  pub offset-fits : offsetOf r ≤ length file
+  -- its offset is that of a byte of the file; of 5 the file's length, of 1 to 4 zero
+  pub located : (fault : Fault) (offset side : ℕ) → r ≡ Refused fault offset side → Located (length file) fault offset
   pub leaves : (fault : Fault) (offset side : ℕ) → r ≡ Refused fault offset side → RefusedMove c fault m m′ p′ s′
 
 -- The claim: of every call that keeps the mover's contract.

@@ -43,5 +43,5 @@ turn-faults file g top z map =
 pub blocks-faults : (file : List ℕ) (g : Inputs) → g .high ≤ 65535 → Verdicts (length file) (blocksOf file g .answer)
 unfolding blocksFrom
 blocks-faults file g top =
-    from-ends (Verdicts (length file)) (turn file g) _ (λ z. record { faults = record { late = refl; within = omega arith } }) (turn-faults file g top) _ _
+    from-ends (Verdicts (length file)) (turn file g) _ (λ z. record { faults = record { late = refl; place = omega arith } }) (turn-faults file g top) _ _
     blank

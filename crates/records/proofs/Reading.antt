@@ -8,7 +8,7 @@ use native.Mathlib.Omega.{arith}
 use borrow.Author.Tests.{leb-true, ltb-true}
 use lib.ListN.{length, getD}
 use Rattle.answer.proofs.Checks.{on-need}
-use Rattle.answer.proofs.Faults.{isEarly, OfFile}
+use Rattle.answer.proofs.Faults.{isEarly, PlaceOf, OfFile}
 use Rattle.answer.specs.declared.Fault.{Fault}
 use Rattle.words.specs.Runs.{Bytes}
 use Rattle.records.specs.Records.{RecordType, code, fixups, end, unknown, types, suits, readCode, readItems, readFixups, readEnd, readAs, read}
@@ -33,9 +33,9 @@ Where len at (Faulty fault offset) = OfFile len fault offset
 pub record Lies (len at : ℕ) (r : Record) : Type 0 where
   pub lies : Where len at r
 
--- a fault of a record, in the file or at its end
-bad : {len at : ℕ} {fault : Fault} {offset : ℕ} → isEarly fault ≡ false → offset ≤ len → Lies len at (Faulty fault offset)
-bad l w = record { lies = record { late = l; within = w } }
+-- a fault of a record, at its place
+bad : {len at : ℕ} {fault : Fault} {offset : ℕ} → isEarly fault ≡ false → PlaceOf len fault offset → Lies len at (Faulty fault offset)
+bad l w = record { lies = record { late = l; place = w } }
 
 -- a code record's bytes
 code-lies : (file : List ℕ) (at : ℕ) (kind : Kind) → Lies (length file) at (readCode file at kind)

@@ -1,6 +1,6 @@
 -- What a file is refused with: not 1, 2 or 3, which are left to lengths and settings, so that each has its one cause; and in the file, or at its end.
 -- Assumes nothing.
-use mathlib.Core.Bool.{Bool}
+use mathlib.Core.Bool.{Bool, true}
 use mathlib.Core.List.{List}
 use mathlib.Core.Path.{_≡_, refl}
 use Prim.Native.Nat.{ℕ, _≤_}
@@ -10,10 +10,10 @@ use lib.Dec.{leb}
 use lib.ListN.{length}
 use Rattle.answer.proofs.Causes.{causes-of}
 use Rattle.answer.proofs.Checks.{on-need}
-use Rattle.answer.proofs.Faults.{ByFile, offset-within}
+use Rattle.answer.proofs.Faults.{isEarly, ByFile, Lies, of-file-located, early-located, by-file-lies}
 use Rattle.answer.specs.Causes.{Causes}
 use Rattle.answer.specs.Checks.{need}
-use Rattle.answer.specs.Report.{offsetOf}
+use Rattle.answer.specs.Report.{Located}
 use Rattle.answer.specs.declared.Fault.{Fault}
 use Rattle.events.proofs.Faults.{CheckFaults, Checks, fails}
 use Rattle.events.specs.Events.{Event, Ran}
@@ -48,47 +48,59 @@ report-faults : {len : ℕ} (memory : List ℕ) (v : Verdict) (es : List Event) 
 report-faults memory (finished z) es h = record { decided = tt }
 report-faults memory (refused fault offset z) es h = record { decided = h .faults }
 
--- ---- the offset of every call
+-- ---- where the refusal of every call lies
 
--- a check passed, or failed at an offset up to n
-abbrev CheckOffset : ℕ → Check → Type 0
-CheckOffset n Passed = Unit {0}
-CheckOffset n (Failed fault offset) = offset ≤ n
+-- a check passed, or failed so, at an offset up to n
+abbrev CheckLies : ℕ → ℕ → Check → Type 0
+CheckLies len n Passed = Unit {0}
+CheckLies len n (Failed fault offset) = Located len fault offset × (offset ≤ n)
 
 -- (the same as a record)
-record Offset (n : ℕ) (c : Check) : Type 0 where
-  within : CheckOffset n c
+record Admits (len n : ℕ) (c : Check) : Type 0 where
+  lies : CheckLies len n c
 
--- the checks before the first block name 0, or the length of a file that is not too long
-admitting-offset : (file : List ℕ) (g : Inputs) (n : ℕ) → (length file ≤ 65536 → length file ≤ n) → Offset n (admitting file g)
-unfolding admitting opening
-admitting-offset file g n h =
-    on-need Failed (Offset n) _ _ _ _ (record { within = omega arith })
-    (λ _. on-need Failed (Offset n) _ _ _ _ (record { within = omega arith })
-    (λ i. on-need Failed (Offset n) _ _ _ _ (record { within = h (leb-true _ _ i) })
-    (λ _. on-need Failed (Offset n) _ _ _ _ (record { within = omega arith })
-    (λ _. record { within = tt }))))
+-- 2 and 3, at 0
+early : (len n : ℕ) (fault : Fault) → isEarly fault ≡ true → Admits len n (Failed fault 0)
+early len n fault e = record { lies = (early-located len fault e, omega arith) }
 
--- so the offset of what is refused before the first block has room in four bytes
+-- the opening of a file that is not too long
+late : (file : List ℕ) (c : Check) → CheckFaults (length file) c → length file ≤ 65536 → Admits (length file) 65536 c
+late file Passed h l = record { lies = tt }
+late file (Failed fault offset) h l =
+    let p = of-file-located h in
+    record { lies = (p, omega (arith, p .within)) }
+
+-- the checks before the first block
+admitting-lies : (file : List ℕ) (g : Inputs) → Admits (length file) 65536 (admitting file g)
+unfolding admitting
+admitting-lies file g =
+    let P = Admits (length file) 65536 in
+    on-need Failed P _ _ _ _ (early _ _ _ refl)
+    (λ _. on-need Failed P _ _ _ _ (early _ _ _ refl)
+    (λ i. late file (opening file) (opening-faults file .faults) (leb-true _ _ i)))
+
+-- so what is refused before the first block has an offset with room in four bytes
 pub admit-fits : (file : List ℕ) (g : Inputs) {fault : Fault} {offset : ℕ} → admitting file g ≡ Failed fault offset → offset ≤ 65536
 admit-fits file g {fault} {offset} e =
-    let h : CheckOffset 65536 (Failed fault offset) = rw e at (admitting-offset file g 65536 (λ l. l) .within) in
-    h
+    let h : CheckLies (length file) 65536 (Failed fault offset) = rw e at (admitting-lies file g .lies) in
+    h .1
 
--- the offset of every call is in the file, or its length
-pub call-offset : (file : List ℕ) (g : Inputs) (right : Bool) (memory : List ℕ)
-    → offsetOf (report memory (call file g right .answer) (call file g right .events)) ≤ length file
+-- what is reported of a load into a memory
+abbrev Reports : ℕ → List ℕ → Ran Verdict → Type 0
+Reports len memory o = Lies len (report memory (o .answer) (o .events))
+
+pub call-lies : (file : List ℕ) (g : Inputs) (right : Bool) (memory : List ℕ)
+    → Lies (length file) (report memory (call file g right .answer) (call file g right .events))
 unfolding call load
-call-offset file g right memory =
-    on-need (atOnce g) (λ (o : Ran Verdict). offsetOf (report memory (o .answer) (o .events)) ≤ length file) _ _ _ _ (omega arith)
-    (λ _. by (admitting file g) refl (admitting-offset file g (length file) (λ l. omega arith) .within))
+call-lies file g right memory =
+    on-need (atOnce g) (Reports (length file) memory) _ _ _ _ (record { lies = early-located _ _ refl })
+    (λ _. by (admitting file g) refl (admitting-lies file g .lies))
   where
-    by : (c : Check) → admitting file g ≡ c → CheckOffset (length file) c
-        → offsetOf (report memory (opened g c (blocksOf file g) .answer) (opened g c (blocksOf file g) .events)) ≤ length file
+    by : (c : Check) → admitting file g ≡ c → CheckLies (length file) 65536 c → Reports (length file) memory (opened g c (blocksOf file g))
     by Passed e h =
         let top = range-bounds g (admitted file g e .settings) .1 in
-        offset-within _ (report-faults memory _ (blocksOf file g .events) (blocks-faults file g top))
-    by (Failed fault offset) e h = h
+        by-file-lies _ (report-faults memory _ (blocksOf file g .events) (blocks-faults file g top))
+    by (Failed fault offset) e h = record { lies = h .0 }
 
 -- ---- why a call is refused with 1, 2 or 3
 

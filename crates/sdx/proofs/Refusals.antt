@@ -4,6 +4,7 @@ use mathlib.Core.Bool.{Bool, true, false, false≢true, _&&_}
 use mathlib.Core.List.{List}
 use mathlib.Core.Path.{_≡_, refl, sym, ap, _∙_}
 use Prim.Native.Nat.{ℕ}
+use Rattle.answer.proofs.Faults.{located-as}
 use Rattle.answer.proofs.Outcomes.{isRefused, faultIn}
 use Rattle.answer.specs.Checks.{pick}
 use Rattle.answer.specs.declared.Fault.{Fault}
@@ -14,7 +15,7 @@ use Rattle.events.specs.Events.{Event, blank, Ran}
 use Rattle.passes.specs.Buffers.{Buffers}
 use Rattle.passes.specs.Walk.{Inputs, Progress, Verdict, finished, refused}
 use Rattle.sdx.proofs.Calling.{call-load}
-use Rattle.sdx.proofs.Faults.{call-offset, call-causes}
+use Rattle.sdx.proofs.Faults.{call-lies, call-causes}
 use Rattle.sdx.proofs.Rules.{by-rules}
 use Rattle.sdx.specs.Refusals.{Refusals, RefusalsClaim}
 use Rattle.sdx.specs.Call.{load, call, report, memoryAfter, mapAfter, namesAfter, addressesAfter, Loaded, sized}
@@ -85,7 +86,7 @@ refusals file g right b b′ r d =
           let k = reported-refused (b .memory) (o .answer) (o .events) fault offset side (sym (load-is h) ∙ e) in
           ((k .0 .0, by-rules file g .refuses-only fault offset (k .0 .0) (k .0 .1)), k .1);
       all = λ h fault offset w. load-is h ∙ ap (λ (v : Verdict). report (b .memory) v (o .events)) (by-rules file g .refuses fault offset (w .0) (w .1));
-      offset-fits = rw (d .outcome) (call-offset file g right (b .memory));
+      located = λ fault offset side e. located-as (rw (d .outcome) (call-lies file g right (b .memory))) e;
       leaves = λ fault offset side e.
           let u = untouched file g right b b′ r d fault offset side e in
           record {

@@ -4,11 +4,11 @@
 use mathlib.Core.Bool.{Bool, true, _&&_}
 use mathlib.Core.List.{List}
 use mathlib.Core.Path.{_≡_}
-use Prim.Native.Nat.{ℕ, _≤_}
+use Prim.Native.Nat.{ℕ}
 use lib.Dec.{leb}
 use lib.ListN.{length}
 use Rattle.answer.specs.Causes.{Causes}
-use Rattle.answer.specs.Report.{offsetOf}
+use Rattle.answer.specs.Report.{Located}
 use Rattle.answer.specs.declared.Fault.{Fault}
 use Rattle.answer.specs.declared.Fault.the-variants.{WrongBuffer}
 use Rattle.answer.specs.declared.Outcome.{Outcome}
@@ -42,8 +42,8 @@ pub record Refusals (file : List ℕ) (g : Inputs) (right : Bool) (b : Buffers) 
   -- with the right lengths it is refused exactly as the rules say, with the first fault and its offset (a load has no side: 0)
   pub only : right ≡ true → (fault : Fault) (offset side : ℕ) → r ≡ Refused fault offset side → RefusesAt file g fault offset × (side ≡ 0)
   pub all : right ≡ true → (fault : Fault) (offset : ℕ) → RefusesAt file g fault offset → r ≡ Refused fault offset 0
-  -- its offset can be looked up in the file, or is the file's length (of an acceptance it is 0)
-  pub offset-fits : offsetOf r ≤ length file
+  -- its offset is that of a byte of the file; of 5 the file's length, of 1 to 4 zero
+  pub located : (fault : Fault) (offset side : ℕ) → r ≡ Refused fault offset side → Located (length file) fault offset
   pub leaves : (fault : Fault) (offset side : ℕ) → r ≡ Refused fault offset side → RefusedCall fault b b′
 
 -- The claim: of every file, whatever the inputs and the buffers, and of every call that keeps the loader's contract.

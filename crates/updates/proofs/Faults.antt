@@ -2,11 +2,11 @@
 -- Assumes nothing.
 use mathlib.Core.List.{List}
 use mathlib.Core.Path.{_≡_, refl}
-use Prim.Native.Nat.{ℕ, _≤_}
+use Prim.Native.Nat.{ℕ, _≤_, _<_}
 use native.Mathlib.Omega.{arith}
 use lib.ListN.{length}
 use Rattle.answer.proofs.Checks.{on-need}
-use Rattle.answer.proofs.Faults.{OfFile}
+use Rattle.answer.proofs.Faults.{OfFile, of-file-located}
 use Rattle.answer.specs.declared.Fault.{Fault}
 use Rattle.events.proofs.Faults.{CheckFaults, Checks, Faults, fails, Ending, from-ends}
 use Rattle.events.specs.Events.{failed}
@@ -30,10 +30,10 @@ pub record Stops (len : ℕ) (s : Stop) : Type 0 where
 
 -- so where it broke, the offset is one of the file's, or its length
 pub stop-within : {len : ℕ} {s : Stop} {fault : Fault} {offset : ℕ} → Stops len s → s ≡ broken fault offset → offset ≤ len
-stop-within {len} {s} {fault} {offset} h e = let g : StopFaults len (broken fault offset) = rw e at (h .faults) in g .within
+stop-within {len} {s} {fault} {offset} h e = let g : StopFaults len (broken fault offset) = rw e at (h .faults) in of-file-located g .within
 
 -- a word, whose item stands in the file
-adjusting-faults : (len at amount a : ℕ) (map : List ℕ) → at ≤ len → Faults len (adjusting at amount a map)
+adjusting-faults : (len at amount a : ℕ) (map : List ℕ) → at < len → Faults len (adjusting at amount a map)
 unfolding adjusting
 adjusting-faults len at amount a map h =
     on-need failed (Faults len) _ _ _ _ (fails refl h) (λ _. on-need failed (Faults len) _ _ _ _ (fails refl h) (λ _. record { faults = tt }))
@@ -65,5 +65,5 @@ turn-faults file table amount s map =
 pub body-faults : (file : List ℕ) (table : List Slot) (amount at : ℕ) (map : List ℕ) → Stops (length file) (body file table amount at map .answer)
 unfolding items
 body-faults file table amount at map =
-    from-ends (Stops (length file)) (turn file table amount) _ (λ s. record { faults = record { late = refl; within = omega arith } })
+    from-ends (Stops (length file)) (turn file table amount) _ (λ s. record { faults = record { late = refl; place = omega arith } })
     (turn-faults file table amount) _ _ map
