@@ -26,6 +26,7 @@ use Rattle.acx.proofs.Turning.{refused-accepted}
 use Rattle.acx.proofs.Walking.{accepted-keeps}
 use Rattle.acx.specs.Call.{formOf, inRange, sized, load, call, memoryAfter, mapAfter, Loaded}
 use Rattle.pieces.specs.Pieces.{Piece}
+use Rattle.records.specs.declared.Entry.{Entry}
 use Rattle.acx.specs.Walk.{Verdict, accepted, refused, atOnce, recordsOf, opening, openingSize, judged, report, reported}
 use Rattle.pieces.specs.declared.Bases.{Bases}
 use Rattle.acx.specs.declared.Form.{Form}
@@ -41,7 +42,7 @@ form-device (suc n) h = refl
 module _ (form : Form) (file : List ℕ) (b : Bases) (write : Bool) (m : List ℕ) (c : Check) (o : c ≡ opening form file) where
   -- a wrong opening is the refusal
   pub file-refused : (fault : Fault) (offset : ℕ) (r : Outcome) (p′ : List ℕ) → c ≡ Failed fault offset → r ≡ Refused fault offset 0 → p′ ≡ blank
-      → Did Outcome (reported (judged form file b)) write m blank r m p′
+      → Did Outcome (reported b (judged form file b)) write m blank r m p′
   unfolding judged
   file-refused fault offset r p′ e er ep =
       let f : opening form file ≡ Failed fault offset = sym o ∙ e in
@@ -49,8 +50,8 @@ module _ (form : Form) (file : List ℕ) (b : Bases) (write : Bool) (m : List �
 
   -- behind a right one the records decide
   pub file-walked : (n : ℕ) (r : Outcome) (m′ p′ : List ℕ) → c ≡ Passed → n ≡ openingSize form
-      → Did Outcome (reported (recordsOf file b n)) write m blank r m′ p′
-      → Did Outcome (reported (judged form file b)) write m blank r m′ p′
+      → Did Outcome (reported b (recordsOf file b n)) write m blank r m′ p′
+      → Did Outcome (reported b (judged form file b)) write m blank r m′ p′
   unfolding judged
   file-walked n r m′ p′ e en d =
       let f : opening form file ≡ Passed = sym o ∙ e in
@@ -68,20 +69,20 @@ range-bounds form b e =
 module _ (form : ℕ) (b : Bases) (file : List ℕ) (write : Bool) (m : List ℕ) where
   -- settings out of range are the refusal
   pub call-range : (r : Outcome) (p : List ℕ) → inRange form b ≡ false → r ≡ Refused SettingOutOfRange 0 0 → p ≡ blank
-      → Did Outcome (reported (load form b file)) write m blank r m p
+      → Did Outcome (reported b (load form b file)) write m blank r m p
   unfolding load need
   call-range r p h er ep = rw (h, er, ep) (did-none _ write m blank)
 
   module _ (ranged : inRange form b ≡ true) where
     -- then a file that is too long is
     pub call-long : (r : Outcome) (p : List ℕ) → 65536 < length file → r ≡ Refused FileTooLong 0 0 → p ≡ blank
-        → Did Outcome (reported (load form b file)) write m blank r m p
+        → Did Outcome (reported b (load form b file)) write m blank r m p
     unfolding load need
     call-long r p h er ep = rw (ranged, lt-leb _ _ h, er, ep) (did-none _ write m blank)
 
     -- and then the file decides
     pub call-walked : (f : Form) (r : Outcome) (m′ p′ : List ℕ) → length file ≤ 65536 → f ≡ formOf form
-        → Did Outcome (reported (judged f file b)) write m blank r m′ p′ → Did Outcome (reported (load form b file)) write m blank r m′ p′
+        → Did Outcome (reported b (judged f file b)) write m blank r m′ p′ → Did Outcome (reported b (load form b file)) write m blank r m′ p′
     unfolding load need
     call-walked f r m′ p′ h ef d = rw (ranged, le-leb _ _ h, ← ef) d
 
@@ -92,15 +93,15 @@ pub record Admitted (form : ℕ) (b : Bases) (file : List ℕ) : Type 0 where
   pub by-rules : load form b file ≡ judged (formOf form) file b
 
 -- an accepted load does
-pub load-admitted : (form : ℕ) (b : Bases) (file : List ℕ) (ps : List Piece) (start : Start) → load form b file .answer ≡ accepted ps start → Admitted form b file
+pub load-admitted : (form : ℕ) (b : Bases) (file : List ℕ) (ps : List Piece) (entry : Entry) → load form b file .answer ≡ accepted ps entry → Admitted form b file
 unfolding load need
-load-admitted form b file ps start e = by (inRange form b) (leb (length file) 65536) refl refl e
+load-admitted form b file ps entry e = by (inRange form b) (leb (length file) 65536) refl refl e
   where
-    o : Ran Verdict
+    o : Ran (Verdict Piece)
     o = judged (formOf form) file b
 
     by : (c d : Bool) → inRange form b ≡ c → leb (length file) 65536 ≡ d
-        → need atOnce c SettingOutOfRange 0 (need atOnce d FileTooLong 0 o) .answer ≡ accepted ps start
+        → need atOnce c SettingOutOfRange 0 (need atOnce d FileTooLong 0 o) .answer ≡ accepted ps entry
         → Admitted form b file
     by true true h k e = record { range = h; fits = leb-true _ _ k; by-rules = rw (h, k) refl }
     by true false h k e = absurd (refused-accepted e)
@@ -109,59 +110,59 @@ load-admitted form b file ps start e = by (inRange form b) (leb (length file) 65
 -- ---- the counts
 
 judged-counts : (form : Form) (file : List ℕ) (b : Bases)
-    → (placedOf (reported (judged form file b) .answer) ≤ length file) × (adjustedOf (reported (judged form file b) .answer) ≤ length file)
+    → (placedOf (reported b (judged form file b) .answer) ≤ length file) × (adjustedOf (reported b (judged form file b) .answer) ≤ length file)
 judged-counts form file b = by (judged form file b .answer) refl
   where
-    by : (v : Verdict) → judged form file b .answer ≡ v
-        → (placedOf (report v (judged form file b .events)) ≤ length file) × (adjustedOf (report v (judged form file b .events)) ≤ length file)
-    by (accepted ps start) e =
-        let k = accepted-keeps file b (Stands b) (λ s r. stands-on file b s _ r) form ps start (stands-first b _) e in
+    by : (v : Verdict Piece) → judged form file b .answer ≡ v
+        → (placedOf (report b v (judged form file b .events)) ≤ length file) × (adjustedOf (report b v (judged form file b .events)) ≤ length file)
+    by (accepted ps entry) e =
+        let k = accepted-keeps file b (Stands b) (λ s r. stands-on file b s _ r) form ps entry (stands-first b _) e in
         let c = k .held .counts in
         (rw (k .events) (omega (arith, c, k .inside)), rw (k .events) (omega (arith, c, k .inside)))
     by (refused fault at) e = (omega arith, omega arith)
 
 -- neither count of an outcome exceeds the file's length
-pub record Few (n : ℕ) (o : Ran Verdict) : Type 0 where
-  pub placed : placedOf (reported o .answer) ≤ n
-  pub adjusted : adjustedOf (reported o .answer) ≤ n
+pub record Few (n : ℕ) (b : Bases) (o : Ran (Verdict Piece)) : Type 0 where
+  pub placed : placedOf (reported b o .answer) ≤ n
+  pub adjusted : adjustedOf (reported b o .answer) ≤ n
 
-few-need : (n : ℕ) (c : Bool) (fault : Fault) (offset : ℕ) (o : Ran Verdict) → Few n o → Few n (need atOnce c fault offset o)
+few-need : (n : ℕ) (b : Bases) (c : Bool) (fault : Fault) (offset : ℕ) (o : Ran (Verdict Piece)) → Few n b o → Few n b (need atOnce c fault offset o)
 unfolding need
-few-need n true fault offset o h = h
-few-need n false fault offset o h = record { placed = omega arith; adjusted = omega arith }
+few-need n b true fault offset o h = h
+few-need n b false fault offset o h = record { placed = omega arith; adjusted = omega arith }
 
 -- of a load
-pub load-few : (form : ℕ) (b : Bases) (file : List ℕ) → Few (length file) (load form b file)
+pub load-few : (form : ℕ) (b : Bases) (file : List ℕ) → Few (length file) b (load form b file)
 unfolding load
 load-few form b file =
     let k = judged-counts (formOf form) file b in
-    few-need _ _ _ _ _ (few-need _ _ _ _ _ (record { placed = k .0; adjusted = k .1 }))
+    few-need _ b _ _ _ _ (few-need _ b _ _ _ _ (record { placed = k .0; adjusted = k .1 }))
 
 -- ---- a call with the right buffers: first checked, then carried out
 
 -- what was refused plays nothing
-pub refused-memory : (v : Verdict) (es : List Event) (m : List ℕ) → isRefused (report v es) ≡ true → memoryAfter v es m ≡ m
-refused-memory (accepted ps start) es m e = absurd (false≢true e)
-refused-memory (refused fault at) es m e = refl
+pub refused-memory : (b : Bases) (v : Verdict Piece) (es : List Event) (m : List ℕ) → isRefused (report b v es) ≡ true → memoryAfter v es m ≡ m
+refused-memory b (accepted ps entry) es m e = absurd (false≢true e)
+refused-memory b (refused fault at) es m e = refl
 
 -- and leaves the map clear
-pub refused-map : (v : Verdict) (es : List Event) → isRefused (report v es) ≡ true → mapAfter v es ≡ blank
-refused-map (accepted ps start) es e = absurd (false≢true e)
-refused-map (refused fault at) es e = refl
+pub refused-map : (b : Bases) (v : Verdict Piece) (es : List Event) → isRefused (report b v es) ≡ true → mapAfter v es ≡ blank
+refused-map b (accepted ps entry) es e = absurd (false≢true e)
+refused-map b (refused fault at) es e = refl
 
 -- what was accepted plays its events
-accepted-memory : (v : Verdict) (es : List Event) (m : List ℕ) → isRefused (report v es) ≡ false → memoryAfter v es m ≡ play es m
-accepted-memory (accepted ps start) es m e = refl
-accepted-memory (refused fault at) es m e = absurd (false≢true (sym e))
+accepted-memory : (b : Bases) (v : Verdict Piece) (es : List Event) (m : List ℕ) → isRefused (report b v es) ≡ false → memoryAfter v es m ≡ play es m
+accepted-memory b (accepted ps entry) es m e = refl
+accepted-memory b (refused fault at) es m e = absurd (false≢true (sym e))
 
 -- and leaves its marks
-accepted-map : (v : Verdict) (es : List Event) → isRefused (report v es) ≡ false → mapAfter v es ≡ marks es blank
-accepted-map (accepted ps start) es e = refl
-accepted-map (refused fault at) es e = absurd (false≢true (sym e))
+accepted-map : (b : Bases) (v : Verdict Piece) (es : List Event) → isRefused (report b v es) ≡ false → mapAfter v es ≡ marks es blank
+accepted-map b (accepted ps entry) es e = refl
+accepted-map b (refused fault at) es e = absurd (false≢true (sym e))
 
 module _ {form : ℕ} {b : Bases} {file m p : List ℕ} where
   -- a call that did what its load comes to
-  carried : {r : Outcome} {m′ p′ : List ℕ} → r ≡ reported (load form b file) .answer
+  carried : {r : Outcome} {m′ p′ : List ℕ} → r ≡ reported b (load form b file) .answer
       → m′ ≡ memoryAfter (load form b file .answer) (load form b file .events) m
       → p′ ≡ mapAfter (load form b file .answer) (load form b file .events)
       → Loaded form b file true m p r m′ p′
@@ -172,7 +173,7 @@ module _ {form : ℕ} {b : Bases} {file m p : List ℕ} where
 
   -- and what a call with the right buffers did
   pub loaded-right : {right : Bool} {r : Outcome} {m′ p′ : List ℕ} → right ≡ true → Loaded form b file right m p r m′ p′
-      → (r ≡ reported (load form b file) .answer)
+      → (r ≡ reported b (load form b file) .answer)
       × (m′ ≡ memoryAfter (load form b file .answer) (load form b file .events) m)
       × (p′ ≡ mapAfter (load form b file .answer) (load form b file .events))
   unfolding call need pick
@@ -180,26 +181,26 @@ module _ {form : ℕ} {b : Bases} {file m p : List ℕ} where
       let c : Loaded form b file true m p r m′ p′ = subst (λ (t : Bool). Loaded form b file t m p r m′ p′) e d in
       (c .outcome, c .memory, c .map)
 
-  module _ {r : Outcome} {m₁ p₁ : List ℕ} (d : Did Outcome (reported (load form b file)) false m blank r m₁ p₁) where
+  module _ {r : Outcome} {m₁ p₁ : List ℕ} (d : Did Outcome (reported b (load form b file)) false m blank r m₁ p₁) where
     -- what was refused when it was checked is the refusal (memory was not written then)
     pub loaded-refused : {fault : Fault} {at side : ℕ} {p′ : List ℕ} → r ≡ Refused fault at side → p′ ≡ blank
         → Loaded form b file true m p (Refused fault at side) m₁ p′
     loaded-refused e ep =
         let o = load form b file in
-        let k : isRefused (report (o .answer) (o .events)) ≡ true = ap isRefused (sym (d .answer) ∙ e) in
-        carried (sym e ∙ d .answer) (d .reached .memory ∙ sym (refused-memory (o .answer) (o .events) m k))
-        (ep ∙ sym (refused-map (o .answer) (o .events) k))
+        let k : isRefused (report b (o .answer) (o .events)) ≡ true = ap isRefused (sym (d .answer) ∙ e) in
+        carried (sym e ∙ d .answer) (d .reached .memory ∙ sym (refused-memory b (o .answer) (o .events) m k))
+        (ep ∙ sym (refused-map b (o .answer) (o .events) k))
 
     -- what was accepted is walked again, and written
     pub loaded-accepted : {start : Start} {i j k l : ℕ} {r₂ : Outcome} {m₂ p₂ : List ℕ} → r ≡ Accepted start i j k l
-        → Did Outcome (reported (load form b file)) true m₁ blank r₂ m₂ p₂
+        → Did Outcome (reported b (load form b file)) true m₁ blank r₂ m₂ p₂
         → Loaded form b file true m p r₂ m₂ p₂
     loaded-accepted e d₂ =
         let o = load form b file in
-        let k : isRefused (report (o .answer) (o .events)) ≡ false = ap isRefused (sym (d .answer) ∙ e) in
+        let k : isRefused (report b (o .answer) (o .events)) ≡ false = ap isRefused (sym (d .answer) ∙ e) in
         carried (d₂ .answer)
-        (d₂ .reached .memory ∙ ap (λ (t : List ℕ). play (o .events) t) (d .reached .memory) ∙ sym (accepted-memory (o .answer) (o .events) m k))
-        (d₂ .reached .map ∙ sym (accepted-map (o .answer) (o .events) k))
+        (d₂ .reached .memory ∙ ap (λ (t : List ℕ). play (o .events) t) (d .reached .memory) ∙ sym (accepted-memory b (o .answer) (o .events) m k))
+        (d₂ .reached .map ∙ sym (accepted-map b (o .answer) (o .events) k))
 
   -- ---- whatever the buffers
 

@@ -1,15 +1,15 @@
 -- Two machines hold the same program: specs/Determinism.antt, of every two calls that keep the contract.
 -- Assumes nothing.
-use mathlib.Core.List.{List}
+use mathlib.Core.List.{List, map}
 use mathlib.Core.Path.{_≡_, sym, ap, _∙_}
 use Prim.Native.Nat.{ℕ}
 use lib.ListN.{length}
-use Rattle.answer.specs.declared.Start.{Start}
+use Rattle.records.specs.declared.Entry.{Entry}
 use Rattle.events.proofs.Lists.{each-zip}
 use Rattle.events.specs.Events.{Event, play, Ran}
 use Rattle.events.specs.Lists.{Each}
-use Rattle.pieces.proofs.Loads.{loaded, laid, play-laid, laid-parts}
-use Rattle.pieces.specs.Pieces.{Piece, size, placeOf}
+use Rattle.pieces.proofs.Loads.{loaded, places, laid, play-laid, laid-parts}
+use Rattle.pieces.specs.Pieces.{Piece, size, outline}
 use Rattle.pieces.specs.declared.Bases.{Bases}
 use Rattle.words.specs.Runs.{part}
 use Rattle.acx.proofs.Calling.{load-admitted, loaded-right}
@@ -23,22 +23,22 @@ use Rattle.acx.specs.Walk.{Verdict, accepted}
 -- what an accepted file leaves at the places of its pieces hangs on no memory
 placed-parts : (form : ℕ) (b : Bases) (file m m′ : List ℕ) → m′ ≡ memoryAfter (load form b file .answer) (load form b file .events) m
     → length m ≡ 65536
-    → (ps : List Piece) (start : Start)
-    → load form b file .answer ≡ accepted ps start
-    → Each (λ x. part m′ (placeOf b x) (size x) ≡ loaded b x) ps
-placed-parts form b file m m′ em n ps start e =
+    → (ps : List Piece) (entry : Entry)
+    → load form b file .answer ≡ accepted ps entry
+    → Each (λ x. part m′ (places b x) (size x) ≡ loaded b x) ps
+placed-parts form b file m m′ em n ps entry e =
     let o = load form b file in
-    let w = load-admitted form b file ps start e in
-    let x = placed-well file b (formOf form) ps start (ap (λ (q : Ran Verdict). q .answer) (sym (w .by-rules)) ∙ e) in
-    let h = x .held .0 in
-    let fits = fits-memory b (length m) ps n (h .fits) in
+    let w = load-admitted form b file ps entry e in
+    let x = placed-well file b (formOf form) ps entry (ap (λ (q : Ran (Verdict Piece)). q .answer) (sym (w .by-rules)) ∙ e) in
+    let h = x .held .0 .0 in
+    let fits = fits-memory b (length m) (map outline ps) n (h .fit) in
     let is : m′ ≡ laid b ps m =
     em
-    ∙ ap (λ (v : Verdict). memoryAfter v (o .events) m) e
-    ∙ ap (λ (q : Ran Verdict). play (q .events) m) (w .by-rules)
+    ∙ ap (λ (v : Verdict Piece). memoryAfter v (o .events) m) e
+    ∙ ap (λ (q : Ran (Verdict Piece)). play (q .events) m) (w .by-rules)
     ∙ ap (λ (es : List Event). play es m) (x .events)
-    ∙ play-laid b ps m fits (h .inside) in
-    rw is (laid-parts b ps m fits (h .apart))
+    ∙ play-laid b ps m fits (h .sound .inside) in
+    rw is (laid-parts b ps m fits (h .fit .apart))
 
 -- every two calls
 pub same-program : SameClaim
@@ -48,8 +48,8 @@ same-program form b file x m p r m′ p′ y n q t n′ q′ d e f g =
     record {
       outcome = k .0 ∙ sym (l .0);
       map = k .2 ∙ sym (l .2);
-      program = λ ps start a.
-          let h = by-rules form b file .accepts ps start a in
-          each-zip (λ w u v. u ∙ sym v) ps (placed-parts form b file m m′ (k .1) (right-lengths x m p e .1) ps start h)
-          (placed-parts form b file n n′ (l .1) (right-lengths y n q g .1) ps start h);
+      program = λ ps entry a.
+          let h = by-rules form b file .accepts ps entry a in
+          each-zip (λ w u v. u ∙ sym v) ps (placed-parts form b file m m′ (k .1) (right-lengths x m p e .1) ps entry h)
+          (placed-parts form b file n n′ (l .1) (right-lengths y n q g .1) ps entry h);
     }

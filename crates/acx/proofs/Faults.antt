@@ -20,6 +20,7 @@ use Rattle.events.specs.Events.{Event, blank, Ran}
 use Rattle.events.specs.declared.Check.{Check}
 use Rattle.events.specs.declared.Check.the-variants.{Passed, Failed}
 use Rattle.pieces.proofs.Faults.{applied-faults}
+use Rattle.pieces.specs.Pieces.{Piece}
 use Rattle.pieces.specs.declared.Bases.{Bases}
 use Rattle.records.proofs.Reading.{Where, lies-as}
 use Rattle.records.specs.declared.Record.{Record}
@@ -31,12 +32,12 @@ use Rattle.acx.specs.declared.Form.{Form}
 use Rattle.acx.specs.declared.Form.the-variants.{Disk, Device}
 
 -- a verdict is no refusal, or one that the file decides
-abbrev VerdictFaults : ℕ → Verdict → Type 0
-VerdictFaults len (accepted ps start) = Unit {0}
+abbrev VerdictFaults : ℕ → Verdict Piece → Type 0
+VerdictFaults len (accepted ps entry) = Unit {0}
 VerdictFaults len (refused fault offset) = OfFile len fault offset
 
 -- (the same as a record)
-record Verdicts (len : ℕ) (v : Verdict) : Type 0 where
+record Verdicts (len : ℕ) (v : Verdict Piece) : Type 0 where
   faults : VerdictFaults len v
 
 -- where a record leads
@@ -71,7 +72,7 @@ opening-faults Disk file =
     (λ _. record { faults = tt }))
 opening-faults Device file = record { faults = tt }
 
-opened-faults : (len : ℕ) (c : Check) (rest : Ran Verdict) → CheckFaults len c → Verdicts len (rest .answer) → Verdicts len (opened c rest .answer)
+opened-faults : (len : ℕ) (c : Check) (rest : Ran (Verdict Piece)) → CheckFaults len c → Verdicts len (rest .answer) → Verdicts len (opened c rest .answer)
 opened-faults len Passed rest h i = i
 opened-faults len (Failed fault offset) rest h i = record { faults = h }
 
@@ -80,47 +81,47 @@ judged-faults : (form : Form) (file : List ℕ) (b : Bases) → Verdicts (length
 unfolding judged
 judged-faults form file b = opened-faults _ (opening form file) _ (opening-faults form file .faults) (records-faults file b _)
 
-report-faults : {len : ℕ} (v : Verdict) (es : List Event) → Verdicts len v → ByFile len (report v es)
-report-faults (accepted ps start) es h = record { decided = tt }
-report-faults (refused fault offset) es h = record { decided = h .faults }
+report-faults : {len : ℕ} (b : Bases) (v : Verdict Piece) (es : List Event) → Verdicts len v → ByFile len (report b v es)
+report-faults b (accepted ps entry) es h = record { decided = tt }
+report-faults b (refused fault offset) es h = record { decided = h .faults }
 
 -- so what is reported lies where it should
-abbrev Reports : ℕ → Ran Verdict → Type 0
-Reports len o = Lies len (reported o .answer)
+abbrev Reports : ℕ → Bases → Ran (Verdict Piece) → Type 0
+Reports len b o = Lies len (reported b o .answer)
 
 early : (len : ℕ) (fault : Fault) → isEarly fault ≡ true → Lies len (Refused fault 0 0)
 early len fault e = record { lies = early-located len fault e }
 
 -- of every call
-pub call-lies : (form : ℕ) (b : Bases) (file : List ℕ) (right : Bool) → Lies (length file) (reported (call form b file right) .answer)
+pub call-lies : (form : ℕ) (b : Bases) (file : List ℕ) (right : Bool) → Lies (length file) (reported b (call form b file right) .answer)
 unfolding call load
 call-lies form b file right =
-    let P = Reports (length file) in
+    let P = Reports (length file) b in
     on-need atOnce P _ _ _ _ (early _ _ refl)
     (λ _. on-need atOnce P _ _ _ _ (early _ _ refl)
     (λ _. on-need atOnce P _ _ _ _ (early _ _ refl)
-    (λ _. by-file-lies _ (report-faults _ (judged (formOf form) file b .events) (judged-faults (formOf form) file b)))))
+    (λ _. by-file-lies _ (report-faults b _ (judged (formOf form) file b .events) (judged-faults (formOf form) file b)))))
 
-pub load-lies : (form : ℕ) (b : Bases) (file : List ℕ) → Lies (length file) (reported (load form b file) .answer)
+pub load-lies : (form : ℕ) (b : Bases) (file : List ℕ) → Lies (length file) (reported b (load form b file) .answer)
 unfolding call need
 load-lies form b file = call-lies form b file true
 
 -- why a call is refused with 1, 2 or 3
 pub call-causes : (form : ℕ) (b : Bases) (file : List ℕ) (right : Bool)
-    → Causes right (inRange form b) (leb (length file) fileLimit) (reported (call form b file right) .answer)
+    → Causes right (inRange form b) (leb (length file) fileLimit) (reported b (call form b file right) .answer)
 unfolding call load need
 call-causes form b file right =
     causes-of (length file) right (inRange form b) (leb (length file) fileLimit) (λ h. rw h refl) (λ h i. rw (h, i) refl) (λ h i j. rw (h, i, j) refl)
-    (λ h i j. rw (h, i, j) (report-faults _ _ (judged-faults (formOf form) file b)))
+    (λ h i j. rw (h, i, j) (report-faults b _ _ (judged-faults (formOf form) file b)))
 
 -- so a load with the right buffers is refused with 2 or 3 exactly for its cause
 pub load-causes : (form : ℕ) (b : Bases) (file : List ℕ)
-    → Causes true (inRange form b) (leb (length file) fileLimit) (reported (load form b file) .answer)
+    → Causes true (inRange form b) (leb (length file) fileLimit) (reported b (load form b file) .answer)
 unfolding call need
 load-causes form b file = call-causes form b file true
 
 -- and never with 1
-pub load-late : (form : ℕ) (b : Bases) (file : List ℕ) (fault : Fault) (at side : ℕ) → reported (load form b file) .answer ≡ Refused fault at side
+pub load-late : (form : ℕ) (b : Bases) (file : List ℕ) (fault : Fault) (at side : ℕ) → reported b (load form b file) .answer ≡ Refused fault at side
     → ¬ (fault ≡ WrongBuffer)
 load-late form b file fault at side e f =
     false≢true (sym (load-causes form b file .wrong-buffer-only at side (e ∙ ap (λ (k : Fault). Refused k at side) f)))

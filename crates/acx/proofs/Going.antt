@@ -6,13 +6,12 @@ use mathlib.Core.Path.{_≡_, refl, sym, ap, _∙_}
 use Prim.Native.Nat.{ℕ, _+_, _≤_}
 use types.Run.{OneOf}
 use denote.Enum.Declared.{tagOf}
-use borrow.Author.Tests.{leb-true}
 use lib.ListN.{length}
 use Rattle.answer.specs.Report.{address}
 use Rattle.answer.specs.declared.Fault.{Fault}
 use Rattle.answer.specs.declared.Outcome.{Outcome}
 use Rattle.answer.specs.declared.Outcome.the-variants.{Accepted, Refused}
-use Rattle.events.proofs.Checks.{failed-passed, need-passed}
+use Rattle.events.proofs.Checks.{failed-passed}
 use Rattle.events.proofs.Events.{reached-none, reached-more}
 use Rattle.events.proofs.Faults.{check-within}
 use Rattle.events.specs.Events.{Event, marks, blank, placedIn, adjustedIn, Ran, Reached, Did}
@@ -26,8 +25,9 @@ use Rattle.records.specs.declared.Record.{Record}
 use Rattle.records.specs.declared.Record.the-variants.{End}
 use Rattle.acx.proofs.Cursors.{Tracks, tracks-first, tracks-found, tracks-ends, tracks-on, tracks-further, tracks-ends-by, onward-by-tag}
 use Rattle.acx.proofs.Turning.{turn-is, end-none, events-after}
+use Rattle.pieces.proofs.Applying.{ending-passed}
 use Rattle.pieces.proofs.Faults.{applied-faults}
-use Rattle.pieces.specs.AtBases.{startOf, ending, applied, EndsBy}
+use Rattle.pieces.specs.AtBases.{startOf, applied, EndsBy}
 use Rattle.acx.specs.Rules.{Onward}
 use Rattle.acx.specs.Cursor.{firstCursor, advanced}
 use Rattle.pieces.specs.Pieces.{events}
@@ -80,7 +80,7 @@ module _ {file : List ℕ} {b : Bases} {first : ℕ} {write : Bool} {m₀ : List
 
       -- a fault ends the walk
       pub going-fails : {fault : Fault} {offset : ℕ} {q : Outcome} → r ≡ Failed fault offset → q ≡ Refused fault offset 0
-          → Did Outcome (reported (recordsOf file b first)) write m₀ blank q m′ p′
+          → Did Outcome (reported b (recordsOf file b first)) write m₀ blank q m′ p′
       going-fails {fault} {offset} e eq =
           let o = tracks-ends (x .came) _ (turn-is file b here there (Failed fault offset) _ (answer-is ∙ e) refl) in
           rw o (record { answer = eq; reached = now })
@@ -92,15 +92,15 @@ module _ {file : List ℕ} {b : Bases} {first : ℕ} {write : Bool} {m₀ : List
 
       -- the start of an end record that passed is an address
       pub going-start : {entry : Entry} {next : ℕ} → r ≡ Passed → found ≡ End entry next → address (startOf b entry) ≤ 65535
-      unfolding applied ending
+      unfolding applied
       going-start {entry} {next} e f =
           let a : applied file (c .at) b (c .place) (c .size) (End entry next) p .answer ≡ Passed =
           ap (λ (q : Record). applied file (c .at) b (c .place) (c .size) q p .answer) (sym f) ∙ sym (d .answer) ∙ e in
-          leb-true _ _ (need-passed _ _ _ _ a .0)
+          ending-passed (c .at + 2) b entry next (length file) a .0
 
       -- such a record ends the walk with an acceptance
       pub going-ends : {entry : Entry} {next : ℕ} → r ≡ Passed → found ≡ End entry next
-          → Did Outcome (reported (recordsOf file b first)) write m₀ blank (Accepted (startOf b entry) (c .placed) (c .adjusted) 0 0) m′ p′
+          → Did Outcome (reported b (recordsOf file b first)) write m₀ blank (Accepted (startOf b entry) (c .placed) (c .adjusted) 0 0) m′ p′
       going-ends {entry} {next} e f =
           let o = tracks-ends (x .came) _ (turn-is file b here there Passed (End entry next) (answer-is ∙ e) (found-is ∙ f)) in
           let z : before ++ checked file b here there .events ≡ before =

@@ -16,6 +16,7 @@ use Rattle.answer.specs.declared.Outcome.{Outcome}
 use Rattle.answer.specs.declared.Outcome.the-variants.{Refused}
 use Rattle.events.specs.Events.{Event}
 use Rattle.events.specs.Sizes.{fileLimit}
+use Rattle.pieces.specs.Pieces.{Piece}
 use Rattle.pieces.specs.declared.Bases.{Bases}
 use Rattle.acx.proofs.Calling.{refused-memory, refused-map, loaded-right}
 use Rattle.acx.proofs.Faults.{call-lies, load-lies, call-causes, load-causes, load-late}
@@ -36,19 +37,19 @@ module _ (form : ℕ) (b : Bases) (file m p : List ℕ) (r : Outcome) (m′ p′
   refused-right d =
       let o = load form b file in
       let l = loaded-right refl d in
-      let k : isRefused (report (o .answer) (o .events)) ≡ true = ap isRefused (sym (l .0) ∙ e) in
+      let k : isRefused (report b (o .answer) (o .events)) ≡ true = ap isRefused (sym (l .0) ∙ e) in
       record {
-        memory = l .1 ∙ refused-memory (o .answer) (o .events) m k;
+        memory = l .1 ∙ refused-memory b (o .answer) (o .events) m k;
         wrong-buffer = λ h. absurd (load-late form b file fault at side (sym (l .0) ∙ e) h);
-        other = λ n. l .2 ∙ refused-map (o .answer) (o .events) k;
+        other = λ n. l .2 ∙ refused-map b (o .answer) (o .events) k;
       }
 
 -- ---- with the right buffers
 
 module _ (form : ℕ) (b : Bases) (file : List ℕ) (at : ℕ) where
   -- what the rules refuse a load with is reported
-  refuses-reported : (fault : Fault) → Refuses form b file fault at → reported (load form b file) .answer ≡ Refused fault at 0
-  refuses-reported fault h = ap (λ (v : Verdict). report v (load form b file .events)) (by-rules form b file .refuses fault at h)
+  refuses-reported : (fault : Fault) → Refuses form b file fault at → reported b (load form b file) .answer ≡ Refused fault at 0
+  refuses-reported fault h = ap (λ (v : Verdict Piece). report b v (load form b file .events)) (by-rules form b file .refuses fault at h)
 
   -- where it lies
   pub refuses-located : (fault : Fault) → Refuses form b file fault at → Located (length file) fault at
@@ -69,10 +70,10 @@ module _ (form : ℕ) (b : Bases) (file : List ℕ) (at : ℕ) where
       (c .1, c .2)
 
 -- an outcome that is a refusal is of a verdict that is one
-reported-refused : (v : Verdict) (es : List Event) (fault : Fault) (at side : ℕ) → report v es ≡ Refused fault at side
+reported-refused : (b : Bases) (v : Verdict Piece) (es : List Event) (fault : Fault) (at side : ℕ) → report b v es ≡ Refused fault at side
     → (v ≡ refused fault at) × (side ≡ 0)
-reported-refused (accepted ps start) es fault at side e = absurd (false≢true (ap isRefused e))
-reported-refused (refused f a) es fault at side e =
+reported-refused b (accepted ps entry) es fault at side e = absurd (false≢true (ap isRefused e))
+reported-refused b (refused f a) es fault at side e =
     let k : f ≡ fault = cc in
     let l : a ≡ at = cc in
     let s : 0 ≡ side = cc in
@@ -85,10 +86,10 @@ refusals form b file right m p r m′ p′ d =
     record {
       causes = rw (d .outcome) (call-causes form b file right);
       only = λ h fault at side e.
-          let k = reported-refused (load form b file .answer) (load form b file .events) fault at side (sym (loaded-right h d .0) ∙ e) in
+          let k = reported-refused b (load form b file .answer) (load form b file .events) fault at side (sym (loaded-right h d .0) ∙ e) in
           (by-rules form b file .refuses-only fault at (k .0), k .1);
       all = λ h fault at c. loaded-right h d .0
-          ∙ ap (λ (v : Verdict). report v (load form b file .events)) (by-rules form b file .refuses fault at c);
+          ∙ ap (λ (v : Verdict Piece). report b v (load form b file .events)) (by-rules form b file .refuses fault at c);
       located = λ fault at side e. located-as (rw (d .outcome) (call-lies form b file right)) e;
       leaves = λ fault at side e. by fault at side e right refl;
     }

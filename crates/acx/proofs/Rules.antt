@@ -10,7 +10,7 @@ use lib.ListN.{length}
 use Rattle.answer.specs.Checks.{need}
 use Rattle.answer.specs.declared.Fault.{Fault}
 use Rattle.answer.specs.declared.Fault.the-variants.{SettingOutOfRange, FileTooLong, CutShort}
-use Rattle.answer.specs.declared.Start.{Start}
+use Rattle.records.specs.declared.Entry.{Entry}
 use Rattle.events.proofs.Checks.{passed-is, failed-passed}
 use Rattle.events.proofs.Traces.{trace-ends, walk-traced}
 use Rattle.events.proofs.Walks.{ends-leads, ends-same, EndsAt}
@@ -41,7 +41,7 @@ module _ (file : List ℕ) (b : Bases) where
       let p = marks es blank in
       let answer : turn file b y p .answer ≡ leads z =
       turn-on file b y p _ refl (x .onward) (ap (λ (o : Ran Check). o .answer) (x .passes)) ∙ ap leads (sym (x .leads-to)) in
-      ap (λ (t : Turn Progress Verdict). record { answer = t; events = turn file b y p .events }) answer
+      ap (λ (t : Turn Progress (Verdict Piece)). record { answer = t; events = turn file b y p .events }) answer
       ∙ ap (λ (gs : List Event). record { answer = leads z; events = gs })
       (turn-events file b y p ∙ ap (λ (o : Ran Check). o .events) (x .passes))
 
@@ -64,12 +64,12 @@ module _ (file : List ℕ) (b : Bases) where
       walk-traced (turn file b) (λ z. refused CutShort (length file)) (λ z. bytesLeft file (z .at)) (turn-falls file b) blank (NextRecord file b) turn-step
       (begun at)
 
-  trace-records : (at : ℕ) (s : Progress) (es : List Event) (v : Verdict) → Trace (NextRecord file b) (begun at) s es
+  trace-records : (at : ℕ) (s : Progress) (es : List Event) (v : Verdict Piece) → Trace (NextRecord file b) (begun at) s es
       → turn file b s (marks es blank) .answer ≡ ends v
       → recordsOf file b at .answer ≡ v
   unfolding recordsFrom
   trace-records at s es v t e =
-      ap (λ (o : Ran Verdict). o .answer)
+      ap (λ (o : Ran (Verdict Piece)). o .answer)
       (trace-ends (turn file b) (λ z. refused CutShort (length file)) (λ z. bytesLeft file (z .at)) (turn-falls file b) blank (NextRecord file b) step-turn
       t v e)
 
@@ -77,28 +77,28 @@ module _ (file : List ℕ) (b : Bases) where
 
 module _ (form : Form) (file : List ℕ) (b : Bases) where
   -- behind an opening that passes the records decide
-  judged-records : opening form file ≡ Passed → judged form file b ≡ recordsOf file b (openingSize form)
+  pub judged-records : opening form file ≡ Passed → judged form file b ≡ recordsOf file b (openingSize form)
   unfolding judged
   judged-records o = ap (λ (c : Check). opened c (recordsOf file b (openingSize form))) o
 
-  pub followed : (ps : List Piece) (start : Start) → judged form file b .answer ≡ accepted ps start → Follows form file b ps start
-  followed ps start e =
-      let o = judged-opens form file b ps start e in
+  pub followed : (ps : List Piece) (entry : Entry) → judged form file b .answer ≡ accepted ps entry → Follows form file b ps entry
+  followed ps entry e =
+      let o = judged-opens form file b ps entry e in
       let x = records-traced file b (openingSize form) in
-      let v : recordsOf file b (openingSize form) .answer ≡ accepted ps start = ap (λ (q : Ran Verdict). q .answer) (sym (o .1)) ∙ e in
+      let v : recordsOf file b (openingSize form) .answer ≡ accepted ps entry = ap (λ (q : Ran (Verdict Piece)). q .answer) (sym (o .1)) ∙ e in
       record {
         opens = o .0;
         last = x .state;
         events = x .before;
         records = x .held;
-        end = turn-accepted file b (x .state) (x .before) ps start (x .answer ∙ ap ends v);
+        end = turn-accepted file b (x .state) (x .before) ps entry (x .answer ∙ ap ends v);
       }
 
-  pub follows-judged : (ps : List Piece) (start : Start) → Follows form file b ps start → judged form file b .answer ≡ accepted ps start
-  follows-judged ps start h =
-      ap (λ (q : Ran Verdict). q .answer) (judged-records (h .opens))
-      ∙ trace-records file b (openingSize form) (h .last) (h .events) (accepted ps start) (h .records)
-      (turn-accepts file b (h .last) (h .events) ps start (h .end))
+  pub follows-judged : (ps : List Piece) (entry : Entry) → Follows form file b ps entry → judged form file b .answer ≡ accepted ps entry
+  follows-judged ps entry h =
+      ap (λ (q : Ran (Verdict Piece)). q .answer) (judged-records (h .opens))
+      ∙ trace-records file b (openingSize form) (h .last) (h .events) (accepted ps entry) (h .records)
+      (turn-accepts file b (h .last) (h .events) ps entry (h .end))
 
   -- a turn refuses a file where its record does not pass
   turn-failed : (s : Progress) (es : List Event) (fault : Fault) (at : ℕ) → turn file b s (marks es blank) .answer ≡ ends (refused fault at)
@@ -132,7 +132,7 @@ module _ (form : Form) (file : List ℕ) (b : Bases) where
   unfolding judged
   fails-judged fault at (in-opening o) = ap (λ (c : Check). opened c (recordsOf file b (openingSize form)) .answer) o
   fails-judged fault at (in-record {s = s} {es = es} o t c) =
-      ap (λ (q : Ran Verdict). q .answer) (judged-records o)
+      ap (λ (q : Ran (Verdict Piece)). q .answer) (judged-records o)
       ∙ trace-records file b (openingSize form) s es (refused fault at) t (turn-is file b s (marks es blank) (Failed fault at) _ c refl)
 
 -- ---- a load
@@ -148,13 +148,13 @@ module _ (form : ℕ) (b : Bases) (file : List ℕ) where
   load-refuses fault at (out-of-range h) = rw h refl
   load-refuses fault at (too-long h k) = rw (h, lt-leb _ _ k) refl
   load-refuses fault at (by-file h k f) =
-      ap (λ (q : Ran Verdict). q .answer) (load-judged form b file h k) ∙ fails-judged (formOf form) file b fault at f
+      ap (λ (q : Ran (Verdict Piece)). q .answer) (load-judged form b file h k) ∙ fails-judged (formOf form) file b fault at f
 
   load-refused : (fault : Fault) (at : ℕ) → load form b file .answer ≡ refused fault at → Refuses form b file fault at
   unfolding load need
   load-refused fault at e = by (inRange form b) (leb (length file) 65536) refl refl e
     where
-      at-once : {f : Fault} → Refuses form b file f 0 → refused f 0 ≡ refused fault at → Refuses form b file fault at
+      at-once : {f : Fault} → Refuses form b file f 0 → _≡_ {A = Verdict Piece} (refused f 0) (refused fault at) → Refuses form b file fault at
       at-once {f} h e =
           let k : f ≡ fault = cc in
           let l : 0 ≡ at = cc in
@@ -171,14 +171,14 @@ module _ (form : ℕ) (b : Bases) (file : List ℕ) where
 pub by-rules : RulesClaim
 by-rules form b file =
     record {
-      accepts = λ ps start h. ap (λ (q : Ran Verdict). q .answer) (load-judged form b file (h .settings) (h .fits))
-          ∙ follows-judged (formOf form) file b ps start (h .follows);
-      accepts-only = λ ps start e.
-          let w = load-admitted form b file ps start e in
+      accepts = λ ps entry h. ap (λ (q : Ran (Verdict Piece)). q .answer) (load-judged form b file (h .settings) (h .fits))
+          ∙ follows-judged (formOf form) file b ps entry (h .follows);
+      accepts-only = λ ps entry e.
+          let w = load-admitted form b file ps entry e in
           record {
             settings = w .range;
             fits = w .fits;
-            follows = followed (formOf form) file b ps start (ap (λ (q : Ran Verdict). q .answer) (sym (w .by-rules)) ∙ e);
+            follows = followed (formOf form) file b ps entry (ap (λ (q : Ran (Verdict Piece)). q .answer) (sym (w .by-rules)) ∙ e);
           };
       refuses = load-refuses form b file;
       refuses-only = load-refused form b file;

@@ -6,7 +6,6 @@ use Prim.Native.Nat.{ℕ, _+_, _≤_, _<_}
 use native.Mathlib.Omega.{arith}
 use lib.ListN.{length}
 use Rattle.answer.specs.declared.Fault.{Fault}
-use Rattle.answer.specs.declared.Start.{Start}
 use Rattle.events.proofs.Checks.{passed-is}
 use Rattle.events.proofs.Walks.{ends-leads, leads-same, ends-same}
 use Rattle.events.specs.Events.{Event, place, marks, blank, Ran, passed}
@@ -22,11 +21,11 @@ use Rattle.records.specs.declared.Kind.{Kind}
 use Rattle.records.specs.declared.Record.{Record}
 use Rattle.records.specs.declared.Record.the-variants.{Code, Fixups, End, Faulty}
 use Rattle.words.specs.Runs.{part}
-use Rattle.pieces.proofs.Applying.{ending-none, ending-last}
+use Rattle.pieces.proofs.Applying.{ending-none, ending-passed}
 use Rattle.pieces.proofs.Checks.{placing-passed, adjusting-all}
 use Rattle.pieces.proofs.PieceEvents.{adjustments-append, events-code}
-use Rattle.pieces.specs.AtBases.{placing, adjusting, startOf, applied}
-use Rattle.pieces.specs.Pieces.{Piece, placeAt, placeOf, limitOf, adjustments, events}
+use Rattle.pieces.specs.AtBases.{placing, adjusting, ending, applied}
+use Rattle.pieces.specs.Pieces.{Piece, outline, placeAt, placeOf, limitOf, adjustments, events}
 use Rattle.acx.specs.Rules.{Onward, EndRecord}
 use Rattle.acx.specs.Walk.{accepted, refused, Progress, lastOf, lastPlace, lastSize, recordAt, checked, withFields, stepped, judge, turn}
 use Rattle.pieces.specs.declared.Bases.{Bases}
@@ -34,12 +33,12 @@ use Rattle.pieces.specs.declared.Bases.{Bases}
 -- ---- verdicts told apart
 
 -- a refusal is no acceptance
-pub refused-accepted : {fault : Fault} {at : ℕ} {ps : List Piece} {start : Start} → refused fault at ≡ accepted ps start → ⊥
+pub refused-accepted : {P : Type 0} {fault : Fault} {at : ℕ} {ps : List P} {entry : Entry} → refused fault at ≡ accepted ps entry → ⊥
 refused-accepted e = let n : _≡_ {A = ℕ} 0 1 = cc in omega arith
 
--- a verdict has one list of pieces
-pub accepted-pieces : {ps qs : List Piece} {start start′ : Start} → accepted ps start ≡ accepted qs start′ → ps ≡ qs
-accepted-pieces e = cc
+-- a verdict has one list of pieces, and one entry
+pub accepted-same : {P : Type 0} {ps qs : List P} {entry other : Entry} → accepted ps entry ≡ accepted qs other → (ps ≡ qs) × (entry ≡ other)
+accepted-same e = (cc, cc)
 
 -- ---- where a record leads
 
@@ -60,6 +59,23 @@ pub record Led (file : List ℕ) (b : Bases) (s : Progress) (map : List ℕ) (z 
   pub to : stepped file s found ≡ z
 
 module _ (file : List ℕ) (b : Bases) (s : Progress) (map : List ℕ) where
+  -- what a record of each kind comes to
+  checked-code : (kind : Kind) (address from n : ℕ) → recordAt file s ≡ Code kind address from n
+      → checked file b s map ≡ placing (s .at + 2) (placeAt b kind address) (limitOf kind) (part file from n) map
+  unfolding checked applied
+  checked-code kind address from n e = rw e refl
+
+  pub checked-fixups : (fixup : Fixup) (from n : ℕ) → recordAt file s ≡ Fixups fixup from n
+      → checked file b s map
+      ≡ adjusting from (itemSize fixup) b (lastPlace b (s .pieces)) (lastSize (s .pieces)) (fieldsOf fixup (part file from n)) map
+  unfolding checked applied
+  checked-fixups fixup from n e = rw e refl
+
+  checked-end : (entry : Entry) (next : ℕ) → recordAt file s ≡ End entry next
+      → checked file b s map ≡ ending (s .at + 2) b entry next (length file)
+  unfolding checked applied
+  checked-end entry next e = rw e refl
+
   -- a turn does what its record does
   pub turn-events : turn file b s map .events ≡ checked file b s map .events
   unfolding turn
@@ -94,45 +110,45 @@ module _ (file : List ℕ) (b : Bases) (s : Progress) (map : List ℕ) where
 
   -- the end record does nothing
   pub end-none : (entry : Entry) (next : ℕ) → recordAt file s ≡ End entry next → checked file b s map .events ≡ []
-  unfolding checked applied
-  end-none entry next e = rw e (ending-none (s .at + 2) b entry next (length file))
+  end-none entry next e = ap (λ (o : Ran Check). o .events) (checked-end entry next e) ∙ ending-none (s .at + 2) b entry next (length file)
+
+  pub end-answers : (entry : Entry) (next : ℕ) → recordAt file s ≡ End entry next → {v : Check} → checked file b s map .answer ≡ v
+      → ending (s .at + 2) b entry next (length file) .answer ≡ v
+  end-answers entry next e c = ap (λ (o : Ran Check). o .answer) (sym (checked-end entry next e)) ∙ c
 
   -- and where it passes it ends the file
   end-ends : (entry : Entry) (next : ℕ) → recordAt file s ≡ End entry next → checked file b s map .answer ≡ Passed → next ≡ length file
-  unfolding checked applied
   end-ends entry next e c =
       let w = lies-as file (s .at) (lastOf (s .pieces)) _ e in
-      omega (arith, w .1, ending-last (s .at + 2) b entry next (length file) (rw e at c))
+      omega (arith, w .1, ending-passed (s .at + 2) b entry next (length file) (end-answers entry next e c) .1)
 
 module _ (file : List ℕ) (b : Bases) (s : Progress) (es : List Event) where
   abbrev map : List ℕ
   map = marks es blank
 
   -- a turn accepts a file at its end record alone, with the pieces so far
-  pub turn-accepted : (ps : List Piece) (start : Start) → turn file b s map .answer ≡ ends (accepted ps start) → EndRecord file b s es ps start
-  turn-accepted ps start e = by (checked file b s map .answer) (recordAt file s) refl refl (sym (turn-is file b s map _ _ refl refl) ∙ e)
+  pub turn-accepted : (ps : List Piece) (entry : Entry) → turn file b s map .answer ≡ ends (accepted ps entry) → EndRecord file b s es ps entry
+  turn-accepted ps entry e = by (checked file b s map .answer) (recordAt file s) refl refl (sym (turn-is file b s map _ _ refl refl) ∙ e)
     where
-      by : (c : Check) (r : Record) → checked file b s map .answer ≡ c → recordAt file s ≡ r → judge file b s c r ≡ ends (accepted ps start)
-          → EndRecord file b s es ps start
+      by : (c : Check) (r : Record) → checked file b s map .answer ≡ c → recordAt file s ≡ r → judge file b s c r ≡ ends (accepted ps entry)
+          → EndRecord file b s es ps entry
       by (Failed fault offset) r c i e = absurd (refused-accepted (ends-same e))
       by Passed (Code kind address from n) c i e = absurd (ends-leads (sym e))
       by Passed (Fixups fixup from n) c i e = absurd (ends-leads (sym e))
-      by Passed (End entry next) c i e =
-          let v : accepted (s .pieces) (startOf b entry) ≡ accepted ps start = ends-same e in
+      by Passed (End other next) c i e =
+          let v = accepted-same (ends-same e) in
           record {
-            entry = entry;
-            is = i ∙ ap (End entry) (end-ends file b s map entry next i c);
-            passes = passed-is (checked file b s map) c (end-none file b s map entry next i);
-            pieces = cc;
-            start-is = cc;
+            is = i ∙ ap (End other) (end-ends file b s map other next i c) ∙ ap (λ (t : Entry). End t (length file)) (v .1);
+            passes = passed-is (checked file b s map) c (end-none file b s map other next i);
+            pieces = sym (v .0);
           }
       by Passed (Faulty fault offset) c i e = absurd (refused-accepted (ends-same e))
 
   -- and at every end record that passes and ends the file
-  pub turn-accepts : (ps : List Piece) (start : Start) → EndRecord file b s es ps start → turn file b s map .answer ≡ ends (accepted ps start)
-  turn-accepts ps start h =
+  pub turn-accepts : (ps : List Piece) (entry : Entry) → EndRecord file b s es ps entry → turn file b s map .answer ≡ ends (accepted ps entry)
+  turn-accepts ps entry h =
       turn-is file b s map Passed _ (ap (λ (o : Ran Check). o .answer) (h .passes)) (h .is)
-      ∙ ap ends (ap (λ (qs : List Piece). accepted qs (startOf b (h .entry))) (sym (h .pieces)) ∙ ap (accepted ps) (sym (h .start-is)))
+      ∙ ap (λ (qs : List Piece). ends (accepted qs entry)) (sym (h .pieces))
 
 -- each turn that leads on leaves fewer bytes
 pub turn-falls : (file : List ℕ) (b : Bases) (s z : Progress) (map : List ℕ) → turn file b s map .answer ≡ leads z
@@ -145,36 +161,23 @@ turn-falls file b s z map e =
 -- ---- a record that passed
 
 module _ (file : List ℕ) (b : Bases) (s : Progress) (map : List ℕ) where
-  -- code found room and nothing placed there
-  pub code-passed : (kind : Kind) (address from n : ℕ) → recordAt file s ≡ Code kind address from n → checked file b s map .answer ≡ Passed
-      → placing (s .at + 2) (placeAt b kind address) (limitOf kind) (part file from n) map .answer ≡ Passed
-  unfolding checked applied
-  code-passed kind address from n e c = rw e at c
-
-  code-events : (kind : Kind) (address from n : ℕ) → recordAt file s ≡ Code kind address from n
-      → checked file b s map .events ≡ placing (s .at + 2) (placeAt b kind address) (limitOf kind) (part file from n) map .events
-  unfolding checked applied
-  code-events kind address from n e = rw e refl
+  -- code answers as it is placed
+  pub code-answers : (kind : Kind) (address from n : ℕ) → recordAt file s ≡ Code kind address from n → {v : Check} → checked file b s map .answer ≡ v
+      → placing (s .at + 2) (placeAt b kind address) (limitOf kind) (part file from n) map .answer ≡ v
+  code-answers kind address from n e c = ap (λ (o : Ran Check). o .answer) (sym (checked-code file b s map kind address from n e)) ∙ c
 
   -- each field lay in the last code and met none before it
   pub fixups-passed : (fixup : Fixup) (from n : ℕ) → recordAt file s ≡ Fixups fixup from n → checked file b s map .answer ≡ Passed
       → adjusting from (itemSize fixup) b (lastPlace b (s .pieces)) (lastSize (s .pieces)) (fieldsOf fixup (part file from n)) map .answer ≡ Passed
-  unfolding checked applied
-  fixups-passed fixup from n e c = rw e at c
-
-  fixups-events : (fixup : Fixup) (from n : ℕ) → recordAt file s ≡ Fixups fixup from n
-      → checked file b s map .events
-      ≡ adjusting from (itemSize fixup) b (lastPlace b (s .pieces)) (lastSize (s .pieces)) (fieldsOf fixup (part file from n)) map .events
-  unfolding checked applied
-  fixups-events fixup from n e = rw e refl
+  fixups-passed fixup from n e c = ap (λ (o : Ran Check). o .answer) (sym (checked-fixups file b s map fixup from n e)) ∙ c
 
 -- fields more: they are adjusted
 events-fields : (b : Bases) (fs : List Field) (p : Piece) (ps : List Piece)
-    → events b (withFields fs (p ∷ ps)) ≡ events b (p ∷ ps) ++ adjustments b (placeOf b p) fs
+    → events b (withFields fs (p ∷ ps)) ≡ events b (p ∷ ps) ++ adjustments b (placeOf b (outline p)) fs
 unfolding events
 events-fields b fs p ps =
-    ap (λ (es : List Event). events b ps ++ (place (placeOf b p) (p .code) ∷ es)) (adjustments-append b (placeOf b p) (p .fields) fs)
-    ∙ sym (append-assoc (events b ps) (place (placeOf b p) (p .code) ∷ adjustments b (placeOf b p) (p .fields)) (adjustments b (placeOf b p) fs))
+    ap (λ (es : List Event). events b ps ++ (place (placeOf b (outline p)) (p .code) ∷ es)) (adjustments-append b (placeOf b (outline p)) (p .fields) fs)
+    ∙ sym (append-assoc (events b ps) (place (placeOf b (outline p)) (p .code) ∷ adjustments b (placeOf b (outline p)) (p .fields)) (adjustments b (placeOf b (outline p)) fs))
 
 -- fixups stand after a piece
 pub fields-events : (b : Bases) (fs : List Field) (ps : List Piece) → AfterCode (lastOf ps)
@@ -190,10 +193,10 @@ events-after file b s map (Code kind address from n) e o c =
     let p : Piece = record { kind = kind; address = address; code = part file from n; fields = [] } in
     events-code b p (s .pieces) refl
     ∙ ap (λ (es : List Event). events b (s .pieces) ++ es)
-    (sym (code-events file b s map kind address from n e ∙ placing-passed _ _ _ _ _ (code-passed file b s map kind address from n e c) .2))
+    (sym (ap (λ (o : Ran Check). o .events) (checked-code file b s map kind address from n e) ∙ placing-passed _ _ _ _ _ (code-answers file b s map kind address from n e c) .2))
 events-after file b s map (Fixups fixup from n) e o c =
     fields-events b (fieldsOf fixup (part file from n)) (s .pieces) (fixups-after file (s .at) (lastOf (s .pieces)) fixup from n e)
     ∙ ap (λ (es : List Event). events b (s .pieces) ++ es)
-    (sym (fixups-events file b s map fixup from n e ∙ adjusting-all _ _ b _ _ _ _ (fixups-passed file b s map fixup from n e c)))
+    (sym (ap (λ (o : Ran Check). o .events) (checked-fixups file b s map fixup from n e) ∙ adjusting-all _ _ b _ _ _ _ (fixups-passed file b s map fixup from n e c)))
 events-after file b s map (End entry next) e o c = absurd o
 events-after file b s map (Faulty fault offset) e o c = absurd o

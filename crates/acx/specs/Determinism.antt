@@ -5,11 +5,11 @@ use mathlib.Core.List.{List}
 use mathlib.Core.Path.{_≡_}
 use Prim.Native.Nat.{ℕ}
 use Rattle.answer.specs.declared.Outcome.{Outcome}
-use Rattle.answer.specs.declared.Start.{Start}
+use Rattle.records.specs.declared.Entry.{Entry}
 use Rattle.events.specs.Lists.{Each}
 use Rattle.words.specs.Runs.{part}
 use Rattle.acx.specs.Call.{sized, Loaded}
-use Rattle.pieces.specs.Pieces.{Piece, size, placeOf}
+use Rattle.pieces.specs.Pieces.{Piece, size, outline, placeOf}
 use Rattle.pieces.specs.declared.Bases.{Bases}
 use Rattle.acx.specs.Rules.{Accepts}
 
@@ -20,8 +20,8 @@ pub record SameProgram (form : ℕ) (b : Bases) (file : List ℕ) (r t : Outcome
   pub outcome : r ≡ t
   pub map : p ≡ q
   -- where it was accepted, every byte at a place of the handler
-  pub program : (ps : List Piece) (start : Start) → Accepts form b file ps start
-      → Each (λ x. part m (placeOf b x) (size x) ≡ part n (placeOf b x) (size x)) ps
+  pub program : (ps : List Piece) (entry : Entry) → Accepts form b file ps entry
+      → Each (λ x. part m (placeOf b (outline x)) (size x) ≡ part n (placeOf b (outline x)) (size x)) ps
 
 -- of every two calls that keep the loader's contract and are lent buffers of the right lengths (x and y: a C answer, if one is lent, too)
 abbrev pub SameClaim : Type 0

@@ -9,7 +9,6 @@ use Prim.Native.Nat.{ℕ, _≤_, _<_}
 use lib.ListN.{length}
 use Rattle.answer.specs.declared.Fault.{Fault}
 use Rattle.answer.specs.declared.Fault.the-variants.{SettingOutOfRange, FileTooLong}
-use Rattle.answer.specs.declared.Start.{Start}
 use Rattle.events.specs.Events.{Event, marks, blank, passed}
 use Rattle.events.specs.Sizes.{fileLimit}
 use Rattle.events.specs.Trace.{Trace}
@@ -17,7 +16,6 @@ use Rattle.events.specs.declared.Check.the-variants.{Passed, Failed}
 use Rattle.records.specs.declared.Entry.{Entry}
 use Rattle.records.specs.declared.Record.{Record}
 use Rattle.records.specs.declared.Record.the-variants.{Code, Fixups, End, Faulty}
-use Rattle.pieces.specs.AtBases.{startOf}
 use Rattle.pieces.specs.Pieces.{Piece}
 use Rattle.pieces.specs.declared.Bases.{Bases}
 use Rattle.acx.specs.Call.{formOf, inRange, load}
@@ -39,23 +37,21 @@ pub record NextRecord (file : List ℕ) (b : Bases) (s : Progress) (es : List Ev
   pub passes : checked file b s (marks es blank) ≡ passed fs
   pub leads-to : z ≡ stepped file s (recordAt file s)
 
--- It is an end record, passes, and ends the file: the pieces so far are the handler, and it says where that starts.
-pub record EndRecord (file : List ℕ) (b : Bases) (s : Progress) (es : List Event) (ps : List Piece) (start : Start) : Type 0 where
-  pub entry : Entry
+-- It is an end record, passes, and ends the file: the pieces so far are the handler, and its entry says where that starts.
+pub record EndRecord (file : List ℕ) (b : Bases) (s : Progress) (es : List Event) (ps : List Piece) (entry : Entry) : Type 0 where
   pub is : recordAt file s ≡ End entry (length file)
   pub passes : checked file b s (marks es blank) ≡ passed []
   pub pieces : ps ≡ s .pieces
-  pub start-is : start ≡ startOf b entry
 
--- A file in its form follows the rules at its bases, with these pieces and this start.
-pub record Follows (form : Form) (file : List ℕ) (b : Bases) (ps : List Piece) (start : Start) : Type 0 where
+-- A file in its form follows the rules at its bases, with these pieces and this entry.
+pub record Follows (form : Form) (file : List ℕ) (b : Bases) (ps : List Piece) (entry : Entry) : Type 0 where
   -- "Disk form opens F0 FF ..; device form has no opening."
   pub opens : opening form file ≡ Passed
   -- "Then records to the end record": each begins where the one before it ended
   pub last : Progress
   pub events : List Event
   pub records : Trace (NextRecord file b) (begun (openingSize form)) last events
-  pub end : EndRecord file b last events ps start
+  pub end : EndRecord file b last events ps entry
 
 -- A file breaks a rule first with this fault, at this offset: in its opening, or in a record after others that passed.
 pub data Fails (form : Form) (file : List ℕ) (b : Bases) : Fault → ℕ → Type 0 where
@@ -68,10 +64,10 @@ pub data Fails (form : Form) (file : List ℕ) (b : Bases) : Fault → ℕ → T
 -- ---- a load of it, with the right buffers
 
 -- It is accepted: its settings are in range, it is not too long, and it follows the rules.
-pub record Accepts (form : ℕ) (b : Bases) (file : List ℕ) (ps : List Piece) (start : Start) : Type 0 where
+pub record Accepts (form : ℕ) (b : Bases) (file : List ℕ) (ps : List Piece) (entry : Entry) : Type 0 where
   pub settings : inRange form b ≡ true
   pub fits : length file ≤ fileLimit
-  pub follows : Follows (formOf form) file b ps start
+  pub follows : Follows (formOf form) file b ps entry
 
 -- It is refused with a fault, at an offset: "1, 2, 3 come in that order, then the file from its front".
 pub data Refuses (form : ℕ) (b : Bases) (file : List ℕ) : Fault → ℕ → Type 0 where
@@ -84,8 +80,8 @@ pub data Refuses (form : ℕ) (b : Bases) (file : List ℕ) : Fault → ℕ → 
 
 -- The loader's definition accepts and refuses exactly so.
 pub record ByRules (form : ℕ) (b : Bases) (file : List ℕ) : Type 0 where
-  pub accepts : (ps : List Piece) (start : Start) → Accepts form b file ps start → load form b file .answer ≡ accepted ps start
-  pub accepts-only : (ps : List Piece) (start : Start) → load form b file .answer ≡ accepted ps start → Accepts form b file ps start
+  pub accepts : (ps : List Piece) (entry : Entry) → Accepts form b file ps entry → load form b file .answer ≡ accepted ps entry
+  pub accepts-only : (ps : List Piece) (entry : Entry) → load form b file .answer ≡ accepted ps entry → Accepts form b file ps entry
   pub refuses : (fault : Fault) (at : ℕ) → Refuses form b file fault at → load form b file .answer ≡ refused fault at
   pub refuses-only : (fault : Fault) (at : ℕ) → load form b file .answer ≡ refused fault at → Refuses form b file fault at
 

@@ -10,7 +10,6 @@ use Rattle.answer.specs.declared.Fault.{Fault}
 use Rattle.answer.specs.declared.Fault.the-variants.{WrongOpening, CutShort}
 use Rattle.answer.specs.declared.Outcome.{Outcome}
 use Rattle.answer.specs.declared.Outcome.the-variants.{Accepted, Refused}
-use Rattle.answer.specs.declared.Start.{Start}
 use Rattle.events.specs.Events.{Event, blank, placedIn, adjustedIn, Ran}
 use Rattle.events.specs.Walk.{Turn, ends, leads, from, bytesLeft}
 use Rattle.events.specs.declared.Check.{Check}
@@ -18,6 +17,7 @@ use Rattle.events.specs.declared.Check.the-variants.{Passed, Failed}
 use Rattle.fields.specs.Fields.{fieldsOf}
 use Rattle.records.specs.Records.{read}
 use Rattle.fields.specs.declared.Field.{Field}
+use Rattle.records.specs.declared.Entry.{Entry}
 use Rattle.records.specs.declared.Last.{Last}
 use Rattle.records.specs.declared.Last.the-variants.{Nothing, Of}
 use Rattle.records.specs.declared.Record.{Record}
@@ -25,15 +25,17 @@ use Rattle.records.specs.declared.Record.the-variants.{Code, Fixups, End, Fault
 use Rattle.words.specs.Numbers.{value}
 use Rattle.words.specs.Runs.{part}
 use Rattle.pieces.specs.AtBases.{startOf, applied}
-use Rattle.pieces.specs.Pieces.{Piece, size, placeOf}
+use Rattle.pieces.specs.Pieces.{Piece, size, outline, placeOf}
 use Rattle.pieces.specs.declared.Bases.{Bases}
 use Rattle.acx.specs.declared.Form.{Form}
 use Rattle.acx.specs.declared.Form.the-variants.{Disk, Device}
 
--- what a file comes to: the pieces of the handler, latest first, and its start; or its first fault and the offset of the first byte at fault
-pub data Verdict : Type 0 where
-  accepted : List Piece → Start → Verdict
-  refused : Fault → ℕ → Verdict
+-- what a file comes to: the pieces of the handler, latest first, and its end record's entry; or its first fault and the offset of the first byte at
+-- fault. A load goes by pieces, a move by their outlines. (The entry, not the start: at main base 8192 an absolute start 8192 and a relative start 0
+-- are one address, but not one handler.)
+pub data Verdict (P : Type 0) : Type 0 where
+  accepted : List P → Entry → Verdict P
+  refused : Fault → ℕ → Verdict P
 
 -- ---- the opening
 
@@ -70,7 +72,7 @@ lastOf (p ∷ ps) = Of (p .kind)
 -- where it was placed
 abbrev pub lastPlace : Bases → List Piece → ℕ
 lastPlace b [] = 0
-lastPlace b (p ∷ ps) = placeOf b p
+lastPlace b (p ∷ ps) = placeOf b (outline p)
 
 -- and how many code bytes it has
 abbrev pub lastSize : List Piece → ℕ
@@ -99,48 +101,48 @@ stepped file s (End entry next) = s
 stepped file s (Faulty fault offset) = s
 
 -- where a record leads: on to the next; or the walk ends, accepted at the end record, refused at a fault
-abbrev pub judge : List ℕ → Bases → Progress → Check → Record → Turn Progress Verdict
+abbrev pub judge : List ℕ → Bases → Progress → Check → Record → Turn Progress (Verdict Piece)
 judge file b s (Failed fault offset) r = ends (refused fault offset)
 judge file b s Passed (Code kind address from n) = leads (stepped file s (Code kind address from n))
 judge file b s Passed (Fixups fixup from n) = leads (stepped file s (Fixups fixup from n))
-judge file b s Passed (End entry next) = ends (accepted (s .pieces) (startOf b entry))
+judge file b s Passed (End entry next) = ends (accepted (s .pieces) entry)
 judge file b s Passed (Faulty fault offset) = ends (refused fault offset)
 
 -- one record: read, checked at the bases, and where that leads
-unfoldable pub turn : List ℕ → Bases → Progress → List ℕ → Ran (Turn Progress Verdict)
+unfoldable pub turn : List ℕ → Bases → Progress → List ℕ → Ran (Turn Progress (Verdict Piece))
 turn file b s map =
     record { answer = judge file b s (checked file b s map .answer) (recordAt file s); events = checked file b s map .events }
 
 -- ---- the walk
 
 -- the records from some progress on, over a map
-unfoldable pub recordsFrom : List ℕ → Bases → Progress → List ℕ → Ran Verdict
+unfoldable pub recordsFrom : List ℕ → Bases → Progress → List ℕ → Ran (Verdict Piece)
 recordsFrom file b s map = from (turn file b) (λ z. refused CutShort (length file)) (λ z. bytesLeft file (z .at)) s map
 
 -- all records from an offset on, over a clear map
-abbrev pub recordsOf : List ℕ → Bases → ℕ → Ran Verdict
+abbrev pub recordsOf : List ℕ → Bases → ℕ → Ran (Verdict Piece)
 recordsOf file b at = recordsFrom file b (begun at) blank
 
 -- a refusal before the first record
-abbrev pub atOnce : Fault → ℕ → Ran Verdict
+abbrev pub atOnce : Fault → ℕ → Ran (Verdict Piece)
 atOnce fault offset = record { answer = refused fault offset; events = [] }
 
 -- the records, where the opening passed
-abbrev pub opened : Check → Ran Verdict → Ran Verdict
+abbrev pub opened : Check → Ran (Verdict Piece) → Ran (Verdict Piece)
 opened Passed rest = rest
 opened (Failed fault offset) rest = atOnce fault offset
 
 -- the whole file in its form, at its bases
-unfoldable pub judged : Form → List ℕ → Bases → Ran Verdict
+unfoldable pub judged : Form → List ℕ → Bases → Ran (Verdict Piece)
 judged form file b = opened (opening form file) (recordsOf file b (openingSize form))
 
 -- ---- what is reported
 
 -- "the start (present or not, address), the number of bytes placed and of fields adjusted"; "A refusal reports its number and the offset"
-abbrev pub report : Verdict → List Event → Outcome
-report (accepted ps start) es = Accepted start (placedIn es) (adjustedIn es) 0 0
-report (refused fault at) es = Refused fault at 0
+abbrev pub report : {P : Type 0} → Bases → Verdict P → List Event → Outcome
+report b (accepted ps entry) es = Accepted (startOf b entry) (placedIn es) (adjustedIn es) 0 0
+report b (refused fault at) es = Refused fault at 0
 
 -- the same with the events that led to it
-abbrev pub reported : Ran Verdict → Ran Outcome
-reported o = record { answer = report (o .answer) (o .events); events = o .events }
+abbrev pub reported : {P : Type 0} → Bases → Ran (Verdict P) → Ran Outcome
+reported b o = record { answer = report b (o .answer) (o .events); events = o .events }

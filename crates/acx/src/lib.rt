@@ -70,7 +70,7 @@ pub fn walk_call(
     map: &mut [u8],
 ) -> Outcome
     requires { ⌜ (length (now memory) ≡ 65536) × (length (now map) ≡ 65536) ⌝ }
-    ensures { λ r. ⌜ Did Outcome (reported (loadOf form (basesAt «main_base» «zero_base») (now (file .entry)))) write (now (memory .entry)) blank r (now (memory .exit)) (now (map .exit)) ⌝ }
+    ensures { λ r. ⌜ Did Outcome (reported (basesAt «main_base» «zero_base») (loadOf form (basesAt «main_base» «zero_base») (now (file .entry)))) write (now (memory .entry)) blank r (now (memory .exit)) (now (map .exit)) ⌝ }
 {
     words::fill(map, 0);
     let ranged = in_range(form, main_base, zero_base);
@@ -205,7 +205,7 @@ fn walk_file(
     map: &mut [u8],
 ) -> Outcome
     requires { ⌜ (length (now file) ≤ 65536) × (length (now memory) ≡ 65536) × (length (now map) ≡ 65536) × (now map ≡ blank) ⌝ }
-    ensures { λ r. ⌜ Did Outcome (reported (judged form (now (file .entry)) bases)) write (now (memory .entry)) blank r (now (memory .exit)) (now (map .exit)) ⌝ }
+    ensures { λ r. ⌜ Did Outcome (reported bases (judged form (now (file .entry)) bases)) write (now (memory .entry)) blank r (now (memory .exit)) (now (map .exit)) ⌝ }
 {
     let opened = opening(form, file);
     if let Check::Failed(fault, offset) = opened {
@@ -243,7 +243,7 @@ fn walk(
     map: &mut [u8],
 ) -> Outcome
     requires { ⌜ (length (now file) ≤ 65536) × (at ≤ length (now file)) × (length (now memory) ≡ 65536) × (length (now map) ≡ 65536) × (now map ≡ blank) ⌝ }
-    ensures { λ r. ⌜ Did Outcome (reported (recordsOf (now (file .entry)) bases at)) write (now (memory .entry)) blank r (now (memory .exit)) (now (map .exit)) ⌝ }
+    ensures { λ r. ⌜ Did Outcome (reported bases (recordsOf (now (file .entry)) bases at)) write (now (memory .entry)) blank r (now (memory .exit)) (now (map .exit)) ⌝ }
 {
     let mut cursor = first_cursor(at);
     loop {

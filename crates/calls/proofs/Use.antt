@@ -12,7 +12,7 @@ use Rattle.moves.specs.Call.{callOf}
 use Rattle.moves.specs.Demand3.{Made, last, ifAccepted, Linked, none, next, Memory, AcceptedAt, PlainKept}
 use Rattle.passes.specs.Buffers.{Buffers}
 use Rattle.passes.specs.Walk.{Inputs}
-use Rattle.pieces.specs.Pieces.{Piece}
+use Rattle.pieces.specs.Pieces.{Outline}
 use Rattle.pieces.specs.declared.Bases.{Bases}
 use Rattle.words.specs.Runs.{Bytes}
 use Rattle.calls.proofs.Demands.{told, sdx-refusals, demand3}
@@ -41,7 +41,7 @@ module _ (file : List ℕ) (form : ℕ) (old new : Bases) (m p s a : List ℕ) (
   as-made = record { answer = a; returned = r; scratch = s′; written = a′; called = d; answered = d .answered }
 
   -- so where 0 was returned, the handler's bytes that are in no field are at their new places
-  pub moved-on : Bytes file → (ps : List Piece) → AcceptedAt file form ps old → Memory m → r ≡ 0 → PlainKept old new ps m m′
+  pub moved-on : Bytes file → (ps : List Outline) → AcceptedAt file form ps old → Memory m → r ≡ 0 → PlainKept old new ps m m′
   moved-on b ps h y e =
       let x = told (d .outcome) a r a′ (d .answered) .accepted-only e in
       rw (← leads (d .outcome) old new x)

@@ -18,4 +18,4 @@ sdxNumbers file low high =
 
 -- of an ACX file in device form, at a main base and the zero-page base 128
 unfoldable pub acxNumbers : List ℕ → ℕ → List ℕ
-acxNumbers file base = numbersOf (reported (loadAcx 1 (basesAt base 128) file) .answer)
+acxNumbers file base = numbersOf (reported (basesAt base 128) (loadAcx 1 (basesAt base 128) file) .answer)

@@ -7,9 +7,9 @@ use Prim.Native.Nat.{ℕ, _≤_}
 use native.Mathlib.Omega.{arith}
 use borrow.Author.Tests.{eq-eqb, ne-eqb}
 use lib.ListN.{length}
-use Rattle.acx.proofs.Calling.{Few, load-few}
+use Rattle.acx.proofs.Calling.{load-few}
 use Rattle.acx.specs.Call.{load}
-use Rattle.pieces.specs.Pieces.{Piece}
+use Rattle.pieces.specs.Pieces.{Outline}
 use Rattle.acx.specs.Walk.{Verdict, accepted, refused, report, reported}
 use Rattle.pieces.specs.declared.Bases.{Bases}
 use Rattle.answer.proofs.Outcomes.{isRefused}
@@ -21,8 +21,8 @@ use Rattle.answer.specs.declared.Outcome.{Outcome}
 use Rattle.answer.specs.declared.Outcome.the-variants.{Accepted, Refused}
 use Rattle.answer.specs.declared.Start.{Start}
 use Rattle.events.specs.Events.{blank, Ran, Did}
-use Rattle.moves.proofs.Rulings.{reported-accepted, both, accepted-allows, refused-leaves}
-use Rattle.moves.specs.Call.{Call, Ruling, allows, refuses, side, sides, rulingOf, sized, ruling, Allows, piecesOf, outcomeBy, memoryBy, outcomeOf, memoryAfter, mapAfter, scratchAfter, Moved}
+use Rattle.moves.proofs.Rulings.{report-same, reported-accepted, both, accepted-allows, refused-leaves}
+use Rattle.moves.specs.Call.{Call, judgedAt, Ruling, allows, refuses, side, sides, rulingOf, sized, ruling, Allows, piecesOf, outcomeBy, memoryBy, outcomeOf, memoryAfter, mapAfter, scratchAfter, Moved}
 use Rattle.moves.specs.Move.{moved}
 use Rattle.mover.specs.Parts.{Judged, Done}
 
@@ -33,82 +33,86 @@ withSide n (Accepted start placed adjusted names low) = Accepted start placed ad
 withSide n (Refused fault at k) = Refused fault at n
 
 module _ (form : ℕ) (b : Bases) (file : List ℕ) (n : ℕ) {m : List ℕ} {r : Outcome} {m₁ p₁ : List ℕ}
-    (d : Did Outcome (reported (load form b file)) false m blank r m₁ p₁) where
-  abbrev o : Ran Verdict
-  o = load form b file
+    (d : Did Outcome (reported b (load form b file)) false m blank r m₁ p₁) where
+  abbrev o : Ran (Verdict Outline)
+  o = judgedAt form b file
+
+  -- the load reports what a move looks at
+  answer-is : (v : Verdict Outline) → o .answer ≡ v → r ≡ report b v (o .events)
+  answer-is v f = d .answer ∙ sym (report-same b (load form b file .answer) (o .events)) ∙ ap (λ (v : Verdict Outline). report b v (o .events)) f
 
   -- a walk that refused
   pub side-refused : {fault : Fault} {at k : ℕ} {p′ : List ℕ} → r ≡ Refused fault at k → p′ ≡ blank
-      → Judged o (side n (o .answer)) m (Refused fault at n) m₁ p′
+      → Judged b o (side n (o .answer)) m (Refused fault at n) m₁ p′
   side-refused {fault} {at} {k} {p′} e ep = by (o .answer) refl
     where
-      by : (v : Verdict) → o .answer ≡ v → Judged o (side n (o .answer)) m (Refused fault at n) m₁ p′
-      by (accepted ps start) f = absurd (false≢true (sym (ap isRefused (sym e ∙ d .answer ∙ ap (λ (v : Verdict). report v (o .events)) f))))
+      by : (v : Verdict Outline) → o .answer ≡ v → Judged b o (side n (o .answer)) m (Refused fault at n) m₁ p′
+      by (accepted ps entry) f = absurd (false≢true (sym (ap isRefused (sym e ∙ answer-is (accepted ps entry) f))))
       by (refused h i) f =
           record {
-            outcome = rw f (ap (withSide n) (sym e ∙ d .answer ∙ ap (λ (v : Verdict). report v (o .events)) f));
+            outcome = rw f (ap (withSide n) (sym e ∙ answer-is (refused h i) f));
             memory = d .reached .memory;
             map = rw f ep;
           }
 
   -- a walk that did not
-  pub side-accepted : {start : Start} {i j k l : ℕ} → r ≡ Accepted start i j k l → Judged o (side n (o .answer)) m r m₁ p₁
+  pub side-accepted : {start : Start} {i j k l : ℕ} → r ≡ Accepted start i j k l → Judged b o (side n (o .answer)) m r m₁ p₁
   side-accepted {start} {i} {j} {k} {l} e = by (o .answer) refl
     where
-      by : (v : Verdict) → o .answer ≡ v → Judged o (side n (o .answer)) m r m₁ p₁
-      by (accepted ps start) f =
-          record { outcome = rw f (d .answer ∙ ap (λ (v : Verdict). report v (o .events)) f); memory = d .reached .memory; map = rw f (d .reached .map) }
-      by (refused h i) f = absurd (false≢true (ap isRefused (sym e ∙ d .answer ∙ ap (λ (v : Verdict). report v (o .events)) f)))
+      by : (v : Verdict Outline) → o .answer ≡ v → Judged b o (side n (o .answer)) m r m₁ p₁
+      by (accepted ps entry) f = record { outcome = rw f (answer-is (accepted ps entry) f); memory = d .reached .memory; map = rw f (d .reached .map) }
+      by (refused h i) f = absurd (false≢true (ap isRefused (sym e ∙ answer-is (refused h i) f)))
 
 -- ---- both sides
 
 -- whether a side is refused shows in its outcome
-refused-side : (o : Ran Verdict) (n : ℕ) (v : Verdict) → o .answer ≡ v → (r : Outcome) → r ≡ outcomeBy o (side n (o .answer))
-    → isRefused r ≡ isRefused (report v (o .events))
-refused-side o n (accepted ps start) f r e =
-    ap isRefused (e ∙ ap (λ (v : Verdict). outcomeBy o (side n v)) f ∙ ap (λ (v : Verdict). report v (o .events)) f)
-refused-side o n (refused fault at) f r e = ap isRefused (e ∙ ap (λ (v : Verdict). outcomeBy o (side n v)) f)
+refused-side : (b : Bases) (o : Ran (Verdict Outline)) (n : ℕ) (v : Verdict Outline) → o .answer ≡ v → (r : Outcome)
+    → r ≡ outcomeBy b o (side n (o .answer))
+    → isRefused r ≡ isRefused (report b v (o .events))
+refused-side b o n (accepted ps entry) f r e =
+    ap isRefused (e ∙ ap (λ (v : Verdict Outline). outcomeBy b o (side n v)) f ∙ ap (λ (v : Verdict Outline). report b v (o .events)) f)
+refused-side b o n (refused fault at) f r e = ap isRefused (e ∙ ap (λ (v : Verdict Outline). outcomeBy b o (side n v)) f)
 
-module _ {o o′ : Ran Verdict} {m : List ℕ} {r : Outcome} {m₁ p₁ : List ℕ} (d : Judged o (side 0 (o .answer)) m r m₁ p₁) where
+module _ {b b′ : Bases} {o o′ : Ran (Verdict Outline)} {m : List ℕ} {r : Outcome} {m₁ p₁ : List ℕ} (d : Judged b o (side 0 (o .answer)) m r m₁ p₁) where
   -- the old bases are at fault
   pub sides-old : {fault : Fault} {at k : ℕ} → r ≡ Refused fault at k
-      → Judged o′ (sides (o .answer) (o′ .answer)) m (Refused fault at k) m₁ p₁
+      → Judged b′ o′ (sides (o .answer) (o′ .answer)) m (Refused fault at k) m₁ p₁
   sides-old {fault} {at} {k} e = by (o .answer) refl
     where
-      by : (v : Verdict) → o .answer ≡ v → Judged o′ (sides (o .answer) (o′ .answer)) m (Refused fault at k) m₁ p₁
-      by (accepted ps start) f = absurd (false≢true (sym (refused-side o 0 (accepted ps start) f r (d .outcome)) ∙ ap isRefused e))
+      by : (v : Verdict Outline) → o .answer ≡ v → Judged b′ o′ (sides (o .answer) (o′ .answer)) m (Refused fault at k) m₁ p₁
+      by (accepted ps entry) f = absurd (false≢true (sym (refused-side b o 0 (accepted ps entry) f r (d .outcome)) ∙ ap isRefused e))
       by (refused h i) f = record { outcome = rw f (sym e ∙ rw f at (d .outcome)); memory = d .memory; map = rw f (rw f at (d .map)) }
 
   -- the new ones decide
   pub sides-new : {start : Start} {i j k l : ℕ} {r₂ : Outcome} {m₂ p₂ : List ℕ} → r ≡ Accepted start i j k l
-      → Judged o′ (side 1 (o′ .answer)) m₁ r₂ m₂ p₂ → Judged o′ (sides (o .answer) (o′ .answer)) m r₂ m₂ p₂
+      → Judged b′ o′ (side 1 (o′ .answer)) m₁ r₂ m₂ p₂ → Judged b′ o′ (sides (o .answer) (o′ .answer)) m r₂ m₂ p₂
   sides-new {start} {i} {j} {k} {l} {r₂} {m₂} {p₂} e d₂ = by (o .answer) refl
     where
-      by : (v : Verdict) → o .answer ≡ v → Judged o′ (sides (o .answer) (o′ .answer)) m r₂ m₂ p₂
-      by (accepted ps start) f = record { outcome = rw f (d₂ .outcome); memory = d₂ .memory ∙ d .memory; map = rw f (d₂ .map) }
-      by (refused h i) f = absurd (false≢true (ap isRefused (sym e) ∙ refused-side o 0 (refused h i) f r (d .outcome)))
+      by : (v : Verdict Outline) → o .answer ≡ v → Judged b′ o′ (sides (o .answer) (o′ .answer)) m r₂ m₂ p₂
+      by (accepted ps entry) f = record { outcome = rw f (d₂ .outcome); memory = d₂ .memory ∙ d .memory; map = rw f (d₂ .map) }
+      by (refused h i) f = absurd (false≢true (ap isRefused (sym e) ∙ refused-side b o 0 (refused h i) f r (d .outcome)))
 
 -- ---- the call
 
 -- an accepted outcome is that of a move that is allowed
 pub judged-allows : (form : ℕ) (old new : Bases) (file : List ℕ) {m : List ℕ} {r : Outcome} {m₁ p₁ : List ℕ} {start : Start} {i j k l : ℕ}
-    → Judged (load form new file) (rulingOf form old new file) m r m₁ p₁ → r ≡ Accepted start i j k l → Allows (rulingOf form old new file)
-judged-allows form old new file d e = accepted-allows (load form new file) (rulingOf form old new file) (sym (d .outcome) ∙ e)
+    → Judged new (judgedAt form new file) (rulingOf form old new file) m r m₁ p₁ → r ≡ Accepted start i j k l → Allows (rulingOf form old new file)
+judged-allows form old new file d e = accepted-allows new (judgedAt form new file) (rulingOf form old new file) (sym (d .outcome) ∙ e)
 
 module _ (form : ℕ) (old new : Bases) (file : List ℕ) {m : List ℕ} {r : Outcome} {m₁ p₁ s′ : List ℕ}
-    (d : Judged (load form new file) (rulingOf form old new file) m r m₁ p₁) (es : s′ ≡ blank) where
+    (d : Judged new (judgedAt form new file) (rulingOf form old new file) m r m₁ p₁) (es : s′ ≡ blank) where
   -- a refusal leaves memory as it was
   pub done-refused : {fault : Fault} {at k : ℕ} → r ≡ Refused fault at k → Done form old new file m (Refused fault at k) m₁ p₁ s′
   done-refused e =
       record {
         outcome = sym e ∙ d .outcome;
         memory = d .memory
-            ∙ sym (refused-leaves (load form new file) old new m (rulingOf form old new file) allowed (ap isRefused (sym (d .outcome) ∙ e)) .0);
+            ∙ sym (refused-leaves (judgedAt form new file) old new m (rulingOf form old new file) allowed (ap isRefused (sym (d .outcome) ∙ e)) .0);
         map = d .map;
         scratch = es;
       }
     where
-      allowed : (ps : List Piece) → rulingOf form old new file ≡ allows ps → isRefused (reported (load form new file) .answer) ≡ false
+      allowed : (ps : List Outline) → rulingOf form old new file ≡ allows ps → isRefused (reported new (judgedAt form new file) .answer) ≡ false
       allowed ps f = reported-accepted file form ps new (both form old new file ps f .1)
 
   -- where the move is allowed, memory is that of the move
@@ -127,9 +131,13 @@ module _ (form : ℕ) (old new : Bases) (file : List ℕ) {m : List ℕ} {r : Ou
       by (refuses fault at side) h = absurd h
 
 -- neither count exceeds the file's length
-outcome-few : (o : Ran Verdict) (v : Ruling) (r : Outcome) (n : ℕ) → Few n o → r ≡ outcomeBy o v → (placedOf r ≤ n) × (adjustedOf r ≤ n)
-outcome-few o (allows ps) r n h e = (rw e (h .placed), rw e (h .adjusted))
-outcome-few o (refuses fault at side) r n h e = (rw e (omega arith), rw e (omega arith))
+outcome-few : (form : ℕ) (b : Bases) (file : List ℕ) (v : Ruling) (r : Outcome) → r ≡ outcomeBy b (judgedAt form b file) v
+    → (placedOf r ≤ length file) × (adjustedOf r ≤ length file)
+outcome-few form b file (allows ps) r e =
+    let h = load-few form b file in
+    let same = e ∙ report-same b (load form b file .answer) (load form b file .events) in
+    (rw same (h .placed), rw same (h .adjusted))
+outcome-few form b file (refuses fault at side) r e = (rw e (omega arith), rw e (omega arith))
 
 -- ---- whatever the buffers
 
@@ -166,8 +174,7 @@ module _ {file : List ℕ} {c : Call} {m : List ℕ} where
   unfolding ruling need pick outcomeOf memoryAfter mapAfter scratchAfter
   moved-sized {r} {m′} {p′} {s′} a g i h d =
       let z : sized c m ≡ true = rw (eq-eqb _ _ g, eq-eqb _ _ i, eq-eqb _ _ h, a) refl in
-      let few = outcome-few (load (c .form) (c .new) file) (rulingOf (c .form) (c .old) (c .new) file) r (length file)
-      (load-few (c .form) (c .new) file) (d .outcome) in
+      let few = outcome-few (c .form) (c .new) file (rulingOf (c .form) (c .old) (c .new) file) r (d .outcome) in
       record {
         outcome = rw z (d .outcome);
         memory = rw z (d .memory);

@@ -1,14 +1,14 @@
 -- When a call is accepted, and what it then leaves, as specs/Outcomes.antt states it.
 -- Assumes nothing.
 use mathlib.Core.Bool.{Bool, true, _&&_}
-use mathlib.Core.List.{List, [], _∷_}
+use mathlib.Core.List.{List, [], _∷_, map}
 use mathlib.Core.Path.{_≡_, refl, sym, ap, _∙_, subst}
 use Prim.Native.Nat.{ℕ}
 use borrow.Author.Tests.{eqb-true}
 use lib.Dec.{eqb}
 use lib.ListN.{length, getD}
 use Rattle.acx.proofs.Calling.{loaded-right}
-use Rattle.acx.proofs.Demand2.{load-reports}
+use Rattle.acx.specs.Call.{load}
 use Rattle.acx.specs.Demand2.{total}
 use Rattle.acx.specs.Rules.{Accepts}
 use Rattle.answer.proofs.Checks.{and-true}
@@ -16,12 +16,14 @@ use Rattle.answer.specs.Checks.{pick}
 use Rattle.answer.specs.declared.Outcome.{Outcome}
 use Rattle.answer.specs.declared.Outcome.the-variants.{Accepted}
 use Rattle.answer.specs.declared.Start.{Start}
+use Rattle.records.specs.declared.Entry.{Entry}
 use Rattle.events.specs.Events.{blank}
-use Rattle.pieces.specs.Pieces.{Piece, size}
+use Rattle.pieces.specs.AtBases.{startOf}
+use Rattle.pieces.specs.Pieces.{Piece, size, Outline, outline}
 use Rattle.pieces.specs.declared.Bases.{Bases}
 use Rattle.words.specs.Runs.{Bytes}
 use Rattle.moves.proofs.Demand3.{demand3}
-use Rattle.moves.proofs.Rulings.{same-at, Allowed, accepted-allowed, memory-moved, report-is}
+use Rattle.moves.proofs.Rulings.{report-same, map-same, reports-at, accepted-by, same-at, Allowed, accepted-allowed, memory-moved, report-is}
 use Rattle.moves.proofs.Transfers.{stays}
 use Rattle.moves.specs.Call.{Call, piecesOf, sized, ruling, outcomeOf, memoryAfter, scratchAfter, Moved}
 use Rattle.moves.specs.Demand3.{Report, Made, ifAccepted, last, Linked, Chained, Run, none, next, Memory, AcceptedAt, Demand3, reportOf, Defined}
@@ -39,11 +41,11 @@ module _ (file : List ℕ) (c : Call) (m : List ℕ) where
   abbrev made : Made
   made = record { call = c; report = reportOf file c m }
 
-  module _ (ps : List Piece) (x : Allowed file c m ps) where
+  module _ (ps : List Outline) (x : Allowed file c m ps) where
     -- what a call reports that may move the pieces
-    pub reports-accepted : outcomeOf file c m ≡ Accepted (x .new .0) (total size ps) (total (λ p. length (p .fields)) ps) 0 0
-    reports-accepted =
-        ap (λ (t : Report). t .outcome) (report-is file c m ps x) ∙ load-reports (c .form) (c .new) file ps (x .new .0) (x .new .1)
+    pub reports-accepted : outcomeOf file c m
+        ≡ Accepted (startOf (c .new) (x .new .entry)) (total size (x .new .pieces)) (total (λ p. length (p .fields)) (x .new .pieces)) 0 0
+    reports-accepted = ap (λ (t : Report). t .outcome) (report-is file c m ps x) ∙ reports-at file (c .form) ps (c .new) (x .new)
 
     -- demand 3 of it, as a list of one
     alone : Bytes file → Memory m → Demand3 (Defined file) file (c .form) ps (c .old) (c .new) (made ∷ []) m (memoryAfter file c m)
@@ -78,21 +80,24 @@ module _ (file : List ℕ) (c : Call) (m : List ℕ) (r : Outcome) (m′ p′ s�
         kept = λ a h. ap (λ (t : List ℕ). getD t a 0) (w .memory ∙ memory-moved file c m ps x)
             ∙ stays file (c .form) ps (c .old) (c .new) (x .old) (x .new) m n a h;
         as-load = λ k q t k′ q′ f.
-            let g = loaded-right refl f in (
-              w .outcome ∙ ap (λ (z : Report). z .outcome) report-here ∙ sym (g .0),
-              w .map ∙ ap (λ (z : Report). z .map) report-here ∙ sym (g .2),
+            let g = loaded-right refl f in
+            let o = load (c .form) (c .new) file in (
+              w .outcome ∙ ap (λ (z : Report). z .outcome) report-here ∙ report-same (c .new) (o .answer) (o .events) ∙ sym (g .0),
+              w .map ∙ ap (λ (z : Report). z .map) report-here ∙ map-same (o .answer) (o .events) ∙ sym (g .2),
             );
         scratch = w .scratch ∙ ap (λ (t : Bool). pick t blank (c .scratch)) (x .buffers);
       }
 
   -- it is accepted where both loads are
-  accepts : sized c m ≡ true → (ps qs : List Piece) (start start′ : Start) → Accepts (c .form) (c .old) file ps start
-      → Accepts (c .form) (c .new) file qs start′
-      → r ≡ Accepted start′ (total size qs) (total (λ p. length (p .fields)) qs) 0 0
-  accepts z ps qs start start′ h k =
-      let e : ps ≡ qs = same-at file (c .form) ps qs (c .old) (c .new) (start, h) (start′, k) in
-      let old : AcceptedAt file (c .form) qs (c .old) = subst (λ (ts : List Piece). AcceptedAt file (c .form) ts (c .old)) e (start, h) in
-      w .outcome ∙ reports-accepted file c m qs (record { buffers = z; old = old; new = (start′, k) })
+  accepts : sized c m ≡ true → (ps qs : List Piece) (entry other : Entry) → Accepts (c .form) (c .old) file ps entry
+      → Accepts (c .form) (c .new) file qs other
+      → r ≡ Accepted (startOf (c .new) other) (total size qs) (total (λ p. length (p .fields)) qs) 0 0
+  accepts z ps qs entry other h k =
+      let at-old = accepted-by file (c .form) (c .old) ps entry h in
+      let at-new = accepted-by file (c .form) (c .new) qs other k in
+      let e = same-at file (c .form) (map outline ps) (map outline qs) (c .old) (c .new) at-old at-new in
+      let old = subst (λ (os : List Outline). AcceptedAt file (c .form) os (c .old)) e at-old in
+      w .outcome ∙ reports-accepted file c m (map outline qs) (record { buffers = z; old = old; new = at-new })
 
 -- "refused exactly if a load at the old bases, then one at the new, would be": else accepted, and what document 01 says is left
 pub call-exactly : Claim

@@ -22,9 +22,10 @@ use Rattle.answer.specs.declared.Fault.the-variants.{WrongBuffer, SettingOutOfR
 use Rattle.answer.specs.declared.Outcome.{Outcome}
 use Rattle.answer.specs.declared.Outcome.the-variants.{Refused}
 use Rattle.events.specs.Events.{Ran}
+use Rattle.pieces.specs.Pieces.{Piece, Outline}
 use Rattle.events.specs.Sizes.{fileLimit}
-use Rattle.moves.proofs.Rulings.{load-at, refused-call}
-use Rattle.moves.specs.Call.{Call, refuses, sides, rulingOf, sized, ruling, outcomeBy, outcomeOf, mapAfter, scratchAfter, Moved}
+use Rattle.moves.proofs.Rulings.{judged-as, accepted-by, refused-call}
+use Rattle.moves.specs.Call.{Call, withoutCode, judgedAt, refuses, sides, rulingOf, sized, ruling, outcomeBy, outcomeOf, mapAfter, scratchAfter, Moved}
 use Rattle.moves.specs.Outcomes.{RefusedMove, RefusesMove, at-old, at-new, OutOfRange, old, new, RefusalsClaim}
 
 -- two refusals that are one have the same parts
@@ -45,39 +46,41 @@ module _ (file : List ℕ) (c : Call) (m : List ℕ) where
 
   module _ (h : sized c m ≡ true) where
     -- all are right: the loads decide
-    outcome-right : outcomeOf file c m ≡ outcomeBy (load (c .form) (c .new) file) (rulingOf (c .form) (c .old) (c .new) file)
+    outcome-right : outcomeOf file c m ≡ outcomeBy (c .new) (judgedAt (c .form) (c .new) file) (rulingOf (c .form) (c .old) (c .new) file)
     unfolding outcomeOf ruling need
     outcome-right = rw h refl
 
     -- a call is refused as a load is
     outcome-refused : (fault : Fault) (offset side : ℕ) → RefusesMove file c fault offset side → outcomeOf file c m ≡ Refused fault offset side
     outcome-refused fault offset side (at-old k) =
-        let n = load (c .form) (c .new) file in
-        outcome-right ∙ ap (λ (v : Verdict). outcomeBy n (sides v (n .answer))) (by-rules (c .form) (c .old) file .refuses fault offset k)
+        let n = judgedAt (c .form) (c .new) file in
+        outcome-right ∙ ap (λ (v : Verdict Piece). outcomeBy (c .new) n (sides (withoutCode v) (n .answer))) (by-rules (c .form) (c .old) file .refuses fault offset k)
     outcome-refused fault offset side (at-new {ps = ps} a k) =
-        let n = load (c .form) (c .new) file in
+        let n = judgedAt (c .form) (c .new) file in
         outcome-right
-        ∙ ap (λ (v : Verdict). outcomeBy n (sides v (n .answer))) (load-at file (c .form) ps (c .old) a)
-        ∙ ap (λ (v : Verdict). outcomeBy n (sides (accepted ps (a .0)) v)) (by-rules (c .form) (c .new) file .refuses fault offset k)
+        ∙ ap (λ (v : Verdict Outline). outcomeBy (c .new) n (sides v (n .answer))) (judged-as file (c .form) ps (c .old) a)
+        ∙ ap (λ (v : Verdict Piece). outcomeBy (c .new) n (sides (accepted ps (a .entry)) (withoutCode v)))
+        (by-rules (c .form) (c .new) file .refuses fault offset k)
 
     -- and only so
     refused-outcome : (fault : Fault) (offset side : ℕ) → outcomeOf file c m ≡ Refused fault offset side → RefusesMove file c fault offset side
     refused-outcome fault offset side e = by (o .answer) (n .answer) refl refl (sym outcome-right ∙ e)
       where
-        o : Ran Verdict
+        o : Ran (Verdict Piece)
         o = load (c .form) (c .old) file
 
-        n : Ran Verdict
+        n : Ran (Verdict Piece)
         n = load (c .form) (c .new) file
 
-        by : (u v : Verdict) → o .answer ≡ u → n .answer ≡ v → outcomeBy n (sides u v) ≡ Refused fault offset side
+        by : (u v : Verdict Piece) → o .answer ≡ u → n .answer ≡ v
+            → outcomeBy (c .new) (judgedAt (c .form) (c .new) file) (sides (withoutCode u) (withoutCode v)) ≡ Refused fault offset side
             → RefusesMove file c fault offset side
         by (refused f a) v eu ev e = same-parts (RefusesMove file c) (at-old (by-rules (c .form) (c .old) file .refuses-only f a eu)) e
-        by (accepted ps start) (refused f a) eu ev e =
+        by (accepted ps entry) (refused f a) eu ev e =
             same-parts (RefusesMove file c)
-            (at-new (start, by-rules (c .form) (c .old) file .accepts-only ps start eu) (by-rules (c .form) (c .new) file .refuses-only f a ev)) e
-        by (accepted ps start) (accepted qs start′) eu ev e =
-            absurd (false≢true (ap (λ (v : Verdict). isRefused (report v (n .events))) (sym ev) ∙ ap isRefused e))
+            (at-new (accepted-by file (c .form) (c .old) ps entry (by-rules (c .form) (c .old) file .accepts-only ps entry eu)) (by-rules (c .form) (c .new) file .refuses-only f a ev)) e
+        by (accepted ps entry) (accepted qs other) eu ev e =
+            absurd (false≢true (ap (λ (v : Verdict Piece). isRefused (report (c .new) (withoutCode v) (n .events))) (sym ev) ∙ ap isRefused e))
 
 -- ---- which fault it is
 
@@ -111,7 +114,7 @@ module _ (file : List ℕ) (c : Call) where
   move-long fault offset side (at-old k) e =
       refuses-long (c .form) (c .old) file offset (subst (λ (f : Fault). Refuses (c .form) (c .old) file f offset) e k)
   move-long fault offset side (at-new a k) e = (
-    a .1 .settings,
+    a .accepts .settings,
     refuses-long (c .form) (c .new) file offset (subst (λ (f : Fault). Refuses (c .form) (c .new) file f offset) e k) .1,
   )
 

@@ -2,14 +2,14 @@
 -- of any contents. Then what a single call leaves beside the vector, and one call on a vector that was changed while it lives.
 -- Assumes nothing.
 use mathlib.Core.Bool.{true}
-use mathlib.Core.List.{List, [], _∷_}
+use mathlib.Core.List.{List, [], _∷_, map}
 use mathlib.Core.Path.{_≡_, refl}
 use Prim.Native.Nat.{ℕ}
 use native.Mathlib.Omega.{arith}
 use lib.ListN.{getD}
 use Rattle.pieces.specs.AtBases.{placing, adjusting, ending, applied}
 use Rattle.acx.specs.Call.{load}
-use Rattle.pieces.specs.Pieces.{Piece, amountOf, edited, adjustments, events}
+use Rattle.pieces.specs.Pieces.{Piece, outline, amountOf, edited, adjustments, events}
 use Rattle.acx.specs.Walk.{refused, checked, turn, recordsFrom, opening, judged}
 use Rattle.answer.specs.Checks.{need}
 use Rattle.answer.specs.declared.Fault.the-variants.{PiecesOverlap}
@@ -96,9 +96,9 @@ abbrev pub after : List ℕ → List ℕ
 after m = afterCalls hooked (calls list) m
 
 -- demand 3 of the list: the handler stands at 12416
-pub used : (m : List ℕ) → Memory m → Demand3 (Defined hooked) hooked 1 pieces (at 8192) (at 12416) (made hooked (calls list) m) m (after m)
+pub used : (m : List ℕ) → Memory m → Demand3 (Defined hooked) hooked 1 (map outline pieces) (at 8192) (at 12416) (made hooked (calls list) m) m (after m)
 used =
-    demand3-by hooked hooked-bytes 1 pieces (at 8192) (accepted-at hooked pieces 8192 (loads .0)) list answer-so
+    demand3-by hooked hooked-bytes 1 (map outline pieces) (at 8192) (accepted-at hooked pieces 8192 (loads .0)) list answer-so
     ((refl, refl), (tt, ((refl, refl), tt)))
 
 -- the vector has 8192 off and 12416 on
@@ -118,7 +118,7 @@ pub beside-kept : (m : List ℕ) → Bytes m → (start : Start) (i j k l : ℕ)
     → getD m′ 0x0202 0 ≡ getD m 0x0202 0
 beside-kept m b start i j k l m′ p′ s′ w =
     let x = call-exactly hooked (asks 1 8192 8448 blank true) m _ m′ p′ s′ w hooked-bytes b .only start i j k l refl in
-    let e : x .pieces ≡ pieces = same-at hooked 1 (x .pieces) pieces (at 8192) (at 8192) (x .at-old) (accepted-at hooked pieces 8192 (loads .0)) in
+    let e : x .pieces ≡ map outline pieces = same-at hooked 1 (x .pieces) (map outline pieces) (at 8192) (at 8192) (x .at-old) (accepted-at hooked pieces 8192 (loads .0)) in
     x .kept 0x0202 (rw e (((λ w. omega arith), tt), ((λ w. omega arith), tt)))
 
 -- a vector that was changed from 2000 to 2100 while it lives goes on to 2200 when the routine goes from 2000 to 2100; a load there would leave 2100

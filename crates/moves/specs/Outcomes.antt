@@ -19,9 +19,11 @@ use Rattle.answer.specs.declared.Start.{Start}
 use Rattle.events.specs.Events.{blank}
 use Rattle.events.specs.Lists.{Each}
 use Rattle.events.specs.Sizes.{fileLimit}
-use Rattle.pieces.specs.Pieces.{Piece, size, placeOf, width}
+use Rattle.pieces.specs.AtBases.{startOf}
+use Rattle.pieces.specs.Pieces.{Piece, size, Outline, placeOf, width}
 use Rattle.pieces.specs.Places.{Placed}
 use Rattle.pieces.specs.declared.Bases.{Bases}
+use Rattle.records.specs.declared.Entry.{Entry}
 use Rattle.records.specs.declared.Kind.{Kind}
 use Rattle.records.specs.declared.Kind.the-variants.{Main, ZeroPage, Absolute}
 use Rattle.words.specs.Runs.{Bytes, Within}
@@ -31,7 +33,7 @@ use Rattle.moves.specs.Demand3.{Memory, AcceptedAt, PlainKept, FieldsShi
 -- ---- accepted
 
 -- as far as piece p goes, a move leaves the byte at x: x is no new place of p, if p is relocatable, and in no field of p, if p is absolute
-abbrev pub Unaffected : Kind → Bases → ℕ → Piece → Type 0
+abbrev pub Unaffected : Kind → Bases → ℕ → Outline → Type 0
 Unaffected Main new x p = ¬ Placed new x p
 Unaffected ZeroPage new x p = ¬ Placed new x p
 Unaffected Absolute new x p = Each (λ f. ¬ Within (placeOf new p + f .index) (width f) x) (p .fields)
@@ -40,7 +42,7 @@ Unaffected Absolute new x p = Each (λ f. ¬ Within (placeOf new p + f .index) (
 pub record AcceptedMove (file : List ℕ) (c : Call) (m : List ℕ) (r : Outcome) (m′ p′ s′ : List ℕ) : Type 0 where
   pub lengths : sized c m ≡ true
   -- "refused exactly if a load at the old bases, then one at the new, would be": both accept, with the same pieces
-  pub pieces : List Piece
+  pub pieces : List Outline
   pub at-old : AcceptedAt file (c .form) pieces (c .old)
   pub at-new : AcceptedAt file (c .form) pieces (c .new)
   -- (memory is 65,536 bytes as before)
@@ -62,9 +64,9 @@ pub record Exactly (file : List ℕ) (c : Call) (m : List ℕ) (r : Outcome) (m�
   -- only if both loads accept, and then it leaves what the document says
   pub only : (start : Start) (placed adjusted names low : ℕ) → r ≡ Accepted start placed adjusted names low → AcceptedMove file c m r m′ p′ s′
   -- if they do, and all that is lent has its length, it is, with the start and the counts at the new bases
-  pub all : sized c m ≡ true → (ps qs : List Piece) (start start′ : Start) → Accepts (c .form) (c .old) file ps start
-      → Accepts (c .form) (c .new) file qs start′
-      → r ≡ Accepted start′ (total size qs) (total (λ p. length (p .fields)) qs) 0 0
+  pub all : sized c m ≡ true → (ps qs : List Piece) (entry other : Entry) → Accepts (c .form) (c .old) file ps entry
+      → Accepts (c .form) (c .new) file qs other
+      → r ≡ Accepted (startOf (c .new) other) (total size qs) (total (λ p. length (p .fields)) qs) 0 0
 
 -- The claim: of every call that keeps the mover's contract, with a file of bytes in a memory of bytes.
 abbrev pub Claim : Type 0
@@ -86,13 +88,13 @@ pub record RefusedMove (c : Call) (fault : Fault) (m m′ p′ s′ : List ℕ) 
 -- that number, offset and side (0 old, 1 new)"
 pub data RefusesMove (file : List ℕ) (c : Call) : Fault → ℕ → ℕ → Type 0 where
   at-old : {fault : Fault} {offset : ℕ} → Refuses (c .form) (c .old) file fault offset → RefusesMove file c fault offset 0
-  at-new : {fault : Fault} {offset : ℕ} {ps : List Piece} → AcceptedAt file (c .form) ps (c .old) → Refuses (c .form) (c .new) file fault offset
+  at-new : {fault : Fault} {offset : ℕ} {ps : List Outline} → AcceptedAt file (c .form) ps (c .old) → Refuses (c .form) (c .new) file fault offset
       → RefusesMove file c fault offset 1
 
 -- A setting is out of its range at a side: at the new bases it is seen where a load at the old ones is accepted.
 pub data OutOfRange (file : List ℕ) (c : Call) : ℕ → Type 0 where
   old : inRange (c .form) (c .old) ≡ false → OutOfRange file c 0
-  new : {ps : List Piece} → AcceptedAt file (c .form) ps (c .old) → inRange (c .form) (c .new) ≡ false → OutOfRange file c 1
+  new : {ps : List Outline} → AcceptedAt file (c .form) ps (c .old) → inRange (c .form) (c .new) ≡ false → OutOfRange file c 1
 
 -- When a call is refused, with which fault, offset and side, and what it then leaves.
 pub record Refusals (file : List ℕ) (c : Call) (m : List ℕ) (r : Outcome) (m′ p′ s′ : List ℕ) : Type 0 where

@@ -48,13 +48,14 @@ pub ending-none : (at : ℕ) (b : Bases) (entry : Entry) (next len : ℕ) → en
 unfolding ending
 ending-none at b entry next len = needs-none (leb (address (startOf b entry)) 65535) (leb len next) at next
 
--- and where it passes, nothing follows it
-pub ending-last : (at : ℕ) (b : Bases) (entry : Entry) (next len : ℕ) → ending at b entry next len .answer ≡ Passed → len ≤ next
+-- and where it passes, the start is an address, and nothing follows it
+pub ending-passed : (at : ℕ) (b : Bases) (entry : Entry) (next len : ℕ) → ending at b entry next len .answer ≡ Passed
+    → (address (startOf b entry) ≤ 65535) × (len ≤ next)
 unfolding ending
-ending-last at b entry next len e =
+ending-passed at b entry next len e =
     let x = need-passed _ _ _ _ e in
     let y = need-passed _ _ _ _ (sym (ap (λ (o : Ran Check). o .answer) (x .1)) ∙ e) in
-    leb-true _ _ (y .0)
+    (leb-true _ _ (x .0), leb-true _ _ (y .0))
 
 -- a record of each kind, where the last code record before it has k bytes at a
 module _ (file : List ℕ) (at : ℕ) (b : Bases) (a k : ℕ) (found : Record) (write : Bool) (m p : List ℕ) where

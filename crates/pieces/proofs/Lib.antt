@@ -8,3 +8,4 @@ pub mod PieceEvents
 pub mod Edits
 pub mod Loads
 pub mod Marks
+pub mod Passing

@@ -1,6 +1,6 @@
 -- Memory after the events of pieces that fit: each piece's code stands at its place, with the amounts on its fields.
 -- Assumes nothing.
-use mathlib.Core.List.{List, [], _∷_}
+use mathlib.Core.List.{List, [], _∷_, map}
 use mathlib.Core.Path.{_≡_, refl, sym, ap, _∙_}
 use Prim.Native.Nat.{ℕ, _+_, _≤_, _<_}
 use lib.ListN.{length, getD}
@@ -12,11 +12,11 @@ use Rattle.words.proofs.Changes.{length-change, change-in-put, value-part}
 use Rattle.words.proofs.Numbers.{on-lt}
 use Rattle.words.proofs.Runs.{length-put, put-outside, part-at, part-put, part-put-apart, bytes-put}
 use Rattle.words.specs.Numbers.{value, on, change}
-use Rattle.words.specs.Runs.{Bytes, part, put}
+use Rattle.words.specs.Runs.{Bytes, Within, Apart, part, put}
 use Rattle.pieces.proofs.Edits.{Fitting, length-edited, edited-plain, edited-each}
-use Rattle.events.proofs.Lists.{each-all, each-map, each-zip, each-zip3}
-use Rattle.pieces.specs.Places.{Placed, In, PiecesApart, FieldsApart, Inside}
-use Rattle.pieces.specs.Pieces.{Piece, size, placeOf, width, amountOf, edited, adjustments, events}
+use Rattle.events.proofs.Lists.{each-all, each-map, each-zip, each-zip3, each-image, pairwise-image}
+use Rattle.pieces.specs.Places.{Placed, In, PiecesApart, FieldsApart, Inside, FieldsSound}
+use Rattle.pieces.specs.Pieces.{Piece, size, Outline, outline, placeOf, width, amountOf, edited, adjustments, events}
 use Rattle.pieces.specs.declared.Bases.{Bases}
 
 -- ---- the fields of a run of code bytes
@@ -42,55 +42,61 @@ module _ (b : Bases) where
       let e : length cs ≡ length bs = length-change k g bs (f .index) in
       ap (play (adjustments b a fs)) (change-in-put k g m a bs (f .index) l (i .0)) ∙ play-adjustments fs a cs m (rw e (i .1)) (rw e l)
 
--- ---- runs at the pieces' places
+-- ---- runs at their places
 
--- the piece lies in n addresses
-abbrev pub Fits : Bases → ℕ → Piece → Type 0
-Fits b n p = placeOf b p + size p ≤ n
+-- a run for each of some things put at its place, the last one first: for pieces as they are loaded, and for outlines as they are marked or moved
+unfoldable pub lay : {A : Type 0} → (A → ℕ) → (A → List ℕ) → List A → List ℕ → List ℕ
+lay at g [] m = m
+lay at g (x ∷ xs) m = put (lay at g xs m) (at x) (g x)
 
--- a run for each piece put at its place; the pieces stand latest first
-unfoldable pub lay : (Piece → List ℕ) → Bases → List Piece → List ℕ → List ℕ
-lay g b [] m = m
-lay g b (p ∷ ps) m = put (lay g b ps m) (placeOf b p) (g p)
+-- the things have a place and a size each
+module _ {A : Type 0} (at : A → ℕ) (size : A → ℕ) (g : A → List ℕ) where
+  -- the run of a thing is as long as the thing
+  abbrev pub AsLong : A → Type 0
+  AsLong x = length (g x) ≡ size x
 
--- the run of a piece is as long as the piece
-abbrev pub AsLong : (Piece → List ℕ) → Piece → Type 0
-AsLong g p = length (g p) ≡ size p
-
-module _ (g : Piece → List ℕ) (b : Bases) where
   -- nothing gets longer
-  pub length-lay : (ps : List Piece) (m : List ℕ) → length (lay g b ps m) ≡ length m
+  pub length-lay : (xs : List A) (m : List ℕ) → length (lay at g xs m) ≡ length m
   unfolding lay
   length-lay [] m = refl
-  length-lay (p ∷ ps) m = length-put (lay g b ps m) (placeOf b p) (g p) ∙ length-lay ps m
+  length-lay (x ∷ xs) m = length-put (lay at g xs m) (at x) (g x) ∙ length-lay xs m
 
   -- bytes stay bytes
-  pub bytes-lay : (ps : List Piece) (m : List ℕ) → Each (λ p. Bytes (g p)) ps → Bytes m → Bytes (lay g b ps m)
+  pub bytes-lay : (xs : List A) (m : List ℕ) → Each (λ x. Bytes (g x)) xs → Bytes m → Bytes (lay at g xs m)
   unfolding lay
   bytes-lay [] m h i = i
-  bytes-lay (p ∷ ps) m h i = bytes-put (lay g b ps m) (placeOf b p) (g p) (h .0) (bytes-lay ps m (h .1) i)
+  bytes-lay (x ∷ xs) m h i = bytes-put (lay at g xs m) (at x) (g x) (h .0) (bytes-lay xs m (h .1) i)
 
-  -- an address in no piece's place keeps its byte
-  pub lay-outside : (ps : List Piece) (m : List ℕ) (x : ℕ) → Each (AsLong g) ps → Each (λ p. ¬ Placed b x p) ps
-      → getD (lay g b ps m) x 0 ≡ getD m x 0
+  -- an address in no place keeps its byte
+  pub lay-outside : (xs : List A) (m : List ℕ) (i : ℕ) → Each AsLong xs → Each (λ x. ¬ Within (at x) (size x) i) xs
+      → getD (lay at g xs m) i 0 ≡ getD m i 0
   unfolding lay
-  lay-outside [] m x s h = refl
-  lay-outside (p ∷ ps) m x s h = put-outside (lay g b ps m) (placeOf b p) (g p) x (rw (s .0) (h .0)) ∙ lay-outside ps m x (s .1) (h .1)
+  lay-outside [] m i s h = refl
+  lay-outside (x ∷ xs) m i s h = put-outside (lay at g xs m) (at x) (g x) i (rw (s .0) (h .0)) ∙ lay-outside xs m i (s .1) (h .1)
 
-  -- at the place of each of pieces that lie apart stands its run
-  pub lay-parts : (ps : List Piece) (m : List ℕ) → Each (AsLong g) ps → Each (Fits b (length m)) ps → Pairwise (PiecesApart b) ps
-      → Each (λ p. part (lay g b ps m) (placeOf b p) (size p) ≡ g p) ps
+  -- at each of places that lie apart stands its run
+  pub lay-parts : (xs : List A) (m : List ℕ) → Each AsLong xs → Each (λ x. at x + size x ≤ length m) xs
+      → Pairwise (λ x y. Apart (at x) (size x) (at y) (size y)) xs
+      → Each (λ x. part (lay at g xs m) (at x) (size x) ≡ g x) xs
   unfolding lay
   lay-parts [] m s f d = tt
-  lay-parts (p ∷ ps) m s f d =
-      let l : List ℕ = lay g b ps m in
-      let n : length l ≡ length m = length-lay ps m in
-      let t : length (g p) ≡ size p = s .0 in (
-        ap (λ (k : ℕ). part (put l (placeOf b p) (g p)) (placeOf b p) k) (sym t) ∙ part-put l (placeOf b p) (g p) (rw (t, n) (f .0)),
+  lay-parts (x ∷ xs) m s f d =
+      let l : List ℕ = lay at g xs m in
+      let n : length l ≡ length m = length-lay xs m in
+      let t : length (g x) ≡ size x = s .0 in (
+        ap (λ (k : ℕ). part (put l (at x) (g x)) (at x) k) (sym t) ∙ part-put l (at x) (g x) (rw (t, n) (f .0)),
         each-zip3
-            (λ q i a e. part-put-apart l (placeOf b p) (g p) (placeOf b q) (size q) (rw n i) (rw t a) ∙ e)
-            ps (f .1) (d .0) (lay-parts ps m (s .1) (f .1) (d .1)),
+            (λ y i a e. part-put-apart l (at x) (g x) (at y) (size y) (rw n i) (rw t a) ∙ e)
+            xs (f .1) (d .0) (lay-parts xs m (s .1) (f .1) (d .1)),
       )
+
+-- a piece lies in n addresses
+abbrev pub Fits : Bases → ℕ → Outline → Type 0
+Fits b n o = placeOf b o + o .size ≤ n
+
+-- how many bytes it has
+abbrev pub sizeOf : Outline → ℕ
+sizeOf o = o .size
 
 -- ---- memory
 
@@ -98,9 +104,13 @@ module _ (g : Piece → List ℕ) (b : Bases) where
 abbrev pub loaded : Bases → Piece → List ℕ
 loaded b p = edited (added b) (p .fields) (p .code)
 
+-- the pieces' places
+abbrev pub places : Bases → Piece → ℕ
+places b p = placeOf b (outline p)
+
 -- memory with the pieces in it
 abbrev pub laid : Bases → List Piece → List ℕ → List ℕ
-laid b ps m = lay (loaded b) b ps m
+laid b ps m = lay (places b) (loaded b) ps m
 
 module _ (b : Bases) where
   -- a piece as it is loaded has its length
@@ -109,55 +119,59 @@ module _ (b : Bases) where
 
   -- memory stays as long as it was
   pub length-laid : (ps : List Piece) (m : List ℕ) → length (laid b ps m) ≡ length m
-  length-laid ps m = length-lay (loaded b) b ps m
+  length-laid ps m = length-lay (places b) size (loaded b) ps m
 
   -- the events of pieces that fit leave the pieces in memory
-  pub play-laid : (ps : List Piece) (m : List ℕ) → Each (Fits b (length m)) ps → Each (λ p. Each (Inside (size p)) (p .fields)) ps
+  pub play-laid : (ps : List Piece) (m : List ℕ) → Each (Fits b (length m)) (map outline ps)
+      → Each (λ o. Each (Inside (o .size)) (o .fields)) (map outline ps)
       → play (events b ps) m ≡ laid b ps m
   unfolding events play lay
   play-laid [] m f i = refl
   play-laid (p ∷ ps) m f i =
-      let es = adjustments b (placeOf b p) (p .fields) in
-      play-append (events b ps) (place (placeOf b p) (p .code) ∷ es) m
-      ∙ ap (λ (t : List ℕ). play es (put t (placeOf b p) (p .code))) (play-laid ps m (f .1) (i .1))
-      ∙ play-adjustments b (p .fields) (placeOf b p) (p .code) (laid b ps m) (i .0) (rw (length-laid ps m) (f .0))
+      let es = adjustments b (places b p) (p .fields) in
+      play-append (events b ps) (place (places b p) (p .code) ∷ es) m
+      ∙ ap (λ (t : List ℕ). play es (put t (places b p) (p .code))) (play-laid ps m (f .1) (i .1))
+      ∙ play-adjustments b (p .fields) (places b p) (p .code) (laid b ps m) (i .0) (rw (length-laid ps m) (f .0))
 
   -- an address in no piece's place keeps its byte
-  pub laid-outside : (ps : List Piece) (m : List ℕ) (x : ℕ) → Each (λ p. ¬ Placed b x p) ps → getD (laid b ps m) x 0 ≡ getD m x 0
-  laid-outside ps m x h = lay-outside (loaded b) b ps m x (each-all length-loaded ps) h
+  pub laid-outside : (ps : List Piece) (m : List ℕ) (x : ℕ) → Each (λ o. ¬ Placed b x o) (map outline ps)
+      → getD (laid b ps m) x 0 ≡ getD m x 0
+  laid-outside ps m x h =
+      lay-outside (places b) size (loaded b) ps m x (each-all length-loaded ps) (each-image outline (λ o. ¬ Placed b x o) ps h)
 
-  module _ (ps : List Piece) (m : List ℕ) (f : Each (Fits b (length m)) ps) (d : Pairwise (PiecesApart b) ps) where
+  module _ (ps : List Piece) (m : List ℕ) (f : Each (Fits b (length m)) (map outline ps)) (d : Pairwise (PiecesApart b) (map outline ps)) where
     -- each piece stands at its place as it is loaded
-    pub laid-parts : Each (λ p. part (laid b ps m) (placeOf b p) (size p) ≡ loaded b p) ps
-    laid-parts = lay-parts (loaded b) b ps m (each-all length-loaded ps) f d
+    pub laid-parts : Each (λ p. part (laid b ps m) (places b p) (size p) ≡ loaded b p) ps
+    laid-parts =
+        lay-parts (places b) size (loaded b) ps m (each-all length-loaded ps) (each-image outline (Fits b (length m)) ps f)
+        (pairwise-image outline (PiecesApart b) ps d)
 
     -- a byte in no field stands as the code has it
     pub laid-plain : Each
-        (λ p. (j : ℕ) → j < size p → Each (λ f. ¬ In j f) (p .fields) → getD (laid b ps m) (placeOf b p + j) 0 ≡ getD (p .code) j 0) ps
+        (λ p. (j : ℕ) → j < size p → Each (λ f. ¬ In j f) (p .fields) → getD (laid b ps m) (places b p + j) 0 ≡ getD (p .code) j 0) ps
     laid-plain =
         each-map
-        (λ p e j h w. sym (part-at (laid b ps m) (placeOf b p) (size p) j h) ∙ ap (λ (l : List ℕ). getD l j 0) e
+        (λ p e j h w. sym (part-at (laid b ps m) (places b p) (size p) j h) ∙ ap (λ (l : List ℕ). getD l j 0) e
         ∙ edited-plain (added b) (p .fields) (p .code) j w)
         ps laid-parts
 
     -- each field has its amount on
-    pub laid-fields : Each (λ p. Each (Inside (size p)) (p .fields)) ps → Each (λ p. Pairwise FieldsApart (p .fields)) ps
-        → Each (λ p. Each (λ f. value (width f) (laid b ps m) (placeOf b p + f .index)
+    pub laid-fields : FieldsSound (map outline ps)
+        → Each (λ p. Each (λ f. value (width f) (laid b ps m) (places b p + f .index)
         ≡ on (width f) (amountOf b f) (value (width f) (p .code) (f .index))) (p .fields)) ps
-    laid-fields i a = each-zip3 one ps (both ps f i) a laid-parts
+    laid-fields s =
+        each-zip3 one ps
+        (each-zip (λ p x y. (x, y)) ps (each-image outline (Fits b (length m)) ps f)
+        (each-image outline (λ o. Each (Inside (o .size)) (o .fields)) ps (s .inside)))
+        (each-image outline (λ o. Pairwise FieldsApart (o .fields)) ps (s .distinct)) laid-parts
       where
         -- a piece that fits, with its fields inside
-        In-place : Piece → Type 0
-        In-place p = Fits b (length m) p × Each (Inside (size p)) (p .fields)
-
-        both : (ps : List Piece) → Each (Fits b (length m)) ps → Each (λ p. Each (Inside (size p)) (p .fields)) ps → Each In-place ps
-        both ps h k = each-zip (λ p x y. (x, y)) ps h k
-
-        one : (p : Piece) → In-place p → Pairwise FieldsApart (p .fields) → part (laid b ps m) (placeOf b p) (size p) ≡ loaded b p
-            → Each (λ f. value (width f) (laid b ps m) (placeOf b p + f .index)
+        one : (p : Piece) → Fits b (length m) (outline p) × Each (Inside (size p)) (p .fields) → Pairwise FieldsApart (p .fields)
+            → part (laid b ps m) (places b p) (size p) ≡ loaded b p
+            → Each (λ f. value (width f) (laid b ps m) (places b p + f .index)
             ≡ on (width f) (amountOf b f) (value (width f) (p .code) (f .index))) (p .fields)
         one p h a e =
             each-zip
-            (λ f i v. sym (value-part (width f) (laid b ps m) (placeOf b p) (size p) (f .index) (rw (length-laid ps m) (h .0)) i)
+            (λ f i v. sym (value-part (width f) (laid b ps m) (places b p) (size p) (f .index) (rw (length-laid ps m) (h .0)) i)
             ∙ ap (λ (l : List ℕ). value (width f) l (f .index)) e ∙ v)
             (p .fields) (h .1) (edited-each (added b) (added-fits b) (p .fields) (p .code) (h .1) a)

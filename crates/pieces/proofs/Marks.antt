@@ -2,7 +2,7 @@
 -- pieces, and one without a 3 from all fields.
 -- Assumes nothing.
 use mathlib.Core.Bool.{true, false}
-use mathlib.Core.List.{List, [], _∷_}
+use mathlib.Core.List.{List, [], _∷_, map}
 use mathlib.Core.Path.{_≡_, refl, sym, ap, _∙_, subst}
 use Prim.Native.Nat.{ℕ, _+_, _-_, _≤_, _<_}
 use native.Mathlib.Omega.{arith}
@@ -16,10 +16,10 @@ use Rattle.fields.specs.declared.Field.{Field}
 use Rattle.words.proofs.Runs.{within?, length-put, put-in-put, length-part, part-at, zero-at, contains-not}
 use Rattle.words.specs.Runs.{Within, part, put, allZero, contains}
 use Rattle.pieces.proofs.Checks.{adjusting-passed}
-use Rattle.pieces.proofs.Loads.{Fits, lay, lay-outside, lay-parts}
+use Rattle.pieces.proofs.Loads.{lay, lay-outside, lay-parts, Fits, sizeOf}
 use Rattle.pieces.specs.AtBases.{adjusting}
 use Rattle.pieces.specs.Places.{Placed, In, PiecesApart, FieldsApart, Inside}
-use Rattle.pieces.specs.Pieces.{Piece, size, placeOf, width, adjustments, events}
+use Rattle.pieces.specs.Pieces.{Piece, size, Outline, outline, placeOf, width, adjustments, events}
 use Rattle.pieces.specs.declared.Bases.{Bases}
 
 -- ---- a run of one mark
@@ -72,12 +72,12 @@ shaded-fields (f ∷ fs) bs i =
     )
 
 -- the marks that a load leaves at a piece's place
-abbrev pub shade : Piece → List ℕ
-shade p = shaded (p .fields) (replicate (size p) 1)
+abbrev pub shade : Outline → List ℕ
+shade o = shaded (o .fields) (replicate (o .size) 1)
 
 -- they are as many as its bytes
-length-shade : (p : Piece) → length (shade p) ≡ size p
-length-shade p = length-shaded (p .fields) (replicate (size p) 1) ∙ length-run (size p) 1
+length-shade : (o : Outline) → length (shade o) ≡ o .size
+length-shade o = length-shaded (o .fields) (replicate (o .size) 1) ∙ length-run (o .size) 1
 
 -- ---- the map of pieces
 
@@ -94,66 +94,74 @@ module _ (b : Bases) where
       ∙ marks-adjustments fs a (put bs (f .index) ts) m (rw e (i .1))
 
   -- the events leave the marks of each piece at its place
-  marks-laid : (ps : List Piece) (m : List ℕ) → Each (λ p. Each (Inside (size p)) (p .fields)) ps → marks (events b ps) m ≡ lay shade b ps m
+  marks-laid : (ps : List Piece) (m : List ℕ) → Each (λ o. Each (Inside (o .size)) (o .fields)) (map outline ps)
+      → marks (events b ps) m ≡ lay (placeOf b) shade (map outline ps) m
   unfolding events marks lay
   marks-laid [] m i = refl
   marks-laid (p ∷ ps) m i =
-      let es = adjustments b (placeOf b p) (p .fields) in
+      let a = placeOf b (outline p) in
+      let es = adjustments b a (p .fields) in
       let ones : List ℕ = replicate (size p) 1 in
-      marks-append (events b ps) (place (placeOf b p) (p .code) ∷ es) m
-      ∙ ap (λ (t : List ℕ). marks es (put t (placeOf b p) ones)) (marks-laid ps m (i .1))
-      ∙ marks-adjustments (p .fields) (placeOf b p) ones (lay shade b ps m) (rw (length-run (size p) 1) (i .0))
+      marks-append (events b ps) (place a (p .code) ∷ es) m
+      ∙ ap (λ (t : List ℕ). marks es (put t a ones)) (marks-laid ps m (i .1))
+      ∙ marks-adjustments (p .fields) a ones (lay (placeOf b) shade (map outline ps) m) (rw (length-run (size p) 1) (i .0))
 
-  module _ (ps : List Piece) (m : List ℕ) (i : Each (λ p. Each (Inside (size p)) (p .fields)) ps) where
+  module _ (ps : List Piece) (m : List ℕ) (i : Each (λ o. Each (Inside (o .size)) (o .fields)) (map outline ps)) where
+    -- the outlines, and the map
+    abbrev os : List Outline
+    os = map outline ps
+
+    abbrev left : List ℕ
+    left = marks (events b ps) m
+
     -- an address in no piece's place keeps its mark
-    pub marks-outside : (x : ℕ) → Each (λ p. ¬ Placed b x p) ps → getD (marks (events b ps) m) x 0 ≡ getD m x 0
-    marks-outside x h = ap (λ (l : List ℕ). getD l x 0) (marks-laid ps m i) ∙ lay-outside shade b ps m x (each-all length-shade ps) h
+    pub marks-outside : (x : ℕ) → Each (λ o. ¬ Placed b x o) os → getD left x 0 ≡ getD m x 0
+    marks-outside x h =
+        ap (λ (l : List ℕ). getD l x 0) (marks-laid ps m i) ∙ lay-outside (placeOf b) sizeOf shade os m x (each-all length-shade os) h
 
-    module _ (f : Each (Fits b (length m)) ps) (d : Pairwise (PiecesApart b) ps) where
+    module _ (f : Each (Fits b (length m)) os) (d : Pairwise (PiecesApart b) os) where
       -- the marks of each piece stand at its place
-      marks-parts : Each (λ p. part (marks (events b ps) m) (placeOf b p) (size p) ≡ shade p) ps
+      marks-parts : Each (λ o. part left (placeOf b o) (o .size) ≡ shade o) os
       marks-parts =
-          subst (λ (l : List ℕ). Each (λ p. part l (placeOf b p) (size p) ≡ shade p) ps) (sym (marks-laid ps m i))
-          (lay-parts shade b ps m (each-all length-shade ps) f d)
+          subst (λ (l : List ℕ). Each (λ o. part l (placeOf b o) (o .size) ≡ shade o) os) (sym (marks-laid ps m i))
+          (lay-parts (placeOf b) sizeOf shade os m (each-all length-shade os) f d)
 
       -- a byte of a piece has its mark
-      at : (p : Piece) (j : ℕ) → j < size p → part (marks (events b ps) m) (placeOf b p) (size p) ≡ shade p
-          → getD (marks (events b ps) m) (placeOf b p + j) 0 ≡ getD (shade p) j 0
-      at p j h e = sym (part-at (marks (events b ps) m) (placeOf b p) (size p) j h) ∙ ap (λ (l : List ℕ). getD l j 0) e
+      at : (o : Outline) (j : ℕ) → j < o .size → part left (placeOf b o) (o .size) ≡ shade o
+          → getD left (placeOf b o + j) 0 ≡ getD (shade o) j 0
+      at o j h e = sym (part-at left (placeOf b o) (o .size) j h) ∙ ap (λ (l : List ℕ). getD l j 0) e
 
       -- a byte in no field is marked 1
-      pub marks-plain : Each
-          (λ p. (j : ℕ) → j < size p → Each (λ f. ¬ In j f) (p .fields) → getD (marks (events b ps) m) (placeOf b p + j) 0 ≡ 1) ps
+      pub marks-plain : Each (λ o. (j : ℕ) → j < o .size → Each (λ f. ¬ In j f) (o .fields) → getD left (placeOf b o + j) 0 ≡ 1) os
       marks-plain =
           each-map
-          (λ p e j h w. at p j h e ∙ shaded-plain (p .fields) (replicate (size p) 1) j w ∙ getD-replicate (size p) j 1 0 h)
-          ps marks-parts
+          (λ o e j h w. at o j h e ∙ shaded-plain (o .fields) (replicate (o .size) 1) j w ∙ getD-replicate (o .size) j 1 0 h)
+          os marks-parts
 
       -- a byte in a field is marked 3
-      pub marks-fields : Each (λ p. Each (λ f. (j : ℕ) → In j f → getD (marks (events b ps) m) (placeOf b p + j) 0 ≡ 3) (p .fields)) ps
-      marks-fields = each-zip one ps i marks-parts
+      pub marks-fields : Each (λ o. Each (λ f. (j : ℕ) → In j f → getD left (placeOf b o + j) 0 ≡ 3) (o .fields)) os
+      marks-fields = each-zip one os i marks-parts
         where
-          one : (p : Piece) → Each (Inside (size p)) (p .fields) → part (marks (events b ps) m) (placeOf b p) (size p) ≡ shade p
-              → Each (λ f. (j : ℕ) → In j f → getD (marks (events b ps) m) (placeOf b p + j) 0 ≡ 3) (p .fields)
-          one p h e =
-              each-zip (λ f k s j w. at p j (omega arith) e ∙ s j w) (p .fields) h
-              (shaded-fields (p .fields) (replicate (size p) 1) (rw (length-run (size p) 1) h))
+          one : (o : Outline) → Each (Inside (o .size)) (o .fields) → part left (placeOf b o) (o .size) ≡ shade o
+              → Each (λ f. (j : ℕ) → In j f → getD left (placeOf b o + j) 0 ≡ 3) (o .fields)
+          one o h e =
+              each-zip (λ f k s j w. at o j (omega arith) e ∙ s j w) (o .fields) h
+              (shaded-fields (o .fields) (replicate (o .size) 1) (rw (length-run (o .size) 1) h))
 
       -- no byte of a piece is marked 0
-      pub marks-some : Each (λ p. (x : ℕ) → Placed b x p → 0 < getD (marks (events b ps) m) x 0) ps
-      marks-some = each-zip one ps i marks-parts
+      pub marks-some : Each (λ o. (x : ℕ) → Placed b x o → 0 < getD left x 0) os
+      marks-some = each-zip one os i marks-parts
         where
-          one : (p : Piece) → Each (Inside (size p)) (p .fields) → part (marks (events b ps) m) (placeOf b p) (size p) ≡ shade p → (x : ℕ)
-              → Placed b x p
-              → 0 < getD (marks (events b ps) m) x 0
-          one p h e x w =
-              let j = x - placeOf b p in
-              let y : placeOf b p + j ≡ x = omega arith in
-              let lt : j < size p = omega arith in
-              let one-at : _≡_ {A = ℕ} (getD (replicate (size p) 1) j 0) 1 = getD-replicate (size p) j 1 0 lt in
-              let s : 0 < getD (shade p) j 0 =
-              shaded-keeps (λ v. 0 < v) (p .fields) (replicate (size p) 1) j (rw (length-run (size p) 1) h) (omega arith) (omega (arith, one-at)) in
-              subst (λ (v : ℕ). 0 < v) (sym (ap (λ (k : ℕ). getD (marks (events b ps) m) k 0) (sym y) ∙ at p j lt e)) s
+          one : (o : Outline) → Each (Inside (o .size)) (o .fields) → part left (placeOf b o) (o .size) ≡ shade o → (x : ℕ) → Placed b x o
+              → 0 < getD left x 0
+          one o h e x w =
+              let j = x - placeOf b o in
+              let y : placeOf b o + j ≡ x = omega arith in
+              let lt : j < o .size = omega arith in
+              let one-at : _≡_ {A = ℕ} (getD (replicate (o .size) 1) j 0) 1 = getD-replicate (o .size) j 1 0 lt in
+              let s : 0 < getD (shade o) j 0 =
+              shaded-keeps (λ v. 0 < v) (o .fields) (replicate (o .size) 1) j (rw (length-run (o .size) 1) h) (omega arith) (omega (arith, one-at)) in
+              subst (λ (v : ℕ). 0 < v) (sym (ap (λ (k : ℕ). getD left k 0) (sym y) ∙ at o j lt e)) s
 
 -- ---- what the checks say
 
@@ -164,9 +172,9 @@ clear-at l a n x e w =
     ap (λ (k : ℕ). getD l k 0) (sym y) ∙ sym (part-at l a n (x - a) (omega arith)) ∙ zero-at (part l a n) e (x - a)
 
 -- code that found nothing placed lies apart from all that was
-pub code-apart : (b : Bases) (p : Piece) (ps : List Piece) (map : List ℕ) → Each (λ q. (x : ℕ) → Placed b x q → 0 < getD map x 0) ps
-    → allZero (part map (placeOf b p) (size p)) ≡ true → Each (PiecesApart b p) ps
-code-apart b p ps map h e = each-map (λ q k x w v. let z = clear-at map (placeOf b p) (size p) x e w in let s = k x v in omega arith) ps h
+pub code-apart : (b : Bases) (o : Outline) (os : List Outline) (map : List ℕ) → Each (λ q. (x : ℕ) → Placed b x q → 0 < getD map x 0) os
+    → allZero (part map (placeOf b o) (o .size)) ≡ true → Each (PiecesApart b o) os
+code-apart b o os map h e = each-map (λ q k x w v. let z = clear-at map (placeOf b o) (o .size) x e w in let s = k x v in omega arith) os h
 
 -- the fields gs of the code at a are marked 3
 abbrev pub Threes : List ℕ → ℕ → List Field → Type 0

@@ -7,7 +7,7 @@ use native.Mathlib.Omega.{arith}
 use lib.ListN.{length}
 use Rattle.events.specs.Events.{Event, place, placedIn, adjustedIn}
 use Rattle.fields.specs.declared.Field.{Field}
-use Rattle.pieces.specs.Pieces.{Piece, placeOf, adjustment, adjustments, events}
+use Rattle.pieces.specs.Pieces.{Piece, outline, placeOf, adjustment, adjustments, events}
 use Rattle.pieces.specs.declared.Bases.{Bases}
 
 -- fields after fields
@@ -18,7 +18,7 @@ adjustments-append b a (g ∷ gs) fs = ap (λ (es : List Event). adjustment b a 
 
 -- a piece more: its code is placed
 pub events-code : (b : Bases) (p : Piece) (ps : List Piece) → p .fields ≡ []
-    → events b (p ∷ ps) ≡ events b ps ++ (place (placeOf b p) (p .code) ∷ [])
+    → events b (p ∷ ps) ≡ events b ps ++ (place (placeOf b (outline p)) (p .code) ∷ [])
 unfolding events adjustments
 events-code b p ps e = rw e refl
 

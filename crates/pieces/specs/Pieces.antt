@@ -29,15 +29,26 @@ pub record Piece : Type 0 where
 abbrev pub size : Piece → ℕ
 size p = length (p .code)
 
+-- a piece without its code bytes: all that decides where it goes, and which of its bytes are address fields
+pub record Outline : Type 0 where
+  pub kind : Kind
+  pub address : ℕ
+  pub size : ℕ
+  pub fields : List Field
+
+-- the outline of a piece
+abbrev pub outline : Piece → Outline
+outline p = record { kind = p .kind; address = p .address; size = size p; fields = p .fields }
+
 -- "Place: main base + address (00), zero-page base + address (0A), address (01)"
 abbrev pub placeAt : Bases → Kind → ℕ → ℕ
 placeAt b Main address = b .main + address
 placeAt b ZeroPage address = b .zero + address
 placeAt b Absolute address = address
 
--- where the piece goes
-abbrev pub placeOf : Bases → Piece → ℕ
-placeOf b p = placeAt b (p .kind) (p .address)
+-- where a piece of this outline goes
+abbrev pub placeOf : Bases → Outline → ℕ
+placeOf b o = placeAt b (o .kind) (o .address)
 
 -- "Place + n ≤ 65,536, for 0A ≤ 256"
 abbrev pub limitOf : Kind → ℕ
@@ -78,4 +89,4 @@ adjustments b a (f ∷ fs) = adjustment b a f ∷ adjustments b a fs
 -- the events of a load of the pieces, which stand latest first: each is placed, then its fields are adjusted
 unfoldable pub events : Bases → List Piece → List Event
 events b [] = []
-events b (p ∷ ps) = events b ps ++ (place (placeOf b p) (p .code) ∷ adjustments b (placeOf b p) (p .fields))
+events b (p ∷ ps) = events b ps ++ (place (placeOf b (outline p)) (p .code) ∷ adjustments b (placeOf b (outline p)) (p .fields))

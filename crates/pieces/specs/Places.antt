@@ -1,14 +1,17 @@
--- Where pieces and fields lie: the words in which the theorems about loads and moves are stated.
+-- Where pieces and fields lie: the words in which the theorems about loads and moves are stated. They go by outlines, since no code byte decides
+-- where anything lies.
 -- Assumes nothing.
+use mathlib.Core.List.{List}
 use Prim.Native.Nat.{ℕ, _+_, _≤_}
+use Rattle.events.specs.Lists.{Each, Pairwise}
 use Rattle.fields.specs.declared.Field.{Field}
 use Rattle.words.specs.Runs.{Within, Apart}
-use Rattle.pieces.specs.Pieces.{Piece, size, placeOf, width}
+use Rattle.pieces.specs.Pieces.{Outline, placeOf, limitOf, width}
 use Rattle.pieces.specs.declared.Bases.{Bases}
 
 -- the address is one of the piece's places: "a byte's place is its record's place plus its index among the code bytes"
-abbrev pub Placed : Bases → ℕ → Piece → Type 0
-Placed b x p = Within (placeOf b p) (size p) x
+abbrev pub Placed : Bases → ℕ → Outline → Type 0
+Placed b x o = Within (placeOf b o) (o .size) x
 
 -- byte j of the code is in the field
 abbrev pub In : ℕ → Field → Type 0
@@ -19,9 +22,28 @@ abbrev pub Inside : ℕ → Field → Type 0
 Inside n f = f .index + width f ≤ n
 
 -- no address is a place of both pieces
-abbrev pub PiecesApart : Bases → Piece → Piece → Type 0
-PiecesApart b p q = Apart (placeOf b p) (size p) (placeOf b q) (size q)
+abbrev pub PiecesApart : Bases → Outline → Outline → Type 0
+PiecesApart b o q = Apart (placeOf b o) (o .size) (placeOf b q) (q .size)
 
 -- no byte of the code is in both fields
 abbrev pub FieldsApart : Field → Field → Type 0
 FieldsApart f g = Apart (f .index) (width f) (g .index) (width g)
+
+-- What bases decide: the pieces fit there.
+pub record FitAt (b : Bases) (os : List Outline) : Type 0 where
+  -- each lies in memory, in zero page if that is its kind
+  pub below : Each (λ o. placeOf b o + o .size ≤ limitOf (o .kind)) os
+  -- no two share an address
+  pub apart : Pairwise (PiecesApart b) os
+
+-- What no base decides: the pieces have sound fields.
+pub record FieldsSound (os : List Outline) : Type 0 where
+  -- fields lie inside their piece
+  pub inside : Each (λ o. Each (Inside (o .size)) (o .fields)) os
+  -- no byte is in two of them
+  pub distinct : Each (λ o. Pairwise FieldsApart (o .fields)) os
+
+-- The pieces of an accepted file are both.
+pub record WellPlaced (b : Bases) (os : List Outline) : Type 0 where
+  pub fit : FitAt b os
+  pub sound : FieldsSound os

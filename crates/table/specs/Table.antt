@@ -220,7 +220,7 @@ abbrev pub acxLoaded : ℕ → List ℕ → Bases → Result
 acxLoaded form file b =
     let o = acx.call form b file (acx.sized blank blank) in
     record {
-      numbers = numbersOf (reported o .answer);
+      numbers = numbersOf (reported b o .answer);
       memory = acx.memoryAfter (o .answer) (o .events) blank;
       map = pick (acx.sized blank blank) (acx.mapAfter (o .answer) (o .events)) blank;
       others = [];

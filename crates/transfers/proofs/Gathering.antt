@@ -1,6 +1,6 @@
 -- The walk that gathers a handler's pieces: at each record the scratch holds the pieces so far, moved.
 -- Assumes nothing.
-use mathlib.Core.List.{List, [], _∷_}
+use mathlib.Core.List.{List, [], _∷_, _++_, map}
 use mathlib.Core.Path.{_≡_, refl, sym, ap, _∙_}
 use Prim.Native.Nat.{ℕ, _+_, _-_, _≤_}
 use native.Mathlib.Omega.{arith}
@@ -17,12 +17,11 @@ use Rattle.acx.specs.Call.{formOf}
 use Rattle.acx.specs.Cursor.{firstCursor, advanced}
 use Rattle.acx.specs.Rules.{Onward}
 use Rattle.pieces.specs.Places.{Inside}
-use Rattle.pieces.specs.Pieces.{Piece, size, placeAt, placeOf, edited, events}
+use Rattle.pieces.specs.Pieces.{Piece, Outline, outline, placeAt, placeOf, edited, events}
 use Rattle.acx.specs.Walk.{Verdict, accepted, Progress, begun, lastOf, lastPlace, lastSize, recordAt, withFields, stepped, recordsOf, openingSize}
 use Rattle.pieces.specs.declared.Bases.{Bases}
 use Rattle.acx.specs.declared.Cursor.{Cursor}
 use Rattle.answer.specs.declared.Fault.{Fault}
-use Rattle.answer.specs.declared.Start.{Start}
 use Rattle.events.proofs.Events.{length-marks, length-blank}
 use Rattle.events.specs.Events.{marks, blank, Ran}
 use Rattle.events.specs.Lists.{Each}
@@ -39,7 +38,7 @@ use Rattle.records.specs.declared.Record.the-variants.{Code, Fixups, End, Fault
 use Rattle.words.proofs.Lent.{lent-is, back-is}
 use Rattle.words.proofs.Runs.{length-part, length-put, part-put, put-put}
 use Rattle.words.specs.Runs.{part, put}
-use Rattle.moves.proofs.Rulings.{verdict, allows-is, both}
+use Rattle.moves.proofs.Rulings.{verdict, same-load, allows-is, both}
 use Rattle.moves.specs.Call.{rulingOf, Allows, piecesOf}
 use Rattle.moves.specs.Move.{shift, carried, transfer}
 use Rattle.transfers.specs.Scratch.{scratchWith, Sound}
@@ -50,10 +49,11 @@ use Rattle.transfers.specs.Scratch.{scratchWith, Sound}
 pub record Walkable (form : ℕ) (old new : Bases) (file : List ℕ) (first : ℕ) : Type 0 where
   pub fits : length file ≤ 65536
   pub opens : first ≤ length file
-  pub start : Start
-  pub start′ : Start
-  pub yes-old : recordsOf file old first .answer ≡ accepted (piecesOf (rulingOf form old new file)) start
-  pub yes-new : recordsOf file new first .answer ≡ accepted (piecesOf (rulingOf form old new file)) start′
+  pub pieces : List Piece
+  pub outlines : piecesOf (rulingOf form old new file) ≡ map outline pieces
+  pub entry : Entry
+  pub yes-old : recordsOf file old first .answer ≡ accepted pieces entry
+  pub yes-new : recordsOf file new first .answer ≡ accepted pieces entry
 
 -- it can, from the offset behind the opening on
 pub walkable : (form : ℕ) (old new : Bases) (file : List ℕ) (first : ℕ) → first ≡ openingSize (formOf form)
@@ -61,55 +61,65 @@ pub walkable : (form : ℕ) (old new : Bases) (file : List ℕ) (first : ℕ) �
 walkable form old new file first e h =
     let ps = piecesOf (rulingOf form old new file) in
     let x = both form old new file ps (allows-is (rulingOf form old new file) h) in
-    let yes-old = verdict file form ps old (x .0) in
-    let yes-new = verdict file form ps new (x .1) in
-    let u = judged-opens (formOf form) file old ps (x .0 .0) yes-old in
-    let v = judged-opens (formOf form) file new ps (x .1 .0) yes-new in
+    let h = x .0 in
+    let k = x .1 in
+    let same = same-load file form ps ps old new h k in
+    let yes-old = verdict file form ps old h in
+    let yes-new = verdict file form ps new k ∙ ap (λ (qs : List Piece). accepted qs (k .entry)) (same .0) ∙ ap (accepted (h .pieces)) (same .1) in
+    let u = judged-opens (formOf form) file old (h .pieces) (h .entry) yes-old in
+    let v = judged-opens (formOf form) file new (h .pieces) (h .entry) yes-new in
     rw e
     (record {
-      fits = x .0 .1 .fits;
+      fits = h .accepts .fits;
       opens = opening-fits (formOf form) file (u .0);
-      start = x .0 .0;
-      start′ = x .1 .0;
-      yes-old = ap (λ (o : Ran Verdict). o .answer) (sym (u .1)) ∙ yes-old;
-      yes-new = ap (λ (o : Ran Verdict). o .answer) (sym (v .1)) ∙ yes-new;
+      pieces = h .pieces;
+      outlines = h .outlines;
+      entry = h .entry;
+      yes-old = ap (λ (o : Ran (Verdict Piece)). o .answer) (sym (u .1)) ∙ yes-old;
+      yes-new = ap (λ (o : Ran (Verdict Piece)). o .answer) (sym (v .1)) ∙ yes-new;
     })
 
 -- ---- one record
 
--- code
-code-gathered : (old new : Bases) (m t₀ t : List ℕ) (ps : List Piece) (kind : Kind) (address : ℕ) (code : List ℕ) (n : ℕ) → length code ≡ n
-    → t ≡ transfer old new ps m t₀
-    → put t (placeAt new kind address) (part m (placeAt old kind address) n)
-    ≡ transfer old new (record { kind = kind; address = address; code = code; fields = [] } ∷ ps) m t₀
-unfolding transfer carried edited
-code-gathered old new m t₀ t ps kind address code n l e =
-    ap (λ (k : ℕ). put t (placeAt new kind address) (part m (placeAt old kind address) k)) (sym l)
-    ∙ ap (λ (r : List ℕ). put r (placeAt new kind address) (part m (placeAt old kind address) (length code))) e
+module _ (old new : Bases) (m t₀ t : List ℕ) (os : List Outline) where
+  -- code taken is a piece more
+  code-taken : (kind : Kind) (address n : ℕ) → t ≡ transfer old new os m t₀
+      → put t (placeAt new kind address) (part m (placeAt old kind address) n)
+      ≡ transfer old new (record { kind = kind; address = address; size = n; fields = [] } ∷ os) m t₀
+  unfolding transfer carried edited
+  code-taken kind address n e = ap (λ (r : List ℕ). put r (placeAt new kind address) (part m (placeAt old kind address) n)) e
 
--- fields more
-fields-gathered : (old new : Bases) (m t₀ : List ℕ) (fs : List Field) (ps : List Piece) (t : List ℕ) → AfterCode (lastOf ps)
+  -- fields shifted are the last piece's
+  fields-taken : (fs : List Field) (o : Outline) → placeOf old o + o .size ≤ length m → placeOf new o + o .size ≤ length t
+      → t ≡ transfer old new (o ∷ os) m t₀
+      → put t (placeOf new o) (edited (shift old new) fs (part t (placeOf new o) (o .size)))
+      ≡ transfer old new (record { kind = o .kind; address = o .address; size = o .size; fields = o .fields ++ fs } ∷ os) m t₀
+  unfolding transfer carried
+  fields-taken fs o i j e =
+      let g = shift old new in
+      let a = placeOf new o in
+      let u : List ℕ = transfer old new os m t₀ in
+      let bs : List ℕ = part m (placeOf old o) (o .size) in
+      let cs : List ℕ = edited g (o .fields) bs in
+      let n : length cs ≡ o .size = length-edited g (o .fields) bs ∙ length-part m (placeOf old o) (o .size) i in
+      let l : length t ≡ length u = ap length e ∙ length-put u a cs in
+      let room : a + length cs ≤ length u = omega (arith, n, l, j) in
+      let there : part t a (o .size) ≡ cs =
+      ap (λ (r : List ℕ). part r a (o .size)) e ∙ ap (λ (k : ℕ). part (put u a cs) a k) (sym n) ∙ part-put u a cs room in
+      ap (λ (r : List ℕ). put t a (edited g fs r)) there
+      ∙ ap (λ (r : List ℕ). put r a (edited g fs cs)) e
+      ∙ put-put u a cs (edited g fs cs) (sym (length-edited g fs cs))
+      ∙ ap (put u a) (sym (edited-append g (o .fields) fs bs))
+
+-- the fields of a fixup record are those of the last code record
+fields-gathered : (old new : Bases) (m t₀ t : List ℕ) (fs : List Field) (ps : List Piece) → AfterCode (lastOf ps)
     → lastPlace old ps + lastSize ps ≤ length m
     → lastPlace new ps + lastSize ps ≤ length t
-    → t ≡ transfer old new ps m t₀
-    → put t (lastPlace new ps) (edited (shift old new) fs (part t (lastPlace new ps) (lastSize ps))) ≡ transfer old new (withFields fs ps) m t₀
-unfolding transfer carried
-fields-gathered old new m t₀ fs [] t h i j e = absurd h
-fields-gathered old new m t₀ fs (p ∷ ps) t h i j e =
-    let g = shift old new in
-    let a = placeOf new p in
-    let u : List ℕ = transfer old new ps m t₀ in
-    let bs : List ℕ = part m (placeOf old p) (size p) in
-    let cs : List ℕ = edited g (p .fields) bs in
-    let n : length cs ≡ size p = length-edited g (p .fields) bs ∙ length-part m (placeOf old p) (size p) i in
-    let l : length t ≡ length u = ap length e ∙ length-put u a cs in
-    let room : a + length cs ≤ length u = omega (arith, n, l, j) in
-    let there : part t a (size p) ≡ cs =
-    ap (λ (r : List ℕ). part r a (size p)) e ∙ ap (λ (k : ℕ). part (put u a cs) a k) (sym n) ∙ part-put u a cs room in
-    ap (λ (r : List ℕ). put t a (edited g fs r)) there
-    ∙ ap (λ (r : List ℕ). put r a (edited g fs cs)) e
-    ∙ put-put u a cs (edited g fs cs) (sym (length-edited g fs cs))
-    ∙ ap (put u a) (sym (edited-append g (p .fields) fs bs))
+    → t ≡ transfer old new (map outline ps) m t₀
+    → put t (lastPlace new ps) (edited (shift old new) fs (part t (lastPlace new ps) (lastSize ps)))
+    ≡ transfer old new (map outline (withFields fs ps)) m t₀
+fields-gathered old new m t₀ t fs [] h i j e = absurd h
+fields-gathered old new m t₀ t fs (p ∷ ps) h i j e = fields-taken old new m t₀ t (map outline ps) fs (outline p) i j e
 
 -- the fields of a record that passed lie in the last code
 fields-inside : (file : List ℕ) (b : Bases) (s : Progress) (fixup : Fixup) (from n : ℕ) → lastPlace b (s .pieces) + lastSize (s .pieces) ≤ 65536
@@ -130,15 +140,15 @@ gathered-on : (file : List ℕ) (old new : Bases) (m t₀ t : List ℕ) (source 
     → target .size ≡ lastSize (s .pieces)
     → recordAt file s ≡ r
     → Onward r
-    → t ≡ transfer old new (s .pieces) m t₀
-    → scratchWith file old new (advanced old source r) (advanced new target r) m t r ≡ transfer old new (stepped file s r .pieces) m t₀
+    → t ≡ transfer old new (map outline (s .pieces)) m t₀
+    → scratchWith file old new (advanced old source r) (advanced new target r) m t r ≡ transfer old new (map outline (stepped file s r .pieces)) m t₀
 unfolding scratchWith
 gathered-on file old new m t₀ t source target s (Code kind address from n) lm lt i j ep es e o g =
     let h = lies-as file (s .at) (lastOf (s .pieces)) _ e .1 in
-    code-gathered old new m t₀ t (s .pieces) kind address (part file from n) n (length-part file from n h) g
+    rw (length-part file from n h) (code-taken old new m t₀ t (map outline (s .pieces)) kind address n g)
 gathered-on file old new m t₀ t source target s (Fixups fixup from n) lm lt i j ep es e o g =
     rw (ep, es)
-    (fields-gathered old new m t₀ (fieldsOf fixup (part file from n)) (s .pieces) t
+    (fields-gathered old new m t₀ t (fieldsOf fixup (part file from n)) (s .pieces)
     (fixups-after file (s .at) (lastOf (s .pieces)) fixup from n e)
     (omega arith)
     (omega arith) g)
@@ -157,21 +167,22 @@ sound file b c s (Fixups fixup from n) i es e k =
 sound file b c s (End entry next) i es e k = tt
 sound file b c s (Faulty fault offset) i es e k = tt
 
+-- a part of memory copied into a part of the scratch
+pub taken : (place to size : ℕ) (m t bs : List ℕ) → place + size ≤ length m → to + size ≤ length t → bs ≡ midOf place (place + size - place) m
+    → putMid to (to + size - to) t bs ≡ put t to (part m place size)
+taken place to size m t bs i j e =
+    let is : bs ≡ part m place size = e ∙ lent-is place size m in
+    back-is to size t bs j (ap length is ∙ length-part m place size i) ∙ ap (put t to) is
+
 -- ---- a record gathered by the program, which lends parts of the buffers
 
 module _ (file : List ℕ) (old new : Bases) (source target : Cursor) (m t : List ℕ) {r : Record} where
   -- code
-  pub gathers-code : {kind : Kind} {address from n : ℕ} {bs : List ℕ} → r ≡ Code kind address from n
-      → source .place + source .size ≤ length m
-      → target .place + target .size ≤ length t
-      → source .size ≡ target .size
-      → bs ≡ midOf (source .place) (source .place + source .size - source .place) m
-      → putMid (target .place) (target .place + target .size - target .place) t bs ≡ scratchWith file old new source target m t r
+  pub gathers-code : {kind : Kind} {address from n : ℕ} {t′ : List ℕ} → r ≡ Code kind address from n → source .size ≡ target .size
+      → t′ ≡ put t (target .place) (part m (source .place) (target .size))
+      → t′ ≡ scratchWith file old new source target m t r
   unfolding scratchWith
-  gathers-code {kind} {address} {from} {n} {bs} e i j k d =
-      let is : bs ≡ part m (source .place) (source .size) = d ∙ lent-is (source .place) (source .size) m in
-      let l : length bs ≡ target .size = ap length is ∙ length-part m (source .place) (source .size) i ∙ k in
-      rw e (back-is (target .place) (target .size) t bs j l ∙ ap (put t (target .place)) is)
+  gathers-code e k d = rw e (d ∙ ap (λ (n : ℕ). put t (target .place) (part m (source .place) n)) (sym k))
 
   -- fields
   pub gathers-fields : {fixup : Fixup} {from n : ℕ} {bs : List ℕ} → r ≡ Fixups fixup from n
@@ -229,7 +240,7 @@ pub record Gathering (file : List ℕ) (old new : Bases) (first : ℕ) (m t₀ :
   pub progress : Progress
   pub at-old : Tracks file old first source progress
   pub at-new : Tracks file new first target progress
-  pub gathered : t ≡ transfer old new (progress .pieces) m t₀
+  pub gathered : t ≡ transfer old new (map outline (progress .pieces)) m t₀
 
 module _ {file : List ℕ} {old new : Bases} {first : ℕ} {m t₀ : List ℕ} where
   -- before the first record nothing is gathered
@@ -238,15 +249,18 @@ module _ {file : List ℕ} {old new : Bases} {first : ℕ} {m t₀ : List ℕ} w
   gathering-first l = record { progress = begun first; at-old = tracks-first l; at-new = tracks-first l; gathered = refl }
 
   module _ {source target : Cursor} {t : List ℕ} (x : Gathering file old new first m t₀ source target t)
-      {qs : List Piece} {start start′ : Start} (yes-old : recordsOf file old first .answer ≡ accepted qs start)
-      (yes-new : recordsOf file new first .answer ≡ accepted qs start′) {found : Record} (is : found ≡ read file (source .at) (source .last)) where
+      {qs : List Piece} {entry : Entry} (yes-old : recordsOf file old first .answer ≡ accepted qs entry)
+      (yes-new : recordsOf file new first .answer ≡ accepted qs entry) {found : Record} (is : found ≡ read file (source .at) (source .last)) where
     -- the record that the program reads is the definition's, at both pairs of bases
     pub found-is : recordAt file (x .progress) ≡ found
     found-is = tracks-found (x .at-old) is
 
     -- at the end record all pieces are gathered
-    pub gathering-end : {entry : Entry} {next : ℕ} → found ≡ End entry next → t ≡ transfer old new qs m t₀
-    gathering-end e = x .gathered ∙ ap (λ (ps : List Piece). transfer old new ps m t₀) (tracks-to-end (x .at-old) yes-old found-is e)
+    pub gathering-end : {other : Entry} {next : ℕ} {os : List Outline} → found ≡ End other next → os ≡ map outline qs → t ≡ transfer old new os m t₀
+    gathering-end e o =
+        x .gathered
+        ∙ ap (λ (ps : List Piece). transfer old new (map outline ps) m t₀) (tracks-to-end (x .at-old) yes-old found-is e)
+        ∙ ap (λ (rs : List Outline). transfer old new rs m t₀) (sym o)
 
     -- every other record leads on
     pub gathering-onward : OneOf (0 ∷ 1 ∷ 3 ∷ []) (tagOf the-type found) → Onward found

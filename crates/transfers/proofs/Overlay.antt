@@ -1,18 +1,17 @@
 -- Bytes of the scratch taken into memory where the map has a mark.
 -- Assumes nothing.
-use mathlib.Core.List.{List, [], _∷_}
-use mathlib.Core.Path.{_≡_, refl, sym, ap, _∙_}
+use mathlib.Core.List.{List, [], _∷_, map as mapped}
+use mathlib.Core.Path.{_≡_, refl, sym, ap, _∙_, subst}
 use Prim.Native.Nat.{ℕ, zero, suc, _+_, _≤_, _<_}
 use native.Mathlib.Decide.{decLt}
 use native.Mathlib.Omega.{arith}
 use lib.ListN.{length, getD, set, List·getD-eq-default}
 use lib.Seq.{ext-getD, getD-set-same, getD-set-other}
-use Rattle.acx.proofs.WellPlaced.{fits-memory}
+use Rattle.acx.proofs.WellPlaced.{fits-memory, fits-map}
 use Rattle.pieces.proofs.Loads.{Fits}
 use Rattle.pieces.proofs.Marks.{marks-outside, marks-some}
-use Rattle.pieces.specs.Places.{Placed}
-use Rattle.acx.specs.Demand2.{WellPlaced}
-use Rattle.pieces.specs.Pieces.{Piece, size, placeOf, events}
+use Rattle.pieces.specs.Places.{Placed, WellPlaced}
+use Rattle.pieces.specs.Pieces.{Outline, outline, placeOf, events}
 use Rattle.pieces.specs.declared.Bases.{Bases}
 use Rattle.acx.specs.Call.{load, mapAfter as loadedMap}
 use Rattle.acx.specs.Walk.{Verdict}
@@ -21,9 +20,9 @@ use Rattle.events.proofs.Lists.{each-zip3}
 use Rattle.events.specs.Events.{Event, marks, blank}
 use Rattle.events.specs.Lists.{Each}
 use Rattle.words.proofs.Runs.{within?, part-agree-at}
-use Rattle.moves.proofs.Rulings.{load-at, well-placed-at, events-at, allows-is, both}
+use Rattle.moves.proofs.Rulings.{judged-as, well-placed-at, events-at, allows-is, both}
 use Rattle.moves.proofs.Transfers.{length-transfer, transfer-outside, transfer-parts}
-use Rattle.moves.specs.Call.{rulingOf, Allows, piecesOf, mapBy}
+use Rattle.moves.specs.Call.{judgedAt, rulingOf, Allows, piecesOf, mapBy}
 use Rattle.moves.specs.Demand3.{AcceptedAt}
 use Rattle.moves.specs.Move.{transfer, moved}
 use Rattle.transfers.specs.Scratch.{chosen, Overlaid}
@@ -83,9 +82,9 @@ module _ {map scratch m : List ℕ} where
 -- ---- what the overlay comes to
 
 -- an address is in the place of a piece, or in none
-somewhere : {C : Type 0} (b : Bases) (x : ℕ) (ps : List Piece) → Each (λ p. Placed b x p → C) ps → (Each (λ p. ¬ Placed b x p) ps → C) → C
+somewhere : {C : Type 0} (b : Bases) (x : ℕ) (ps : List Outline) → Each (λ p. Placed b x p → C) ps → (Each (λ p. ¬ Placed b x p) ps → C) → C
 somewhere b x [] h k = k tt
-somewhere {C} b x (p ∷ ps) h k = by (within? (placeOf b p) (size p) x) (λ w. somewhere b x ps (h .1) (λ n. k (w, n)))
+somewhere {C} b x (p ∷ ps) h k = by (within? (placeOf b p) (p .size) x) (λ w. somewhere b x ps (h .1) (λ n. k (w, n)))
   where
     by : Dec (Placed b x p) → (¬ Placed b x p → C) → C
     by (yes w) f = h .0 w
@@ -97,30 +96,48 @@ some-chosen zero a b h = absurd (omega arith)
 some-chosen (suc n) a b h = refl
 
 -- pieces gathered in a scratch, and taken from there where the map of a load at the new bases has marks, have moved
-module _ (file : List ℕ) (form : ℕ) (ps : List Piece) (old new : Bases) (at-old : AcceptedAt file form ps old)
+module _ (file : List ℕ) (form : ℕ) (ps : List Outline) (old new : Bases) (at-old : AcceptedAt file form ps old)
     (at-new : AcceptedAt file form ps new) (m s m′ : List ℕ) (n : length m ≡ 65536) (l : length s ≡ 65536)
-    (o : Overlaid (marks (events new ps) blank) (transfer old new ps m s) m m′) where
+    (o : Overlaid (marks (events new (at-new .pieces)) blank) (transfer old new ps m s) m m′) where
   abbrev fits-old : Each (Fits old (length m)) ps
-  fits-old = fits-memory old (length m) ps n (well-placed-at file form ps old at-old .fits)
+  fits-old = fits-memory old (length m) ps n (well-placed-at file form ps old at-old .fit)
 
-  abbrev there : WellPlaced file new ps
+  abbrev there : WellPlaced new ps
   there = well-placed-at file form ps new at-new
+
+  -- the same of the pieces that were marked
+  abbrev marked : WellPlaced new (mapped outline (at-new .pieces))
+  marked = subst (WellPlaced new) (at-new .outlines) there
+
+  abbrev map-new : List ℕ
+  map-new = marks (events new (at-new .pieces)) blank
+
+  -- there is a mark at each place
+  some : Each (λ p. (x : ℕ) → Placed new x p → 0 < getD map-new x 0) ps
+  some =
+      subst (Each (λ p. (x : ℕ) → Placed new x p → 0 < getD map-new x 0)) (sym (at-new .outlines))
+      (marks-some new (at-new .pieces) blank (marked .sound .inside) (fits-map new (mapped outline (at-new .pieces)) (marked .fit)) (marked .fit .apart))
+
+  -- and none elsewhere
+  clear : (x : ℕ) → Each (λ p. ¬ Placed new x p) ps → getD map-new x 0 ≡ 0
+  clear x w =
+      marks-outside new (at-new .pieces) blank (marked .sound .inside) x (subst (Each (λ p. ¬ Placed new x p)) (at-new .outlines) w) ∙ blank-at x
 
   -- at a piece's place
   inside : (x : ℕ) → Each (λ p. Placed new x p → getD m′ x 0 ≡ getD (transfer old new ps m m) x 0) ps
   inside x =
       each-zip3
-      (λ p u v k w. o .bytes x ∙ some-chosen (getD (marks (events new ps) blank) x 0) (getD m x 0) (getD (transfer old new ps m s) x 0) (k x w)
-      ∙ part-agree-at (transfer old new ps m s) (transfer old new ps m m) (placeOf new p) (size p) x (u ∙ sym v) w)
-      ps (transfer-parts old new m ps s fits-old (fits-memory new (length s) ps l (there .fits)) (there .apart))
-      (transfer-parts old new m ps m fits-old (fits-memory new (length m) ps n (there .fits)) (there .apart))
-      (marks-some new ps blank (there .inside) (fits-memory new (length blank) ps length-blank (there .fits)) (there .apart))
+      (λ p u v k w. o .bytes x ∙ some-chosen (getD map-new x 0) (getD m x 0) (getD (transfer old new ps m s) x 0) (k x w)
+      ∙ part-agree-at (transfer old new ps m s) (transfer old new ps m m) (placeOf new p) (p .size) x (u ∙ sym v) w)
+      ps (transfer-parts old new m ps s fits-old (fits-memory new (length s) ps l (there .fit)) (there .fit .apart))
+      (transfer-parts old new m ps m fits-old (fits-memory new (length m) ps n (there .fit)) (there .fit .apart))
+      some
 
   -- elsewhere
   outside : (x : ℕ) → Each (λ p. ¬ Placed new x p) ps → getD m′ x 0 ≡ getD (transfer old new ps m m) x 0
   outside x w =
       o .bytes x
-      ∙ ap (λ (v : ℕ). chosen v (getD m x 0) (getD (transfer old new ps m s) x 0)) (marks-outside new ps blank (there .inside) x w ∙ blank-at x)
+      ∙ ap (λ (v : ℕ). chosen v (getD m x 0) (getD (transfer old new ps m s) x 0)) (clear x w)
       ∙ sym (transfer-outside old new m ps m fits-old x w)
 
   overlaid : m′ ≡ moved old new ps m
@@ -132,26 +149,26 @@ module _ (file : List ℕ) (form : ℕ) (ps : List Piece) (old new : Bases) (at-
 -- ---- by the ruling
 
 module _ (form : ℕ) (old new : Bases) (file : List ℕ) (h : Allows (rulingOf form old new file)) (map : List ℕ)
-    (e : map ≡ mapBy (load form new file) (rulingOf form old new file)) where
+    (e : map ≡ mapBy (judgedAt form new file) (rulingOf form old new file)) where
+  -- the pieces that move, and the handler at both bases
+  abbrev ps : List Outline
+  ps = piecesOf (rulingOf form old new file)
+
+  abbrev at-both : AcceptedAt file form ps old × AcceptedAt file form ps new
+  at-both = both form old new file ps (allows-is (rulingOf form old new file) h)
+
   -- the map is that of the pieces
-  map-is : map ≡ marks (events new (piecesOf (rulingOf form old new file))) blank
+  map-is : map ≡ marks (events new (at-both .1 .pieces)) blank
   map-is =
-      let ps = piecesOf (rulingOf form old new file) in
-      let is = allows-is (rulingOf form old new file) h in
-      let x = both form old new file ps is .1 in
-      e ∙ ap (mapBy (load form new file)) is
-      ∙ ap (λ (v : Verdict). loadedMap v (load form new file .events)) (load-at file form ps new x)
-      ∙ ap (λ (es : List Event). marks es blank) (events-at file form ps new x)
+      e ∙ ap (mapBy (judgedAt form new file)) (allows-is (rulingOf form old new file) h)
+      ∙ ap (λ (v : Verdict Outline). loadedMap v (load form new file .events)) (judged-as file form ps new (at-both .1))
+      ∙ ap (λ (es : List Event). marks es blank) (events-at file form ps new (at-both .1))
 
   -- it is as long as memory
   pub length-map : length map ≡ 65536
-  length-map = ap length map-is ∙ length-marks (events new (piecesOf (rulingOf form old new file))) blank ∙ length-blank
+  length-map = ap length map-is ∙ length-marks (events new (at-both .1 .pieces)) blank ∙ length-blank
 
   -- memory is that of the move
-  pub overlaid-moved : (m s t m′ : List ℕ) → length m ≡ 65536 → length s ≡ 65536
-      → t ≡ transfer old new (piecesOf (rulingOf form old new file)) m s → Overlaid map t m m′
-      → m′ ≡ moved old new (piecesOf (rulingOf form old new file)) m
-  overlaid-moved m s t m′ n l et o =
-      let ps = piecesOf (rulingOf form old new file) in
-      let x = both form old new file ps (allows-is (rulingOf form old new file) h) in
-      overlaid file form ps old new (x .0) (x .1) m s m′ n l (rw (map-is, et) at o)
+  pub overlaid-moved : (m s t m′ : List ℕ) → length m ≡ 65536 → length s ≡ 65536 → t ≡ transfer old new ps m s → Overlaid map t m m′
+      → m′ ≡ moved old new ps m
+  overlaid-moved m s t m′ n l et o = overlaid file form ps old new (at-both .0) (at-both .1) m s m′ n l (rw (map-is, et) at o)

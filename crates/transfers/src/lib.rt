@@ -10,14 +10,14 @@ ghost use mathlib.Core.Path.{_≡_};
 ghost use Prim.Native.Nat.{_+_, _≤_};
 ghost use lib.ListN.{length};
 ghost use Rattle.words.specs.Numbers.{on, off, change};
+ghost use Rattle.words.specs.Runs.{part, put};
 ghost use Rattle.events.specs.Lists.{Each};
 ghost use Rattle.events.specs.Events.{blank};
 ghost use Rattle.fields.specs.Fields.{fieldsOf};
 ghost use Rattle.pieces.specs.Pieces.{width, edited};
 ghost use Rattle.pieces.specs.Places.{Inside};
-ghost use Rattle.acx.specs.Call.{load as loadOf};
 ghost use Rattle.moves.specs.Move.{shift, transfer, moved};
-ghost use Rattle.moves.specs.Call.{rulingOf, Allows, piecesOf, mapBy};
+ghost use Rattle.moves.specs.Call.{judgedAt, rulingOf, Allows, piecesOf, mapBy};
 ghost use Rattle.transfers.specs.Scratch.{scratchWith, Sound, Overlaid};
 
 // Carries the handler's bytes by way of the scratch, over the map of a load at the new bases.
@@ -30,7 +30,7 @@ pub fn carry(
     memory: &mut [u8],
     scratch: &mut [u8],
 )
-    requires { ⌜ Allows (rulingOf form old new (now file)) × (now map ≡ mapBy (loadOf form new (now file)) (rulingOf form old new (now file))) × (length (now memory) ≡ 65536) × (length (now scratch) ≡ 65536) ⌝ }
+    requires { ⌜ Allows (rulingOf form old new (now file)) × (now map ≡ mapBy (judgedAt form new (now file)) (rulingOf form old new (now file))) × (length (now memory) ≡ 65536) × (length (now scratch) ≡ 65536) ⌝ }
     ensures { λ _. ⌜ (now (memory .exit) ≡ moved old new (piecesOf (rulingOf form old new (now (file .entry)))) (now (memory .entry))) × (now (scratch .exit) ≡ blank) ⌝ }
 {
     gather(form, file, old, new, memory, scratch);
@@ -87,26 +87,32 @@ fn gather_record(
     requires { ⌜ Sound (now file) (target .size) found × (source .place + source .size ≤ length (now memory)) × (target .place + target .size ≤ length (now scratch)) × (source .size ≡ target .size) × (length (now file) ≤ 65536) ⌝ }
     ensures { λ _. ⌜ now (scratch .exit) ≡ scratchWith (now (file .entry)) old new source target (now (memory .entry)) (now (scratch .entry)) found ⌝ }
 {
-    let begin = target.place;
-    let end = begin + target.size;
     match found {
         Record::Code {
             kind,
             address,
             from,
             size,
-        } => {
-            let place = source.place;
-            let past = place + source.size;
-            words::copy(&mut scratch[begin..end], &memory[place..past]);
-        }
+        } => take_code(source.place, target.place, target.size, memory, scratch),
         Record::Fixups { fixup, from, size } => {
             let next = from + size;
+            let begin = target.place;
+            let end = begin + target.size;
             shift_fields(&file[from..next], fixup, old, new, &mut scratch[begin..end]);
         }
         Record::End { entry, next } => {}
         Record::Faulty(fault, offset) => {}
     }
+}
+
+// Copies `size` code bytes from `place` in memory to `to` in the scratch.
+fn take_code(place: usize, to: usize, size: usize, memory: &[u8], scratch: &mut [u8])
+    requires { ⌜ (place + size ≤ length (now memory)) × (to + size ≤ length (now scratch)) ⌝ }
+    ensures { λ _. ⌜ now (scratch .exit) ≡ put (now (scratch .entry)) to (part (now (memory .entry)) place size) ⌝ }
+{
+    let end = place + size;
+    let past = to + size;
+    words::copy(&mut scratch[to..past], &memory[place..end]);
 }
 
 // Shifts the fields that a fixup record lists, one by one: the amounts of the old bases off, those of the new on.

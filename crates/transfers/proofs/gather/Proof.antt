@@ -50,7 +50,7 @@ same-length c = search needs
 returns : tie.Need-returns Inv-loop μ-loop
 returns c =
     let l = c .before .before .before .before .loop .inv in
-    gathering-end (l .2) (l .1 .yes-old) (l .1 .yes-new) (c .before .before .before .read .ensures) (c .before .found .given .1)
+    gathering-end (l .2) (l .1 .yes-old) (l .1 .yes-new) (c .before .before .before .read .ensures) (c .before .found .given .1) (l .1 .outlines)
 
 advance-requires : tie.Need-advance-requires Inv-loop μ-loop
 advance-requires c κs =

@@ -6,44 +6,23 @@ use Rattle.transfers.proofs.Gathering.{gathers-lent, gathers-code, gath
 use Rattle.transfers.proofs.gather_record.Statement.{statement}
 use Rattle.transfers.proofs.gather_record.Tie as tie
 
-add-end : tie.Need-add-end
-add-end c = search needs
-
 enum-known-found : tie.Need-enum-known-found
 enum-known-found c = search needs
 
-add-past : tie.Need-add-past
-add-past c = search needs
-
-sub-copy : tie.Need-sub-copy
-sub-copy c = search needs
-
-part-copy-start : tie.Need-part-copy-start
-part-copy-start c = search needs
-
-part-copy-end : tie.Need-part-copy-end
-part-copy-end c = search needs
-
-sub-copy-2 : tie.Need-sub-copy-2
-sub-copy-2 c = search needs
-
-part-copy-start-2 : tie.Need-part-copy-start-2
-part-copy-start-2 c = search needs
-
-part-copy-end-2 : tie.Need-part-copy-end-2
-part-copy-end-2 c = search needs
-
-copy-requires : tie.Need-copy-requires
-copy-requires c κs = search needs
+take-code-requires : tie.Need-take-code-requires
+take-code-requires c κs = search needs
 
 enum-known-found-2 : tie.Need-enum-known-found-2
 enum-known-found-2 c = search needs
 
 add-next : tie.Need-add-next
 add-next c =
-    let s = c .before .before .before .before .before .before .before in
+    let s = c .before .before .before .before .before .before in
     let w = gathers-sound _ _ _ (s .pre .0) (c .before .found2 .given .1) in
     omega (arith, w .0, s .pre .4)
+
+add-end : tie.Need-add-end
+add-end c = search needs
 
 sub-shift-fields : tie.Need-sub-shift-fields
 sub-shift-fields c = search needs
@@ -54,7 +33,7 @@ part-shift-fields-start c = search needs
 part-shift-fields-end : tie.Need-part-shift-fields-end
 part-shift-fields-end c =
     let s = c .before .before .before .before .before .before .before in
-    let w = gathers-sound _ _ _ (s .pre .0) (c .before .found2 .given .1) in
+    let w = gathers-sound _ _ _ (s .pre .0) (c .before .before .found2 .given .1) in
     omega (arith, w .0)
 
 sub-shift-fields-2 : tie.Need-sub-shift-fields-2
@@ -69,7 +48,7 @@ part-shift-fields-end-2 c = search needs
 shift-fields-requires : tie.Need-shift-fields-requires
 shift-fields-requires c κs =
     let s = c .before .before .before .before .before .before .before .before .before in
-    gathers-lent _ (s .args .target) _ _ _ _ (s .pre .4) (s .pre .2) (gathers-sound _ _ _ (s .pre .0) (c .before .before .before .found2 .given .1))
+    gathers-lent _ (s .args .target) _ _ _ _ (s .pre .4) (s .pre .2) (gathers-sound _ _ _ (s .pre .0) (c .before .before .before .before .found2 .given .1))
 
 enum-known-found-3 : tie.Need-enum-known-found-3
 enum-known-found-3 c = search needs
@@ -82,9 +61,8 @@ same-length c = search needs
 
 returns : tie.Need-returns
 returns c =
-    let s = c .before .before .before .before .before .before .before .before .before .before .before .before .before in
-    gathers-code _ _ _ _ _ _ _ (c .before .before .before .before .before .before .before .found .given .1) (s .pre .1) (s .pre .2) (s .pre .3)
-    (c .before .before .copy .ensures)
+    let s = c .before .before .before .before .before .before .before .before .before .before in
+    gathers-code _ _ _ _ _ _ _ (c .before .before .before .before .before .found .given .1) (s .pre .3) (c .before .before .take-code .ensures)
 
 same-length-2 : tie.Need-same-length-2
 same-length-2 c = search needs
@@ -92,7 +70,7 @@ same-length-2 c = search needs
 returns-2 : tie.Need-returns-2
 returns-2 c =
     let s = c .before .before .before .before .before .before .before .before .before .before .before .before in
-    gathers-fields _ _ _ _ _ _ _ (c .before .before .before .before .before .before .found2 .given .1) (s .pre .2)
+    gathers-fields _ _ _ _ _ _ _ (c .before .before .before .before .before .before .before .found2 .given .1) (s .pre .2)
     (c .before .before .shift-fields .ensures)
 
 returns-3 : tie.Need-returns-3
@@ -105,18 +83,11 @@ pub gather-record-spec : {M : Type 1} → statement M
 gather-record-spec =
     tie.close
     (tie.spec
-    add-end
     enum-known-found
-    add-past
-    sub-copy
-    part-copy-start
-    part-copy-end
-    sub-copy-2
-    part-copy-start-2
-    part-copy-end-2
-    copy-requires
+    take-code-requires
     enum-known-found-2
     add-next
+    add-end
     sub-shift-fields
     part-shift-fields-start
     part-shift-fields-end
