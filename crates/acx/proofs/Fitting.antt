@@ -1,7 +1,7 @@
 -- What fits, and what does not, as specs/Where.antt says: of bases, pieces and a start one or the other holds, and with one fault only.
 -- Assumes nothing.
 use mathlib.Core.List.{List, [], _∷_, map}
-use mathlib.Core.Path.{_≡_, refl, sym}
+use mathlib.Core.Path.{_≡_, refl}
 use native.Mathlib.Omega.{arith}
 use Rattle.answer.specs.declared.Fault.{Fault}
 use Rattle.fields.specs.declared.Field.{Field}

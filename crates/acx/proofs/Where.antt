@@ -10,7 +10,6 @@ use Rattle.answer.specs.declared.Fault.{Fault}
 use Rattle.events.proofs.Events.{length-marks}
 use Rattle.events.proofs.Lists.{each-map, each-zip, each-split, pairwise-split}
 use Rattle.events.specs.Events.{Event, marks, blank, Ran}
-use Rattle.events.specs.Lists.{Each}
 use Rattle.events.specs.Trace.{Trace, at-start, after-step}
 use Rattle.events.specs.declared.Check.{Check}
 use Rattle.events.specs.declared.Check.the-variants.{Passed, Failed}
@@ -28,13 +27,13 @@ use Rattle.pieces.proofs.Checks.{placing-passed, limit-le}
 use Rattle.pieces.proofs.Marks.{marks-plain}
 use Rattle.pieces.proofs.Passing.{Unplaced, too-high as ends-high, taken, placing-failed, apart-clear, ending-failed, fresh-passes}
 use Rattle.pieces.specs.AtBases.{adjusting}
-use Rattle.pieces.specs.Pieces.{Piece, size, Outline, outline, placeOf, limitOf, events}
+use Rattle.pieces.specs.Pieces.{Piece, size, outline, placeOf, limitOf, events}
 use Rattle.pieces.specs.Places.{FieldsApart, Inside, FitAt, FieldsSound}
 use Rattle.pieces.specs.declared.Bases.{Bases}
 use Rattle.acx.proofs.Cursors.{Tracks, tracks-first, tracks-ends, tracks-on}
 use Rattle.acx.proofs.Demand2.{well-placed-of}
 use Rattle.acx.proofs.Fitting.{fits-lacks, lacks-same, misfit-fields}
-use Rattle.acx.proofs.Rules.{followed, judged-records, load-judged, by-rules}
+use Rattle.acx.proofs.Rules.{judged-records, load-judged, by-rules}
 use Rattle.acx.proofs.Turning.{refused-accepted, accepted-same, turn-is, checked-fixups, end-answers, code-answers}
 use Rattle.acx.proofs.Walking.{opening-fits, Passes}
 use Rattle.acx.proofs.WellPlaced.{fits-map, code-fits, fields-fit}

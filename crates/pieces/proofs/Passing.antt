@@ -1,7 +1,7 @@
 -- What passes a record's checks: code where there is room and nothing placed, and fields that lie in the code, apart from each other and from all that
 -- are marked. The other direction of `code-apart` and `fields-fresh`.
 -- Assumes nothing.
-use mathlib.Core.Bool.{Bool, true, false, false≢true}
+use mathlib.Core.Bool.{Bool, true, false}
 use mathlib.Core.List.{List, [], _∷_, map}
 use mathlib.Core.Path.{_≡_, refl, sym, ap, _∙_}
 use Prim.Native.Nat.{ℕ, suc, _+_, _≤_, _<_}
@@ -18,7 +18,6 @@ use Rattle.events.proofs.Events.{length-marks, length-blank, blank-at, fill-out
 use Rattle.events.proofs.Lists.{each-map, each-zip}
 use Rattle.events.specs.Events.{place, marks, blank, failed, passed}
 use Rattle.events.specs.Lists.{Each, Pairwise}
-use Rattle.events.specs.declared.Check.{Check}
 use Rattle.events.specs.declared.Check.the-variants.{Passed, Failed}
 use Rattle.fields.specs.declared.Field.{Field}
 use Rattle.words.proofs.Runs.{length-put, length-part, part-at, all-zero}
