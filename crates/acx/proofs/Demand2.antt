@@ -25,7 +25,7 @@ use Rattle.events.specs.Lists.{Each}
 use Rattle.events.specs.Events.{Event, place, play, marks, blank, placedIn, adjustedIn, Ran}
 use Rattle.acx.proofs.Calling.{load-admitted, loaded-right}
 use Rattle.acx.proofs.WellPlaced.{fits-memory, fits-map, placed-well}
-use Rattle.pieces.proofs.Loads.{places, laid, play-laid, laid-outside, laid-plain, laid-fields}
+use Rattle.pieces.proofs.Loads.{pieceAt, laid, play-laid, laid-outside, laid-plain, laid-fields}
 use Rattle.pieces.proofs.Marks.{marks-outside, marks-plain, marks-fields}
 use Rattle.pieces.proofs.PieceEvents.{placed-adjustments, adjusted-adjustments}
 use Rattle.acx.proofs.Rules.{followed, follows-judged, load-judged}
@@ -52,15 +52,15 @@ placed-total : (b : Bases) (ps : List Piece) → placedIn (events b ps) ≡ tota
 unfolding events placedIn
 placed-total b [] = refl
 placed-total b (p ∷ ps) =
-    placed-append (events b ps) (place (places b p) (p .code) ∷ adjustments b (places b p) (p .fields))
-    ∙ omega (arith, placed-total b ps, placed-adjustments b (places b p) (p .fields))
+    placed-append (events b ps) (place (pieceAt b p) (p .code) ∷ adjustments b (pieceAt b p) (p .fields))
+    ∙ omega (arith, placed-total b ps, placed-adjustments b (pieceAt b p) (p .fields))
 
 adjusted-total : (b : Bases) (ps : List Piece) → adjustedIn (events b ps) ≡ total (λ p. length (p .fields)) ps
 unfolding events adjustedIn
 adjusted-total b [] = refl
 adjusted-total b (p ∷ ps) =
-    adjusted-append (events b ps) (place (places b p) (p .code) ∷ adjustments b (places b p) (p .fields))
-    ∙ omega (arith, adjusted-total b ps, adjusted-adjustments b (places b p) (p .fields))
+    adjusted-append (events b ps) (place (pieceAt b p) (p .code) ∷ adjustments b (pieceAt b p) (p .fields))
+    ∙ omega (arith, adjusted-total b ps, adjusted-adjustments b (pieceAt b p) (p .fields))
 
 -- what the events of well-placed pieces make of memory and map
 loads : (form : Form) (file : List ℕ) (b : Bases) (ps : List Piece) (entry : Entry) (at : ℕ) (m : List ℕ) → Follows form file b ps entry

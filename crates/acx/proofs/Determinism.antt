@@ -8,7 +8,7 @@ use Rattle.records.specs.declared.Entry.{Entry}
 use Rattle.events.proofs.Lists.{each-zip}
 use Rattle.events.specs.Events.{Event, play, Ran}
 use Rattle.events.specs.Lists.{Each}
-use Rattle.pieces.proofs.Loads.{loaded, places, laid, play-laid, laid-parts}
+use Rattle.pieces.proofs.Loads.{loaded, pieceAt, laid, play-laid, laid-parts}
 use Rattle.pieces.specs.Pieces.{Piece, size, outline}
 use Rattle.pieces.specs.declared.Bases.{Bases}
 use Rattle.words.specs.Runs.{part}
@@ -25,7 +25,7 @@ placed-parts : (form : ℕ) (b : Bases) (file m m′ : List ℕ) → m′ ≡ me
     → length m ≡ 65536
     → (ps : List Piece) (entry : Entry)
     → load form b file .answer ≡ accepted ps entry
-    → Each (λ x. part m′ (places b x) (size x) ≡ loaded b x) ps
+    → Each (λ x. part m′ (pieceAt b x) (size x) ≡ loaded b x) ps
 placed-parts form b file m m′ em n ps entry e =
     let o = load form b file in
     let w = load-admitted form b file ps entry e in

@@ -112,6 +112,7 @@ module _ (file : List ℕ) (b : Bases) (s : Progress) (map : List ℕ) where
   pub end-none : (entry : Entry) (next : ℕ) → recordAt file s ≡ End entry next → checked file b s map .events ≡ []
   end-none entry next e = ap (λ (o : Ran Check). o .events) (checked-end entry next e) ∙ ending-none (s .at + 2) b entry next (length file)
 
+  -- it answers as the end is checked
   pub end-answers : (entry : Entry) (next : ℕ) → recordAt file s ≡ End entry next → {v : Check} → checked file b s map .answer ≡ v
       → ending (s .at + 2) b entry next (length file) .answer ≡ v
   end-answers entry next e c = ap (λ (o : Ran Check). o .answer) (sym (checked-end entry next e)) ∙ c
@@ -158,7 +159,7 @@ turn-falls file b s z map e =
     let h = further file s (l .found) (l .is) (l .on) in
     omega (arith, h .0, h .1, ap (λ (y : Progress). y .at) (l .to))
 
--- ---- a record that passed
+-- ---- code and fixups
 
 module _ (file : List ℕ) (b : Bases) (s : Progress) (map : List ℕ) where
   -- code answers as it is placed

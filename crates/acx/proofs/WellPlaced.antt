@@ -27,7 +27,7 @@ use Rattle.acx.proofs.Standing.{Stands, stands-first, stands-on}
 use Rattle.acx.proofs.Turning.{code-answers, fixups-passed}
 use Rattle.acx.proofs.Walking.{Passes, EndedAt, accepted-keeps}
 use Rattle.pieces.specs.AtBases.{adjusting}
-use Rattle.pieces.specs.Places.{FieldsApart, Inside, FitAt, WellPlaced}
+use Rattle.pieces.specs.Places.{FieldsApart, Inside, PiecesFit, WellPlaced}
 use Rattle.acx.specs.Rules.{Onward}
 use Rattle.acx.specs.Demand2.{FromFile}
 use Rattle.pieces.specs.Pieces.{Piece, size, Outline, outline, placeOf, limitOf, events}
@@ -36,40 +36,40 @@ use Rattle.pieces.specs.declared.Bases.{Bases}
 use Rattle.acx.specs.declared.Form.{Form}
 
 -- pieces below their limits lie in memory
-pub fits-memory : (b : Bases) (n : ℕ) (os : List Outline) → n ≡ 65536 → FitAt b os → Each (Fits b n) os
+pub fits-memory : (b : Bases) (n : ℕ) (os : List Outline) → n ≡ 65536 → PiecesFit b os → Each (Fits b n) os
 fits-memory b n os e h = each-map (λ o i. omega (arith, i, e, limit-le (o .kind))) os (h .below)
 
--- so they are where the map is
-pub fits-map : (b : Bases) (os : List Outline) → FitAt b os → Each (Fits b (length blank)) os
+-- and in the map, which is as long
+pub fits-map : (b : Bases) (os : List Outline) → PiecesFit b os → Each (Fits b (length blank)) os
 fits-map b os h = fits-memory b (length blank) os length-blank h
 
 -- code that found room and nothing placed fits with the pieces before it
-pub code-fits : (b : Bases) (p : Piece) (ps : List Piece) → Each (λ o. Each (Inside (o .size)) (o .fields)) (map outline ps) → FitAt b (map outline ps)
+pub code-fits : (b : Bases) (p : Piece) (ps : List Piece) → Each (λ o. Each (Inside (o .size)) (o .fields)) (map outline ps) → PiecesFit b (map outline ps)
     → placeOf b (outline p) + size p ≤ limitOf (p .kind)
     → allZero (part (marks (events b ps) blank) (placeOf b (outline p)) (size p)) ≡ true
-    → FitAt b (map outline (p ∷ ps))
+    → PiecesFit b (map outline (p ∷ ps))
 code-fits b p ps i h l z =
     let some = marks-some b ps blank i (fits-map b (map outline ps) h) (h .apart) in
     record { below = (l, h .below); apart = (code-apart b (outline p) (map outline ps) (marks (events b ps) blank) some z, h .apart) }
 
 -- fields more change no place
-pub fields-fit : (b : Bases) (fs : List Field) (ps : List Piece) → FitAt b (map outline ps) → FitAt b (map outline (withFields fs ps))
+pub fields-fit : (b : Bases) (fs : List Field) (ps : List Piece) → PiecesFit b (map outline ps) → PiecesFit b (map outline (withFields fs ps))
 fields-fit b fs [] h = h
 fields-fit b fs (p ∷ ps) h = record { below = h .below; apart = h .apart }
 
 module _ (file : List ℕ) (b : Bases) where
   -- the pieces so far are well placed, and from the file
-  abbrev Sound : List Piece → Type 0
-  Sound ps = WellPlaced b (map outline ps) × FromFile file ps
+  abbrev PlacedSoFar : List Piece → Type 0
+  PlacedSoFar ps = WellPlaced b (map outline ps) × FromFile file ps
 
   -- before the first record
-  sound-first : Sound []
-  sound-first = (record { fit = record { below = tt; apart = tt }; sound = record { inside = tt; distinct = tt } }, tt)
+  placed-first : PlacedSoFar []
+  placed-first = (record { fit = record { below = tt; apart = tt }; sound = record { inside = tt; distinct = tt } }, tt)
 
   -- a code record: its piece found room and nothing placed there
-  sound-code : (s : Progress) (kind : Kind) (address from n : ℕ) → Sound (s .pieces) → recordAt file s ≡ Code kind address from n → Passes file b s
-      → Sound (stepped file s (Code kind address from n) .pieces)
-  sound-code s kind address from n (h, k) e c =
+  placed-code : (s : Progress) (kind : Kind) (address from n : ℕ) → PlacedSoFar (s .pieces) → recordAt file s ≡ Code kind address from n → Passes file b s
+      → PlacedSoFar (stepped file s (Code kind address from n) .pieces)
+  placed-code s kind address from n (h, k) e c =
       let ps = s .pieces in
       let p : Piece = record { kind = kind; address = address; code = part file from n; fields = [] } in
       let w = lies-as file (s .at) (lastOf ps) _ e in
@@ -83,10 +83,10 @@ module _ (file : List ℕ) (b : Bases) where
       )
 
   -- fields more: each lay in the last code and met none before it
-  sound-fields : (at step : ℕ) (fs : List Field) (ps : List Piece) → Sound ps → AfterCode (lastOf ps)
-      → adjusting at step b (lastPlace b ps) (lastSize ps) fs (marks (events b ps) blank) .answer ≡ Passed → Sound (withFields fs ps)
-  sound-fields at step fs [] h m c = absurd m
-  sound-fields at step fs (p ∷ ps) (h, k) m c =
+  placed-fields : (at step : ℕ) (fs : List Field) (ps : List Piece) → PlacedSoFar ps → AfterCode (lastOf ps)
+      → adjusting at step b (lastPlace b ps) (lastSize ps) fs (marks (events b ps) blank) .answer ≡ Passed → PlacedSoFar (withFields fs ps)
+  placed-fields at step fs [] h m c = absurd m
+  placed-fields at step fs (p ∷ ps) (h, k) m c =
       let map′ : List ℕ = marks (events b (p ∷ ps)) blank in
       let fits = fits-map b (map outline (p ∷ ps)) (h .fit) in
       let threes = marks-fields b (p ∷ ps) blank (h .sound .inside) fits (h .fit .apart) in
@@ -103,18 +103,18 @@ module _ (file : List ℕ) (b : Bases) where
       )
 
   -- every record that passes
-  sound-on : (s : Progress) (r : Record) → Sound (s .pieces) → recordAt file s ≡ r → Onward r → Passes file b s → Sound (stepped file s r .pieces)
-  sound-on s (Code kind address from n) h e o c = sound-code s kind address from n h e c
-  sound-on s (Fixups fixup from n) h e o c =
-      sound-fields from (itemSize fixup) (fieldsOf fixup (part file from n)) (s .pieces) h (fixups-after file (s .at) (lastOf (s .pieces)) fixup from n e)
+  placed-on : (s : Progress) (r : Record) → PlacedSoFar (s .pieces) → recordAt file s ≡ r → Onward r → Passes file b s → PlacedSoFar (stepped file s r .pieces)
+  placed-on s (Code kind address from n) h e o c = placed-code s kind address from n h e c
+  placed-on s (Fixups fixup from n) h e o c =
+      placed-fields from (itemSize fixup) (fieldsOf fixup (part file from n)) (s .pieces) h (fixups-after file (s .at) (lastOf (s .pieces)) fixup from n e)
       (fixups-passed file b s _ fixup from n e c)
-  sound-on s (End entry next) h e o c = absurd o
-  sound-on s (Faulty fault offset) h e o c = absurd o
+  placed-on s (End entry next) h e o c = absurd o
+  placed-on s (Faulty fault offset) h e o c = absurd o
 
   -- an accepted file: its pieces are well placed, what was placed and adjusted is in its bytes, and its events are those of the pieces
   pub placed-well : (form : Form) (ps : List Piece) (entry : Entry) → judged form file b .answer ≡ accepted ps entry
-      → EndedAt (λ s. Sound (s .pieces) × Stands b s) file b ps entry (judged form file b .events)
+      → EndedAt (λ s. PlacedSoFar (s .pieces) × Stands b s) file b ps entry (judged form file b .events)
   placed-well form ps entry e =
-      accepted-keeps file b (λ s. Sound (s .pieces) × Stands b s)
-      (λ s r h q o c. (sound-on s r (h .0) q o c, stands-on file b s _ r (h .1) q o c))
-      form ps entry (sound-first, stands-first b (openingSize form)) e
+      accepted-keeps file b (λ s. PlacedSoFar (s .pieces) × Stands b s)
+      (λ s r h q o c. (placed-on s r (h .0) q o c, stands-on file b s _ r (h .1) q o c))
+      form ps entry (placed-first, stands-first b (openingSize form)) e

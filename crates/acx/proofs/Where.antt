@@ -25,14 +25,14 @@ use Rattle.words.specs.Runs.{part}
 use Rattle.pieces.proofs.Applying.{ending-passed}
 use Rattle.pieces.proofs.Checks.{placing-passed, limit-le}
 use Rattle.pieces.proofs.Marks.{marks-plain}
-use Rattle.pieces.proofs.Passing.{Unplaced, too-high as ends-high, taken, placing-failed, apart-clear, ending-failed, fresh-passes}
+use Rattle.pieces.proofs.Passing.{Unplaced, ends-above, taken, placing-failed, apart-clear, ending-failed, fresh-passes}
 use Rattle.pieces.specs.AtBases.{adjusting}
 use Rattle.pieces.specs.Pieces.{Piece, size, outline, placeOf, limitOf, events}
-use Rattle.pieces.specs.Places.{FieldsApart, Inside, FitAt, FieldsSound}
+use Rattle.pieces.specs.Places.{FieldsApart, Inside, PiecesFit, FieldsSound}
 use Rattle.pieces.specs.declared.Bases.{Bases}
 use Rattle.acx.proofs.Cursors.{Tracks, tracks-first, tracks-ends, tracks-on}
 use Rattle.acx.proofs.Demand2.{well-placed-of}
-use Rattle.acx.proofs.Fitting.{fits-lacks, lacks-same, misfit-fields}
+use Rattle.acx.proofs.Unfit.{fits-not-unfit, unfit-same, unfit-fields}
 use Rattle.acx.proofs.Rules.{judged-records, load-judged, by-rules}
 use Rattle.acx.proofs.Turning.{refused-accepted, accepted-same, turn-is, checked-fixups, end-answers, code-answers}
 use Rattle.acx.proofs.Walking.{opening-fits, Passes}
@@ -40,7 +40,7 @@ use Rattle.acx.proofs.WellPlaced.{fits-map, code-fits, fields-fit}
 use Rattle.acx.specs.Call.{formOf, load}
 use Rattle.acx.specs.Rules.{Onward, NextRecord, Follows}
 use Rattle.acx.specs.Walk.{Verdict, accepted, refused, Progress, begun, lastOf, lastPlace, lastSize, recordAt, checked, withFields, stepped, recordsOf, opening, openingSize, judged}
-use Rattle.acx.specs.Where.{Fits, Misfit, earlier, too-high, overlaps, Lacks, of-pieces, of-start, WhereClaim}
+use Rattle.acx.specs.Where.{HandlerFits, PiecesUnfit, earlier, too-high, overlaps, HandlerUnfit, of-pieces, of-start, WhereClaim}
 use Rattle.acx.specs.declared.Cursor.{Cursor}
 use Rattle.acx.specs.declared.Form.{Form}
 
@@ -65,7 +65,7 @@ trace-leads file b first s es at-start = at-first
 trace-leads file b first s es (after-step {y = y} {es = fs} t x) =
     subst (Leads file first) (sym (x .leads-to)) (and-then (trace-leads file b first y fs t) (x .onward))
 
-pub follows-holds : (form : Form) (file : List ℕ) (b : Bases) (ps : List Piece) (entry : Entry) → Follows form file b ps entry → Holds form file ps entry
+follows-holds : (form : Form) (file : List ℕ) (b : Bases) (ps : List Piece) (entry : Entry) → Follows form file b ps entry → Holds form file ps entry
 follows-holds form file b ps entry h =
     record {
       opens = h .opens;
@@ -95,7 +95,7 @@ sound-before file s (Faulty fault offset) h = h
 
 -- fields that are sound with those before them pass, wherever the pieces fit
 fields-pass : (at step : ℕ) (b : Bases) (fs : List Field) (ps : List Piece) → FieldsSound (map outline (withFields fs ps)) → AfterCode (lastOf ps)
-    → FitAt b (map outline ps)
+    → PiecesFit b (map outline ps)
     → adjusting at step b (lastPlace b ps) (lastSize ps) fs (marks (events b ps) blank) .answer ≡ Passed
 fields-pass at step b fs [] h m f = absurd m
 fields-pass at step b fs (p ∷ ps) h m f =
@@ -114,8 +114,8 @@ fields-pass at step b fs (p ∷ ps) h m f =
 module _ (file : List ℕ) (b : Bases) (first : ℕ) where
   -- it comes to where the records lead, where the pieces fit so far; else it has ended with their fault
   data Comes (s : Progress) : Type 0 where
-    so-far : FitAt b (map outline (s .pieces)) → (c : Cursor) → Tracks file b first c s → Comes s
-    ended : {fault : Fault} {offset : ℕ} → Misfit b (map outline (s .pieces)) fault → recordsOf file b first .answer ≡ refused fault offset → Comes s
+    so-far : PiecesFit b (map outline (s .pieces)) → (c : Cursor) → Tracks file b first c s → Comes s
+    ended : {fault : Fault} {offset : ℕ} → PiecesUnfit b (map outline (s .pieces)) fault → recordsOf file b first .answer ≡ refused fault offset → Comes s
 
   -- a record that fails ends it
   stops : (s : Progress) (c : Cursor) (fault : Fault) (offset : ℕ) → Tracks file b first c s
@@ -125,7 +125,7 @@ module _ (file : List ℕ) (b : Bases) (first : ℕ) where
 
   -- code
   module _ (s : Progress) (c : Cursor) (kind : Kind) (address from n : ℕ) (is : recordAt file s ≡ Code kind address from n)
-      (h : FieldsSound (map outline (s .pieces))) (f : FitAt b (map outline (s .pieces))) (t : Tracks file b first c s) where
+      (h : FieldsSound (map outline (s .pieces))) (f : PiecesFit b (map outline (s .pieces))) (t : Tracks file b first c s) where
     abbrev left : List ℕ
     left = marks (events b (s .pieces)) blank
 
@@ -133,8 +133,8 @@ module _ (file : List ℕ) (b : Bases) (first : ℕ) where
     p = record { kind = kind; address = address; code = part file from n; fields = [] }
 
     -- refused code does not fit
-    unplaced : (fault : Fault) → Unplaced (placeOf b (outline p)) (size p) (limitOf kind) left fault → Misfit b (map outline (p ∷ s .pieces)) fault
-    unplaced fault (ends-high l) = too-high f l
+    unplaced : (fault : Fault) → Unplaced (placeOf b (outline p)) (size p) (limitOf kind) left fault → PiecesUnfit b (map outline (p ∷ s .pieces)) fault
+    unplaced fault (ends-above l) = too-high f l
     unplaced fault (taken l z) =
         let low : placeOf b (outline p) + size p ≤ 65536 = omega (arith, l, limit-le kind) in
         overlaps f l (λ d. false≢true (sym z ∙ apart-clear b (outline p) (s .pieces) (h .inside) low d))
@@ -149,7 +149,7 @@ module _ (file : List ℕ) (b : Bases) (first : ℕ) where
 
   -- fixups
   comes-fixups : (s : Progress) (c : Cursor) (fixup : Fixup) (from n : ℕ) → recordAt file s ≡ Fixups fixup from n
-      → FieldsSound (map outline (stepped file s (Fixups fixup from n) .pieces)) → FitAt b (map outline (s .pieces)) → Tracks file b first c s
+      → FieldsSound (map outline (stepped file s (Fixups fixup from n) .pieces)) → PiecesFit b (map outline (s .pieces)) → Tracks file b first c s
       → Comes (stepped file s (Fixups fixup from n))
   comes-fixups s c fixup from n is h f t =
       let fs = fieldsOf fixup (part file from n) in
@@ -165,7 +165,7 @@ module _ (file : List ℕ) (b : Bases) (first : ℕ) where
       comes-code s c kind address from n is (sound-before file s (Code kind address from n) h) f t (checked file b s _ .answer) refl
   comes-on s (Code kind address from n) is o h (ended m e) = ended (earlier m) e
   comes-on s (Fixups fixup from n) is o h (so-far f c t) = comes-fixups s c fixup from n is h f t
-  comes-on s (Fixups fixup from n) is o h (ended m e) = ended (misfit-fields (fieldsOf fixup (part file from n)) (s .pieces) m) e
+  comes-on s (Fixups fixup from n) is o h (ended m e) = ended (unfit-fields (fieldsOf fixup (part file from n)) (s .pieces) m) e
   comes-on s (End entry next) is o h x = absurd o
   comes-on s (Faulty fault offset) is o h x = absurd o
 
@@ -178,14 +178,14 @@ module _ (file : List ℕ) (b : Bases) (first : ℕ) where
 
 -- what a file with these pieces and this entry comes to at the bases
 pub data Settles (b : Bases) (ps : List Piece) (entry : Entry) : Verdict Piece → Type 0 where
-  fits : Fits b (map outline ps) entry → Settles b ps entry (accepted ps entry)
-  lacks : {fault : Fault} {offset : ℕ} → Lacks b (map outline ps) entry fault → Settles b ps entry (refused fault offset)
+  fits : HandlerFits b (map outline ps) entry → Settles b ps entry (accepted ps entry)
+  unfit : {fault : Fault} {offset : ℕ} → HandlerUnfit b (map outline ps) entry fault → Settles b ps entry (refused fault offset)
 
 module _ (form : Form) (file : List ℕ) (b : Bases) where
   -- at the end record the start decides
   ends-at : (s : Progress) (entry : Entry) → recordAt file s ≡ End entry (length file) → Comes file b (openingSize form) s
       → Settles b (s .pieces) entry (recordsOf file b (openingSize form) .answer)
-  ends-at s entry is (ended m e) = subst (Settles b (s .pieces) entry) (sym e) (lacks (of-pieces m))
+  ends-at s entry is (ended m e) = subst (Settles b (s .pieces) entry) (sym e) (unfit (of-pieces m))
   ends-at s entry is (so-far f c t) = by (checked file b s (marks (events b (s .pieces)) blank) .answer) refl
     where
       by : (v : Check) → checked file b s (marks (events b (s .pieces)) blank) .answer ≡ v
@@ -197,7 +197,7 @@ module _ (form : Form) (file : List ℕ) (b : Bases) where
       by (Failed fault offset) e =
           let x = ending-failed _ b entry (length file) fault offset (end-answers file b s _ entry (length file) is e) in
           subst (Settles b (s .pieces) entry) (sym (stops file b (openingSize form) s c fault offset t e))
-          (lacks (subst (Lacks b (map outline (s .pieces)) entry) (sym (x .0)) (of-start f (x .1))))
+          (unfit (subst (HandlerUnfit b (map outline (s .pieces)) entry) (sym (x .0)) (of-start f (x .1))))
 
   -- a file that holds sound pieces
   pub settles : (ps : List Piece) (entry : Entry) → Holds form file ps entry → FieldsSound (map outline ps) → Settles b ps entry (judged form file b .answer)
@@ -211,24 +211,24 @@ module _ (form : Form) (file : List ℕ) (b : Bases) where
 -- ---- read from either side
 
 module _ {b : Bases} {ps : List Piece} {entry : Entry} where
-  settled-accepts : {v : Verdict Piece} → Settles b ps entry v → Fits b (map outline ps) entry → v ≡ accepted ps entry
+  settled-accepts : {v : Verdict Piece} → Settles b ps entry v → HandlerFits b (map outline ps) entry → v ≡ accepted ps entry
   settled-accepts (fits f) h = refl
-  settled-accepts (lacks l) h = absurd (fits-lacks h l)
+  settled-accepts (unfit l) h = absurd (fits-not-unfit h l)
 
   settled-accepted : {v : Verdict Piece} {qs : List Piece} {other : Entry} → Settles b ps entry v → v ≡ accepted qs other
-      → Fits b (map outline ps) entry × (qs ≡ ps) × (other ≡ entry)
+      → HandlerFits b (map outline ps) entry × (qs ≡ ps) × (other ≡ entry)
   settled-accepted (fits f) e = let x = accepted-same e in (f, sym (x .0), sym (x .1))
-  settled-accepted (lacks l) e = absurd (refused-accepted e)
+  settled-accepted (unfit l) e = absurd (refused-accepted e)
 
-  settled-refuses : {v : Verdict Piece} {fault : Fault} → Settles b ps entry v → Lacks b (map outline ps) entry fault
+  settled-refuses : {v : Verdict Piece} {fault : Fault} → Settles b ps entry v → HandlerUnfit b (map outline ps) entry fault
       → (offset : ℕ) × (v ≡ refused fault offset)
-  settled-refuses (fits f) l = absurd (fits-lacks f l)
-  settled-refuses (lacks {offset = offset} k) l = (offset, ap (λ (g : Fault). refused g offset) (lacks-same k l))
+  settled-refuses (fits f) l = absurd (fits-not-unfit f l)
+  settled-refuses (unfit {offset = offset} k) l = (offset, ap (λ (g : Fault). refused g offset) (unfit-same k l))
 
   settled-refused : {v : Verdict Piece} {fault : Fault} {offset : ℕ} → Settles b ps entry v → v ≡ refused fault offset
-      → Lacks b (map outline ps) entry fault
+      → HandlerUnfit b (map outline ps) entry fault
   settled-refused (fits f) e = absurd (refused-accepted (sym e))
-  settled-refused {fault = fault} (lacks {fault = g} l) e = let k : g ≡ fault = cc in subst (Lacks b (map outline ps) entry) k l
+  settled-refused {fault = fault} (unfit {fault = g} l) e = let k : g ≡ fault = cc in subst (HandlerUnfit b (map outline ps) entry) k l
 
 -- of every file that is accepted at some bases
 pub accepted-where-fits : WhereClaim

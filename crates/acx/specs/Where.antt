@@ -11,42 +11,42 @@ use Rattle.answer.specs.declared.Fault.the-variants.{DoesNotFit, PiecesOverlap,
 use Rattle.events.specs.Lists.{Each}
 use Rattle.pieces.specs.AtBases.{startOf}
 use Rattle.pieces.specs.Pieces.{Piece, Outline, outline, placeOf, limitOf}
-use Rattle.pieces.specs.Places.{PiecesApart, FitAt}
+use Rattle.pieces.specs.Places.{PiecesApart, PiecesFit}
 use Rattle.pieces.specs.declared.Bases.{Bases}
 use Rattle.records.specs.declared.Entry.{Entry}
 use Rattle.acx.specs.Call.{inRange}
 use Rattle.acx.specs.Rules.{Accepts, Refuses}
 
--- The pieces fit at the bases, and the start does.
-pub record Fits (b : Bases) (os : List Outline) (entry : Entry) : Type 0 where
-  pub pieces : FitAt b os
+-- The pieces fit at the bases, and the start does (with flag 0 there is none, and its address is 0).
+pub record HandlerFits (b : Bases) (os : List Outline) (entry : Entry) : Type 0 where
+  pub pieces : PiecesFit b os
   -- "sum ≤ 65,535 for flags 1, 2"
   pub start : address (startOf b entry) ≤ 65535
 
--- The pieces, which stand latest first, do not fit at the bases: the first of them that doesn't, and the first of its checks that fails, "Place + n ≤
--- 65,536, for 0A ≤ 256 (10); no address already placed (17)".
-pub data Misfit (b : Bases) : List Outline → Fault → Type 0 where
-  earlier : {o : Outline} {os : List Outline} {fault : Fault} → Misfit b os fault → Misfit b (o ∷ os) fault
-  too-high : {o : Outline} {os : List Outline} → FitAt b os → limitOf (o .kind) < placeOf b o + o .size → Misfit b (o ∷ os) DoesNotFit
-  overlaps : {o : Outline} {os : List Outline} → FitAt b os → placeOf b o + o .size ≤ limitOf (o .kind) → ¬ Each (PiecesApart b o) os
-      → Misfit b (o ∷ os) PiecesOverlap
+-- The pieces, which stand latest first, do not fit at the bases. The fault is that of the piece that comes first in the file, by the first of its checks
+-- that fails: "Place + n ≤ 65,536, for 0A ≤ 256 (10); no address already placed (17)".
+pub data PiecesUnfit (b : Bases) : List Outline → Fault → Type 0 where
+  earlier : {o : Outline} {os : List Outline} {fault : Fault} → PiecesUnfit b os fault → PiecesUnfit b (o ∷ os) fault
+  too-high : {o : Outline} {os : List Outline} → PiecesFit b os → limitOf (o .kind) < placeOf b o + o .size → PiecesUnfit b (o ∷ os) DoesNotFit
+  overlaps : {o : Outline} {os : List Outline} → PiecesFit b os → placeOf b o + o .size ≤ limitOf (o .kind) → ¬ Each (PiecesApart b o) os
+      → PiecesUnfit b (o ∷ os) PiecesOverlap
 
--- The pieces and the start do not fit, with this fault first: the end record's check comes last, "sum ≤ 65,535 for flags 1, 2 (20)".
-pub data Lacks (b : Bases) (os : List Outline) (entry : Entry) : Fault → Type 0 where
-  of-pieces : {fault : Fault} → Misfit b os fault → Lacks b os entry fault
-  of-start : FitAt b os → 65535 < address (startOf b entry) → Lacks b os entry StartTooHigh
+-- The pieces or the start do not fit, and this is the first fault: the end record's check comes last, "sum ≤ 65,535 for flags 1, 2 (20)".
+pub data HandlerUnfit (b : Bases) (os : List Outline) (entry : Entry) : Fault → Type 0 where
+  of-pieces : {fault : Fault} → PiecesUnfit b os fault → HandlerUnfit b os entry fault
+  of-start : PiecesFit b os → 65535 < address (startOf b entry) → HandlerUnfit b os entry StartTooHigh
 
 -- A file with these pieces and this entry, at bases in their ranges.
-pub record Where (form : ℕ) (file : List ℕ) (ps : List Piece) (entry : Entry) (b : Bases) : Type 0 where
+pub record AcceptedWhere (form : ℕ) (file : List ℕ) (ps : List Piece) (entry : Entry) (b : Bases) : Type 0 where
   -- it is accepted exactly if they fit there, with the same pieces and the same entry
-  pub accepts : Fits b (map outline ps) entry → Accepts form b file ps entry
-  pub accepts-only : (qs : List Piece) (other : Entry) → Accepts form b file qs other → Fits b (map outline ps) entry × (qs ≡ ps) × (other ≡ entry)
-  -- else it is refused with the first of 10 and 17 in file order, then 20
-  pub refuses : (fault : Fault) → Lacks b (map outline ps) entry fault → (offset : ℕ) × Refuses form b file fault offset
-  pub refuses-only : (fault : Fault) (offset : ℕ) → Refuses form b file fault offset → Lacks b (map outline ps) entry fault
+  pub accepts : HandlerFits b (map outline ps) entry → Accepts form b file ps entry
+  pub accepts-only : (qs : List Piece) (other : Entry) → Accepts form b file qs other → HandlerFits b (map outline ps) entry × (qs ≡ ps) × (other ≡ entry)
+  -- it is refused exactly if they do not, with the first of 10 and 17 in file order, then 20 (at which offset, outlines can't say)
+  pub refuses : (fault : Fault) → HandlerUnfit b (map outline ps) entry fault → (offset : ℕ) × Refuses form b file fault offset
+  pub refuses-only : (fault : Fault) (offset : ℕ) → Refuses form b file fault offset → HandlerUnfit b (map outline ps) entry fault
 
 -- The claim: of every file that is accepted at some bases, at every pair of bases in their ranges.
 abbrev pub WhereClaim : Type 0
 WhereClaim =
     (form : ℕ) (file : List ℕ) (a : Bases) (ps : List Piece) (entry : Entry) → Accepts form a file ps entry → (b : Bases) → inRange form b ≡ true
-    → Where form file ps entry b
+    → AcceptedWhere form file ps entry b

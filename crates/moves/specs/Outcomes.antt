@@ -41,7 +41,8 @@ Unaffected Absolute new x p = Each (λ f. ¬ Within (placeOf new p + f .index) (
 -- A call that was accepted with the outcome r: it found memory m, and left m′, the map p′ and the scratch s′.
 pub record AcceptedMove (file : List ℕ) (c : Call) (m : List ℕ) (r : Outcome) (m′ p′ s′ : List ℕ) : Type 0 where
   pub lengths : sized c m ≡ true
-  -- "refused exactly if a load at the old bases, then one at the new, would be": both accept, with the same pieces
+  -- "refused exactly if a load at the old bases, then one at the new, would be": both accept, with the same pieces (here their outlines;
+  -- that the code is the same too is `accepts-only` in Where.antt of acx)
   pub pieces : List Outline
   pub at-old : AcceptedAt file (c .form) pieces (c .old)
   pub at-new : AcceptedAt file (c .form) pieces (c .new)

@@ -8,4 +8,5 @@ pub mod PieceEvents
 pub mod Edits
 pub mod Loads
 pub mod Marks
+-- What passes, and why the rest does not:
 pub mod Passing

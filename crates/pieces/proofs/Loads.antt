@@ -49,12 +49,11 @@ unfoldable pub lay : {A : Type 0} → (A → ℕ) → (A → List ℕ) → List 
 lay at g [] m = m
 lay at g (x ∷ xs) m = put (lay at g xs m) (at x) (g x)
 
--- the things have a place and a size each
-module _ {A : Type 0} (at : A → ℕ) (size : A → ℕ) (g : A → List ℕ) where
-  -- the run of a thing is as long as the thing
-  abbrev pub AsLong : A → Type 0
-  AsLong x = length (g x) ≡ size x
+-- the run of a thing is as long as the thing
+abbrev pub AsLong : {A : Type 0} → (A → ℕ) → (A → List ℕ) → A → Type 0
+AsLong size g x = length (g x) ≡ size x
 
+module _ {A : Type 0} (at : A → ℕ) (g : A → List ℕ) where
   -- nothing gets longer
   pub length-lay : (xs : List A) (m : List ℕ) → length (lay at g xs m) ≡ length m
   unfolding lay
@@ -67,22 +66,24 @@ module _ {A : Type 0} (at : A → ℕ) (size : A → ℕ) (g : A → List ℕ) w
   bytes-lay [] m h i = i
   bytes-lay (x ∷ xs) m h i = bytes-put (lay at g xs m) (at x) (g x) (h .0) (bytes-lay xs m (h .1) i)
 
+-- the things have a place and a size each
+module _ {A : Type 0} (at : A → ℕ) (size : A → ℕ) (g : A → List ℕ) where
   -- an address in no place keeps its byte
-  pub lay-outside : (xs : List A) (m : List ℕ) (i : ℕ) → Each AsLong xs → Each (λ x. ¬ Within (at x) (size x) i) xs
+  pub lay-outside : (xs : List A) (m : List ℕ) (i : ℕ) → Each (AsLong size g) xs → Each (λ x. ¬ Within (at x) (size x) i) xs
       → getD (lay at g xs m) i 0 ≡ getD m i 0
   unfolding lay
   lay-outside [] m i s h = refl
   lay-outside (x ∷ xs) m i s h = put-outside (lay at g xs m) (at x) (g x) i (rw (s .0) (h .0)) ∙ lay-outside xs m i (s .1) (h .1)
 
   -- at each of places that lie apart stands its run
-  pub lay-parts : (xs : List A) (m : List ℕ) → Each AsLong xs → Each (λ x. at x + size x ≤ length m) xs
+  pub lay-parts : (xs : List A) (m : List ℕ) → Each (AsLong size g) xs → Each (λ x. at x + size x ≤ length m) xs
       → Pairwise (λ x y. Apart (at x) (size x) (at y) (size y)) xs
       → Each (λ x. part (lay at g xs m) (at x) (size x) ≡ g x) xs
   unfolding lay
   lay-parts [] m s f d = tt
   lay-parts (x ∷ xs) m s f d =
       let l : List ℕ = lay at g xs m in
-      let n : length l ≡ length m = length-lay xs m in
+      let n : length l ≡ length m = length-lay at g xs m in
       let t : length (g x) ≡ size x = s .0 in (
         ap (λ (k : ℕ). part (put l (at x) (g x)) (at x) k) (sym t) ∙ part-put l (at x) (g x) (rw (t, n) (f .0)),
         each-zip3
@@ -104,13 +105,13 @@ sizeOf o = o .size
 abbrev pub loaded : Bases → Piece → List ℕ
 loaded b p = edited (added b) (p .fields) (p .code)
 
--- the pieces' places
-abbrev pub places : Bases → Piece → ℕ
-places b p = placeOf b (outline p)
+-- where a piece goes
+abbrev pub pieceAt : Bases → Piece → ℕ
+pieceAt b p = placeOf b (outline p)
 
 -- memory with the pieces in it
 abbrev pub laid : Bases → List Piece → List ℕ → List ℕ
-laid b ps m = lay (places b) (loaded b) ps m
+laid b ps m = lay (pieceAt b) (loaded b) ps m
 
 module _ (b : Bases) where
   -- a piece as it is loaded has its length
@@ -119,7 +120,7 @@ module _ (b : Bases) where
 
   -- memory stays as long as it was
   pub length-laid : (ps : List Piece) (m : List ℕ) → length (laid b ps m) ≡ length m
-  length-laid ps m = length-lay (places b) size (loaded b) ps m
+  length-laid ps m = length-lay (pieceAt b) (loaded b) ps m
 
   -- the events of pieces that fit leave the pieces in memory
   pub play-laid : (ps : List Piece) (m : List ℕ) → Each (Fits b (length m)) (map outline ps)
@@ -128,36 +129,36 @@ module _ (b : Bases) where
   unfolding events play lay
   play-laid [] m f i = refl
   play-laid (p ∷ ps) m f i =
-      let es = adjustments b (places b p) (p .fields) in
-      play-append (events b ps) (place (places b p) (p .code) ∷ es) m
-      ∙ ap (λ (t : List ℕ). play es (put t (places b p) (p .code))) (play-laid ps m (f .1) (i .1))
-      ∙ play-adjustments b (p .fields) (places b p) (p .code) (laid b ps m) (i .0) (rw (length-laid ps m) (f .0))
+      let es = adjustments b (pieceAt b p) (p .fields) in
+      play-append (events b ps) (place (pieceAt b p) (p .code) ∷ es) m
+      ∙ ap (λ (t : List ℕ). play es (put t (pieceAt b p) (p .code))) (play-laid ps m (f .1) (i .1))
+      ∙ play-adjustments b (p .fields) (pieceAt b p) (p .code) (laid b ps m) (i .0) (rw (length-laid ps m) (f .0))
 
   -- an address in no piece's place keeps its byte
   pub laid-outside : (ps : List Piece) (m : List ℕ) (x : ℕ) → Each (λ o. ¬ Placed b x o) (map outline ps)
       → getD (laid b ps m) x 0 ≡ getD m x 0
   laid-outside ps m x h =
-      lay-outside (places b) size (loaded b) ps m x (each-all length-loaded ps) (each-image outline (λ o. ¬ Placed b x o) ps h)
+      lay-outside (pieceAt b) size (loaded b) ps m x (each-all length-loaded ps) (each-image outline (λ o. ¬ Placed b x o) ps h)
 
   module _ (ps : List Piece) (m : List ℕ) (f : Each (Fits b (length m)) (map outline ps)) (d : Pairwise (PiecesApart b) (map outline ps)) where
     -- each piece stands at its place as it is loaded
-    pub laid-parts : Each (λ p. part (laid b ps m) (places b p) (size p) ≡ loaded b p) ps
+    pub laid-parts : Each (λ p. part (laid b ps m) (pieceAt b p) (size p) ≡ loaded b p) ps
     laid-parts =
-        lay-parts (places b) size (loaded b) ps m (each-all length-loaded ps) (each-image outline (Fits b (length m)) ps f)
+        lay-parts (pieceAt b) size (loaded b) ps m (each-all length-loaded ps) (each-image outline (Fits b (length m)) ps f)
         (pairwise-image outline (PiecesApart b) ps d)
 
     -- a byte in no field stands as the code has it
     pub laid-plain : Each
-        (λ p. (j : ℕ) → j < size p → Each (λ f. ¬ In j f) (p .fields) → getD (laid b ps m) (places b p + j) 0 ≡ getD (p .code) j 0) ps
+        (λ p. (j : ℕ) → j < size p → Each (λ f. ¬ In j f) (p .fields) → getD (laid b ps m) (pieceAt b p + j) 0 ≡ getD (p .code) j 0) ps
     laid-plain =
         each-map
-        (λ p e j h w. sym (part-at (laid b ps m) (places b p) (size p) j h) ∙ ap (λ (l : List ℕ). getD l j 0) e
+        (λ p e j h w. sym (part-at (laid b ps m) (pieceAt b p) (size p) j h) ∙ ap (λ (l : List ℕ). getD l j 0) e
         ∙ edited-plain (added b) (p .fields) (p .code) j w)
         ps laid-parts
 
     -- each field has its amount on
     pub laid-fields : FieldsSound (map outline ps)
-        → Each (λ p. Each (λ f. value (width f) (laid b ps m) (places b p + f .index)
+        → Each (λ p. Each (λ f. value (width f) (laid b ps m) (pieceAt b p + f .index)
         ≡ on (width f) (amountOf b f) (value (width f) (p .code) (f .index))) (p .fields)) ps
     laid-fields s =
         each-zip3 one ps
@@ -167,11 +168,11 @@ module _ (b : Bases) where
       where
         -- a piece that fits, with its fields inside
         one : (p : Piece) → Fits b (length m) (outline p) × Each (Inside (size p)) (p .fields) → Pairwise FieldsApart (p .fields)
-            → part (laid b ps m) (places b p) (size p) ≡ loaded b p
-            → Each (λ f. value (width f) (laid b ps m) (places b p + f .index)
+            → part (laid b ps m) (pieceAt b p) (size p) ≡ loaded b p
+            → Each (λ f. value (width f) (laid b ps m) (pieceAt b p + f .index)
             ≡ on (width f) (amountOf b f) (value (width f) (p .code) (f .index))) (p .fields)
         one p h a e =
             each-zip
-            (λ f i v. sym (value-part (width f) (laid b ps m) (places b p) (size p) (f .index) (rw (length-laid ps m) (h .0)) i)
+            (λ f i v. sym (value-part (width f) (laid b ps m) (pieceAt b p) (size p) (f .index) (rw (length-laid ps m) (h .0)) i)
             ∙ ap (λ (l : List ℕ). value (width f) l (f .index)) e ∙ v)
             (p .fields) (h .1) (edited-each (added b) (added-fits b) (p .fields) (p .code) (h .1) a)

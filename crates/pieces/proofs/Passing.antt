@@ -1,5 +1,5 @@
 -- What passes a record's checks: code where there is room and nothing placed, and fields that lie in the code, apart from each other and from all that
--- are marked. The other direction of `code-apart` and `fields-fresh`.
+-- are marked (the other direction of `code-apart` and `fields-fresh`); and why code or an end record is refused.
 -- Assumes nothing.
 use mathlib.Core.Bool.{Bool, true, false}
 use mathlib.Core.List.{List, [], _∷_, map}
@@ -33,7 +33,7 @@ use Rattle.pieces.specs.declared.Bases.{Bases}
 
 -- why code was refused: it ends above its limit, or an address is placed already
 pub data Unplaced (a n limit : ℕ) (p : List ℕ) : Fault → Type 0 where
-  too-high : limit < a + n → Unplaced a n limit p DoesNotFit
+  ends-above : limit < a + n → Unplaced a n limit p DoesNotFit
   taken : a + n ≤ limit → allZero (part p a n) ≡ false → Unplaced a n limit p PiecesOverlap
 
 pub placing-failed : (at a limit : ℕ) (code p : List ℕ) (fault : Fault) (offset : ℕ) → placing at a limit code p .answer ≡ Failed fault offset
@@ -49,7 +49,7 @@ placing-failed at a limit code p fault offset e = by (leb (a + length code) limi
         → Unplaced a (length code) limit p fault
     by true true f g e = absurd (failed-passed (sym e))
     by true false f g e = same (taken (leb-true _ _ f) g) e
-    by false t f g e = same (too-high (leb-false _ _ f)) e
+    by false t f g e = same (ends-above (leb-false _ _ f)) e
 
 -- where a piece lies apart from all that were placed, the map is clear
 pub apart-clear : (b : Bases) (o : Outline) (ps : List Piece) → Each (λ q. Each (Inside (q .size)) (q .fields)) (map outline ps)

@@ -29,21 +29,21 @@ PiecesApart b o q = Apart (placeOf b o) (o .size) (placeOf b q) (q .size)
 abbrev pub FieldsApart : Field → Field → Type 0
 FieldsApart f g = Apart (f .index) (width f) (g .index) (width g)
 
--- What bases decide: the pieces fit there.
-pub record FitAt (b : Bases) (os : List Outline) : Type 0 where
+-- The pieces fit at the bases and lie apart.
+pub record PiecesFit (b : Bases) (os : List Outline) : Type 0 where
   -- each lies in memory, in zero page if that is its kind
   pub below : Each (λ o. placeOf b o + o .size ≤ limitOf (o .kind)) os
   -- no two share an address
   pub apart : Pairwise (PiecesApart b) os
 
--- What no base decides: the pieces have sound fields.
+-- Their fields lie inside them and apart, whatever the bases.
 pub record FieldsSound (os : List Outline) : Type 0 where
   -- fields lie inside their piece
   pub inside : Each (λ o. Each (Inside (o .size)) (o .fields)) os
   -- no byte is in two of them
   pub distinct : Each (λ o. Pairwise FieldsApart (o .fields)) os
 
--- The pieces of an accepted file are both.
+-- Both hold of the pieces of an accepted file.
 pub record WellPlaced (b : Bases) (os : List Outline) : Type 0 where
-  pub fit : FitAt b os
+  pub fit : PiecesFit b os
   pub sound : FieldsSound os
