@@ -1,8 +1,8 @@
--- A check that was passed.
+-- A check that was passed, and one that was not.
 -- Assumes nothing.
 use mathlib.Core.Bool.{Bool, true, false}
-use mathlib.Core.List.{List}
-use mathlib.Core.Path.{_≡_, refl, ap, _∙_}
+use mathlib.Core.List.{List, []}
+use mathlib.Core.Path.{_≡_, refl, sym, ap, _∙_}
 use Prim.Native.Nat.{ℕ}
 use native.Mathlib.Omega.{arith}
 use Rattle.answer.specs.Checks.{need}
@@ -32,3 +32,16 @@ pub need-passed : (c : Bool) (fault : Fault) (offset : ℕ) (o : Ran Check) → 
 unfolding need
 need-passed true fault offset o e = (refl, refl)
 need-passed false fault offset o e = absurd (failed-passed e)
+
+-- what does nothing where it is refused does nothing with a check before it either
+pub need-refused : {fault : Fault} {offset : ℕ} (c : Bool) (f : Fault) (i : ℕ) (o : Ran Check)
+    → (o .answer ≡ Failed fault offset → o .events ≡ [])
+    → need failed c f i o .answer ≡ Failed fault offset
+    → need failed c f i o .events ≡ []
+unfolding need
+need-refused true f i o h e = h e
+need-refused false f i o h e = refl
+
+-- and what passes is not refused
+pub passed-refused : {fault : Fault} {offset : ℕ} (es : List Event) → passed es .answer ≡ Failed fault offset → passed es .events ≡ []
+passed-refused es e = absurd (failed-passed (sym e))

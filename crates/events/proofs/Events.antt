@@ -12,7 +12,7 @@ use Rattle.words.proofs.Lent.{lent-is, back-is}
 use Rattle.words.proofs.Runs.{length-put, put-outside, put-inside, length-part}
 use Rattle.words.specs.Numbers.{on, change}
 use Rattle.words.specs.Runs.{Within, put}
-use Rattle.events.specs.Events.{Event, place, reserve, adjust, playOne, play, markOne, marks, blank, placedIn, adjustedIn, Ran, playIf, Reached, Did}
+use Rattle.events.specs.Events.{Event, place, reserve, adjust, playOne, play, markOne, marks, blank, placedIn, adjustedIn, Ran, playIf, Reached, Noted, Did}
 
 -- ---- one list after another
 
@@ -80,6 +80,21 @@ reached-none false m p = record { memory = refl; map = refl }
 pub did-none : {A : Type 0} (a : A) (write : Bool) (m p : List ℕ) → Did A (record { answer = a; events = [] }) write m p a m p
 did-none a write m p = record { answer = refl; reached = reached-none write m p }
 
+pub noted-none : {A : Type 0} (a : A) (p : List ℕ) → Noted A (record { answer = a; events = [] }) p a p
+unfolding marks
+noted-none a p = record { answer = refl; map = refl }
+
+-- a part of the work done in the map alone, with its events carried out in memory
+pub did-noted : {A : Type 0} {o : Ran A} {es : List Event} {write : Bool} {m p m′ p′ : List ℕ} {r s : A} → Noted A o p r p′ → r ≡ s
+    → o .events ≡ es
+    → m′ ≡ playIf write es m
+    → Did A o write m p s m′ p′
+did-noted {write = write} {m = m} n e f g =
+    record {
+      answer = sym e ∙ n .answer;
+      reached = record { memory = g ∙ ap (λ (l : List Event). playIf write l m) (sym f); map = n .map };
+    }
+
 -- a part of the work after some events
 pub reached-more : {A : Type 0} (es : List Event) (write : Bool) (m₀ p₀ m p m′ p′ : List ℕ) (o : Ran A) (r : A) → Reached es write m₀ p₀ m p
     → Did A o write m p r m′ p′ → Reached (es ++ o .events) write m₀ p₀ m′ p′
@@ -142,9 +157,10 @@ filled a n v p w h e =
     rw e′ (back-is a n p (replicate n v) h (length-run n v))
 
 -- a part of memory that bytes were copied into
-copied : (a : ℕ) (bytes m w : List ℕ) → a + length bytes ≤ length m → w ≡ bytes → putMid a (a + length bytes - a) m w ≡ play (place a bytes ∷ []) m
+pub copied : (a : ℕ) (bytes m w : List ℕ) (write : Bool) → write ≡ true → a + length bytes ≤ length m → w ≡ bytes
+    → putMid a (a + length bytes - a) m w ≡ playIf write (place a bytes ∷ []) m
 unfolding play
-copied a bytes m w h e = rw e (back-is a (length bytes) m bytes h refl)
+copied a bytes m w write t h e = rw (t, e) (back-is a (length bytes) m bytes h refl)
 
 -- ---- one event, carried out in the map alone and in both
 
@@ -158,7 +174,7 @@ module _ (a : ℕ) (bytes : List ℕ) {m p w : List ℕ} (inside : a + length by
   pub place-written : {write : Bool} {v : List ℕ} → write ≡ true → a + length bytes ≤ length m → v ≡ bytes
       → Reached (place a bytes ∷ []) write m p (putMid a (a + length bytes - a) m v) (putMid a (a + length bytes - a) p w)
   unfolding marks
-  place-written t h e = record { memory = rw t (copied a bytes m _ h e); map = filled a (length bytes) 1 p w inside marked }
+  place-written t h e = record { memory = copied a bytes m _ _ t h e; map = filled a (length bytes) 1 p w inside marked }
 
 -- addresses reserved: marked, and nothing else in any case
 pub reserve-marked : (a n : ℕ) (p w : List ℕ) → a + n ≤ length p → w ≡ replicate (length (midOf a (a + n - a) p)) 2

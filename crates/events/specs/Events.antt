@@ -90,6 +90,11 @@ pub record Reached (es : List Event) (write : Bool) (m p m′ p′ : List ℕ) :
   pub memory : m′ ≡ playIf write es m
   pub map : p′ ≡ marks es p
 
+-- The contract of a function that does a part of the work in the map alone: where it found the map p, it answers r and leaves p′ as o says.
+pub record Noted (A : Type 0) (o : Ran A) (p : List ℕ) (r : A) (p′ : List ℕ) : Type 0 where
+  pub answer : r ≡ o .answer
+  pub map : p′ ≡ marks (o .events) p
+
 -- The contract of every function that does a part of the work: where it found memory m and the map p, it answers r and leaves m′ and p′ as
 -- o says.
 pub record Did (A : Type 0) (o : Ran A) (write : Bool) (m p : List ℕ) (r : A) (m′ p′ : List ℕ) : Type 0 where

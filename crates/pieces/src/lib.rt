@@ -10,9 +10,9 @@ use records::Record;
 ghost use mathlib.Core.List.{[], _∷_};
 ghost use mathlib.Core.Path.{_≡_};
 ghost use Prim.Native.Nat.{_+_, _<_, _≤_};
-ghost use lib.ListN.{length};
+ghost use lib.ListN.{length, replicate};
 ghost use Rattle.answer.specs.Report.{address as addressOf};
-ghost use Rattle.events.specs.Events.{playIf, Did};
+ghost use Rattle.events.specs.Events.{place as placement, playIf, Noted, Did};
 ghost use Rattle.fields.specs.Fields.{itemSize, fieldsOf};
 ghost use Rattle.pieces.specs.Pieces.{placeAt, limitOf, amountOf, adjustment};
 ghost use Rattle.pieces.specs.Places.{Inside};
@@ -130,7 +130,21 @@ fn place_code(
     requires { ⌜ (place ≤ 131070) × (length (now code) ≤ 65536) × (limit ≤ 65536) × (length (now memory) ≡ 65536) × (length (now map) ≡ 65536) ⌝ }
     ensures { λ r. ⌜ Did Check (placing at place limit (now (code .entry)) (now (map .entry))) write (now (memory .entry)) (now (map .entry)) r (now (memory .exit)) (now (map .exit)) ⌝ }
 {
-    let end = place + code.len();
+    let check = mark_code(at, place, code.len(), limit, map);
+    if let Check::Failed(fault, offset) = check {
+        return Check::Failed(fault, offset);
+    }
+    write_code(code, place, write, memory);
+    Check::Passed
+}
+
+// Marks `size` code bytes at `place` in the map, whose address stands at `at`, if they end within their limit and no address there is placed
+// already. Of code only the length is looked at.
+fn mark_code(at: usize, place: usize, size: usize, limit: usize, map: &mut [u8]) -> Check
+    requires { ⌜ (place ≤ 131070) × (size ≤ 65536) × (limit ≤ 65536) × (length (now map) ≡ 65536) ⌝ }
+    ensures { λ r. ⌜ Noted Check (placing at place limit (replicate size 0) (now (map .entry))) (now (map .entry)) r (now (map .exit)) ⌝ }
+{
+    let end = place + size;
     if limit < end {
         return Check::Failed(Fault::DoesNotFit, at);
     }
@@ -138,8 +152,19 @@ fn place_code(
     if !free {
         return Check::Failed(Fault::PiecesOverlap, at);
     }
-    events::place(code, place, write, memory, map);
+    words::fill(&mut map[place..end], events::PLACED);
     Check::Passed
+}
+
+// Writes code at `place` in memory, where `write` is true.
+fn write_code(code: &[u8], place: usize, write: bool, memory: &mut [u8])
+    requires { ⌜ place + length (now code) ≤ length (now memory) ⌝ }
+    ensures { λ _. ⌜ now (memory .exit) ≡ playIf write (placement place (now (code .entry)) ∷ []) (now (memory .entry)) ⌝ }
+{
+    if write {
+        let end = place + code.len();
+        words::copy(&mut memory[place..end], code);
+    }
 }
 
 // Adjusts the fields of the `size` code bytes at `place` that a fixup record lists, one by one. Its items stand from `from` on.
@@ -185,6 +210,20 @@ fn adjust_field(
     requires { ⌜ (field .index < 256) × (field .lsb < 256) × (place + size ≤ 65536) × (length (now memory) ≡ 65536) × (length (now map) ≡ 65536) ⌝ }
     ensures { λ r. ⌜ Did Check (adjusting at 0 bases place size (field ∷ []) (now (map .entry))) write (now (memory .entry)) (now (map .entry)) r (now (memory .exit)) (now (map .exit)) ⌝ }
 {
+    let check = mark_field(field, at, place, size, map);
+    if let Check::Failed(fault, offset) = check {
+        return Check::Failed(fault, offset);
+    }
+    write_field(field, bases, place, size, write, memory);
+    Check::Passed
+}
+
+// Marks a field of the `size` code bytes at `place` in the map, if it lies inside and no byte of it was adjusted before. The item that lists it
+// stands at `at`. No base is looked at.
+fn mark_field(field: Field, at: usize, place: usize, size: usize, map: &mut [u8]) -> Check
+    requires { ⌜ (field .index < 256) × (place + size ≤ 65536) × (length (now map) ≡ 65536) ⌝ }
+    ensures { λ r. ⌜ ((bases : Bases) → Noted Check (adjusting at 0 bases place size (field ∷ []) (now (map .entry))) (now (map .entry)) r (now (map .exit))) ⌝ }
+{
     let fixup = field.fixup;
     let width = fields::width(fixup);
     if size < field.index + width {
@@ -197,7 +236,6 @@ fn adjust_field(
         return Check::Failed(Fault::AdjustedTwice, at);
     }
     words::fill(&mut map[address..past], events::ADJUSTED);
-    write_field(field, bases, place, size, write, memory);
     Check::Passed
 }
 

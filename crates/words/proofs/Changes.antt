@@ -6,7 +6,7 @@ use Prim.Native.Nat.{ℕ, _+_, _%_, _^_, _≤_, _<_}
 use native.Mathlib.Omega.{arith}
 use lib.ListN.{length, getD, set}
 use Rattle.words.proofs.Numbers.{length-digits, bytes-digits, number-digits, number-lt, digits-number, value-byte}
-use Rattle.words.proofs.Runs.{length-put, put-outside, put-comm, put-put, put-part, put-in-put, length-part, part-agrees, part-put, part-put-apart, part-part, put-inside, bytes-put, bytes-part}
+use Rattle.words.proofs.Runs.{length-put, put-outside, put-comm, put-put, put-part, put-in-put, length-part, part-agrees, part-put-long, part-put-apart, part-part, put-inside, bytes-put, bytes-part}
 use Rattle.words.specs.Numbers.{number, digits, value, store, change}
 use Rattle.words.specs.Runs.{Bytes, Within, Apart, part, put}
 
@@ -38,8 +38,7 @@ store-outside k l i v x h = put-outside l i (digits k v) x (rw length-digits h)
 -- what was stored is read back: its bytes, and the number where k bytes can hold it
 pub part-store : (k : ℕ) (l : List ℕ) (i v : ℕ) → i + k ≤ length l → part (store k l i v) i k ≡ digits k v
 unfolding store
-part-store k l i v f =
-    ap (λ (n : ℕ). part (put l i (digits k v)) i n) (sym (length-digits k v)) ∙ part-put l i (digits k v) (rw length-digits f)
+part-store k l i v f = part-put-long l i (digits k v) k (length-digits k v) f
 
 pub value-store : (k : ℕ) (l : List ℕ) (i v : ℕ) → i + k ≤ length l → v < 256 ^ k → value k (store k l i v) i ≡ v
 unfolding value

@@ -2,5 +2,6 @@
 pub mod Runs
 pub mod Numbers
 pub mod Changes
+pub mod Big
 pub mod Lent
 pub mod Turns

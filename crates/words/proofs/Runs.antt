@@ -99,6 +99,10 @@ part-put l a bs f =
     (λ k h. let h′ : k < length bs = rw (length-part (put l a bs) a (length bs) g) at h in
     part-at (put l a bs) a (length bs) k h′ ∙ put-inside l a bs k f h′)
 
+-- also where its length is known as another number
+pub part-put-long : (l : List ℕ) (a : ℕ) (bs : List ℕ) (n : ℕ) → length bs ≡ n → a + n ≤ length l → part (put l a bs) a n ≡ bs
+part-put-long l a bs n e f = ap (λ (k : ℕ). part (put l a bs) a k) (sym e) ∙ part-put l a bs (rw e f)
+
 -- a run that lies apart reads as before
 pub part-put-apart : (l : List ℕ) (a : ℕ) (bs : List ℕ) (c n : ℕ) → c + n ≤ length l → Apart a (length bs) c n
     → part (put l a bs) c n ≡ part l c n
@@ -175,8 +179,7 @@ put-append l a (x ∷ xs) ys = ap (λ (i : ℕ). put (put (set l a x) (suc a) xs
 
 -- the front of a room holds what was written there
 pub front-holds : (room written l : List ℕ) (n : ℕ) → l ≡ put room 0 written → length written ≡ n → n ≤ length room → part l 0 n ≡ written
-front-holds room written l n e f h =
-    rw e (ap (λ (k : ℕ). part (put room 0 written) 0 k) (sym f) ∙ part-put room 0 written (omega (arith, f)))
+front-holds room written l n e f h = rw e (part-put-long room 0 written n f (omega arith))
 
 -- a run written inside one that was written
 pub put-in-put : (l : List ℕ) (a : ℕ) (bs : List ℕ) (i : ℕ) (cs : List ℕ) → i + length cs ≤ length bs

@@ -1,7 +1,7 @@
--- Numbers of k bytes, low byte first ("two-byte numbers in files are low byte first"), and adjusting one.
+-- Numbers of k bytes, low byte first ("two-byte numbers in files are low byte first"), or high byte first; and adjusting one.
 -- Everything is said over the width k: a byte is k = 1, a word k = 2, a number of the answer k = 4.
 -- Assumes nothing.
-use mathlib.Core.List.{List, [], _∷_, _++_}
+use mathlib.Core.List.{List, [], _∷_, _++_, reverse}
 use Prim.Native.Nat.{ℕ, zero, suc, _+_, _-_, _*_, _/_, _%_, _^_}
 use Rattle.words.specs.Runs.{part, put}
 
@@ -22,6 +22,18 @@ value k l i = number (part l i k)
 -- l with v in those k bytes
 unfoldable pub store : ℕ → List ℕ → ℕ → ℕ → List ℕ
 store k l i v = put l i (digits k v)
+
+-- the k low bytes of v, high byte first
+unfoldable pub bigDigits : ℕ → ℕ → List ℕ
+bigDigits k v = reverse (digits k v)
+
+-- the number in the k bytes of l from i on, high byte first
+unfoldable pub bigValue : ℕ → List ℕ → ℕ → ℕ
+bigValue k l i = number (reverse (part l i k))
+
+-- l with v in those k bytes, high byte first
+unfoldable pub bigStore : ℕ → List ℕ → ℕ → ℕ → List ℕ
+bigStore k l i v = put l i (bigDigits k v)
 
 -- v with the amount a on, "modulo 65,536 for words, 256 for bytes"
 unfoldable pub on : ℕ → ℕ → ℕ → ℕ

@@ -1,11 +1,11 @@
-// Bytes and words in a buffer, low byte first: reading, storing, filling, copying, adjusting.
+// Bytes and words in a buffer: reading, storing, filling, copying, adjusting. Words are low byte first, but for `big_word_at` and `put_big_word`.
 // A leaf: it knows no file format. Each `requires` is a bound that the caller has looked at; the crates above know these functions only by
 // what they promise, in the terms of specs/.
 ghost use mathlib.Core.Path.{_≡_};
 ghost use Prim.Native.Nat.{_+_, _*_, _/_, _<_, _≤_, _^_};
 ghost use lib.ListN.{length, replicate};
 ghost use Rattle.words.specs.Runs.{put, allZero, contains as containsOf};
-ghost use Rattle.words.specs.Numbers.{value, store, on, off, change, encoded, decoded};
+ghost use Rattle.words.specs.Numbers.{value, store, bigValue, bigStore, on, off, change, encoded, decoded};
 
 // A byte as a `usize`: the one place that gives the bound which a cast of a byte asks for.
 pub fn wide(byte: u8) -> usize
@@ -22,6 +22,16 @@ pub fn word_at(bytes: &[u8], at: usize) -> u16
     let low = wide(bytes[at]);
     let high = wide(bytes[at + 1]);
     (low + 256 * high) as u16
+}
+
+// The word at `at`, high byte first.
+pub fn big_word_at(bytes: &[u8], at: usize) -> u16
+    requires { ⌜ at + 2 ≤ length (now bytes) ⌝ }
+    ensures { λ r. ⌜ r ≡ bigValue 2 (now (bytes .entry)) at ⌝ }
+{
+    let high = wide(bytes[at]);
+    let low = wide(bytes[at + 1]);
+    (256 * high + low) as u16
 }
 
 // Whether every byte is zero.
@@ -59,6 +69,15 @@ pub fn put_word(bytes: &mut [u8], at: usize, word: u16)
 {
     bytes[at] = (word % 256) as u8;
     bytes[at + 1] = (word / 256 % 256) as u8;
+}
+
+// Puts the word into the two bytes at `at`, in which it has room, high byte first.
+pub fn put_big_word(bytes: &mut [u8], at: usize, word: u16)
+    requires { ⌜ at + 2 ≤ length (now bytes) ⌝ }
+    ensures { λ _. ⌜ (now (bytes .exit) ≡ bigStore 2 (now (bytes .entry)) at word) × (word < 256 ^ 2) ⌝ }
+{
+    bytes[at] = (word / 256 % 256) as u8;
+    bytes[at + 1] = (word % 256) as u8;
 }
 
 // Puts the number into the four bytes at `at`, in which it has room.

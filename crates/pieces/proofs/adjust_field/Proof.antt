@@ -1,64 +1,31 @@
--- `pieces::adjust_field` meets its contract: the index and the map decide as the definition says, and the part of the map that is lent comes
--- back marked.
+-- `pieces::adjust_field` meets its contract: the field is marked, and written where its marks were not refused.
 -- Assumes nothing.
-use mathlib.Core.Path.{sym, _∙_}
-use native.Mathlib.Omega.{arith}
 use borrow.Author.Needs.{needs}
-use Rattle.pieces.proofs.Checks.{adjusting-outside, adjusting-twice, adjusting-done}
+use Rattle.pieces.proofs.Checks.{adjusting-refused, adjusting-inside, adjusting-done}
 use Rattle.pieces.proofs.adjust_field.Statement.{statement}
 use Rattle.pieces.proofs.adjust_field.Tie as tie
 
-width-requires : tie.Need-width-requires
-width-requires c κs = search needs
+mark-field-requires : tie.Need-mark-field-requires
+mark-field-requires c κs = search needs
 
-add-if1 : tie.Need-add-if1
-add-if1 c =
-    let s = c .before .before .before .before in
-    omega (arith, s .pre, c .before .width .ensures)
-
-returns : tie.Need-returns
-returns c = adjusting-outside _ _ _ _ _ _ _ _ _ (c .before .before .width .ensures .0) (c .if1 .taken)
-
-add-address : tie.Need-add-address
-add-address c = search needs
-
-add-past : tie.Need-add-past
-add-past c = search needs
-
-sub-contains : tie.Need-sub-contains
-sub-contains c = search needs
-
-part-contains-start : tie.Need-part-contains-start
-part-contains-start c = search needs
-
-part-contains-end : tie.Need-part-contains-end
-part-contains-end c = search needs
-
-contains-requires : tie.Need-contains-requires
-contains-requires c κs = search needs
+enum-known-check : tie.Need-enum-known-check
+enum-known-check c = search needs
 
 same-length : tie.Need-same-length
 same-length c = search needs
 
-returns-2 : tie.Need-returns-2
-returns-2 c =
-    let i = c .before .before .before .before .before in
-    adjusting-twice _ _ _ _ _ _ _ _ _ (i .before .before .width .ensures .0) (i .if1 .left) (sym (c .before .contains .ensures) ∙ c .if2 .taken)
+returns : tie.Need-returns
+returns c = adjusting-refused _ _ _ _ _ _ _ _ (c .before .before .before .before .before .mark-field .ensures _) (c .before .check .given .1)
 
-sub-fill : tie.Need-sub-fill
-sub-fill c = search needs
-
-part-fill-start : tie.Need-part-fill-start
-part-fill-start c = search needs
-
-part-fill-end : tie.Need-part-fill-end
-part-fill-end c = search needs
-
-fill-requires : tie.Need-fill-requires
-fill-requires c κs = search needs
+enum-told : tie.Need-enum-told
+enum-told c = search needs
 
 write-field-requires : tie.Need-write-field-requires
-write-field-requires c κs = search needs
+write-field-requires c κs =
+    let t = c .before in
+    let k = t .before .before .before .before in
+    let s = k .before .before .before .before in
+    (s .pre .1, adjusting-inside _ _ _ _ _ _ _ _ (k .mark-field .ensures (s .args .bases)) (t .enum-told .given .1), search needs)
 
 same-length-2 : tie.Need-same-length-2
 same-length-2 c = search needs
@@ -66,35 +33,22 @@ same-length-2 c = search needs
 same-length-3 : tie.Need-same-length-3
 same-length-3 c = search needs
 
-returns-3 : tie.Need-returns-3
-returns-3 c =
-    let f = c .before .before .before .before .before .before in
-    let t = f .before .before in
-    let i = t .before .before .before .before .before in
-    let s = i .before .before .before .before .before in
-    adjusting-done _ _ _ _ _ _ _ _ _ (i .before .before .width .ensures .0) _ _ (i .if1 .left) (omega (arith, s .pre, i .if1 .left))
-    (sym (t .before .contains .ensures) ∙ t .if2 .left) (f .fill .ensures) (c .before .before .write-field .ensures)
+returns-2 : tie.Need-returns-2
+returns-2 c =
+    let w = c .before .before in
+    let t = w .before .before in
+    adjusting-done _ _ _ _ _ _ _ _ (t .before .before .before .before .mark-field .ensures _) (t .enum-told .given .1) (w .write-field .ensures)
 
 pub adjust-field-spec : {M : Type 1} → statement M
 adjust-field-spec =
     tie.close
     (tie.spec
-    width-requires
-    add-if1
-    returns
-    add-address
-    add-past
-    sub-contains
-    part-contains-start
-    part-contains-end
-    contains-requires
+    mark-field-requires
+    enum-known-check
     same-length
-    returns-2
-    sub-fill
-    part-fill-start
-    part-fill-end
-    fill-requires
+    returns
+    enum-told
     write-field-requires
     same-length-2
     same-length-3
-    returns-3)
+    returns-2)
