@@ -45,7 +45,8 @@ pub record AcceptedWhere (form : ℕ) (file : List ℕ) (ps : List Piece) (entry
   pub refuses : (fault : Fault) → HandlerUnfit b (map outline ps) entry fault → (offset : ℕ) × Refuses form b file fault offset
   pub refuses-only : (fault : Fault) (offset : ℕ) → Refuses form b file fault offset → HandlerUnfit b (map outline ps) entry fault
 
--- The claim: of every file that is accepted at some bases, at every pair of bases in their ranges.
+-- The claim: of every file that is accepted at some bases, at every pair of bases in their ranges. (That calls answer as `Accepts` and `Refuses` say
+-- stands in Demand2.antt, `Exactly`, and in Refusals.antt.)
 abbrev pub WhereClaim : Type 0
 WhereClaim =
     (form : ℕ) (file : List ℕ) (a : Bases) (ps : List Piece) (entry : Entry) → Accepts form a file ps entry → (b : Bases) → inRange form b ≡ true

@@ -10,7 +10,7 @@ use Rattle.events.specs.Lists.{Each, Pairwise}
 use Rattle.fields.specs.declared.Field.{Field}
 use Rattle.words.proofs.Changes.{length-change, change-in-put, value-part}
 use Rattle.words.proofs.Numbers.{on-lt}
-use Rattle.words.proofs.Runs.{length-put, put-outside, part-at, part-put, part-put-apart, bytes-put}
+use Rattle.words.proofs.Runs.{length-put, put-outside, part-at, part-put-long, part-put-apart, bytes-put}
 use Rattle.words.specs.Numbers.{value, on, change}
 use Rattle.words.specs.Runs.{Bytes, Within, Apart, part, put}
 use Rattle.pieces.proofs.Edits.{Fitting, length-edited, edited-plain, edited-each}
@@ -85,7 +85,7 @@ module _ {A : Type 0} (at : A → ℕ) (size : A → ℕ) (g : A → List ℕ) w
       let l : List ℕ = lay at g xs m in
       let n : length l ≡ length m = length-lay at g xs m in
       let t : length (g x) ≡ size x = s .0 in (
-        ap (λ (k : ℕ). part (put l (at x) (g x)) (at x) k) (sym t) ∙ part-put l (at x) (g x) (rw (t, n) (f .0)),
+        part-put-long l (at x) (g x) (size x) t (rw n (f .0)),
         each-zip3
             (λ y i a e. part-put-apart l (at x) (g x) (at y) (size y) (rw n i) (rw t a) ∙ e)
             xs (f .1) (d .0) (lay-parts xs m (s .1) (f .1) (d .1)),

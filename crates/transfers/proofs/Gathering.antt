@@ -36,7 +36,7 @@ use Rattle.records.specs.declared.Kind.{Kind}
 use Rattle.records.specs.declared.Record.{Record}
 use Rattle.records.specs.declared.Record.the-variants.{Code, Fixups, End, Faulty}
 use Rattle.words.proofs.Lent.{lent-is, back-is}
-use Rattle.words.proofs.Runs.{length-part, length-put, part-put, put-put}
+use Rattle.words.proofs.Runs.{length-part, length-put, part-put-long, put-put}
 use Rattle.words.specs.Runs.{part, put}
 use Rattle.moves.proofs.Rulings.{verdict, same-load, allows-is, both}
 use Rattle.moves.specs.Call.{rulingOf, Allows, piecesOf}
@@ -103,9 +103,8 @@ module _ (old new : Bases) (m t₀ t : List ℕ) (os : List Outline) where
       let cs : List ℕ = edited g (o .fields) bs in
       let n : length cs ≡ o .size = length-edited g (o .fields) bs ∙ length-part m (placeOf old o) (o .size) i in
       let l : length t ≡ length u = ap length e ∙ length-put u a cs in
-      let room : a + length cs ≤ length u = omega (arith, n, l, j) in
       let there : part t a (o .size) ≡ cs =
-      ap (λ (r : List ℕ). part r a (o .size)) e ∙ ap (λ (k : ℕ). part (put u a cs) a k) (sym n) ∙ part-put u a cs room in
+      ap (λ (r : List ℕ). part r a (o .size)) e ∙ part-put-long u a cs (o .size) n (rw (← l) j) in
       ap (λ (r : List ℕ). put t a (edited g fs r)) there
       ∙ ap (λ (r : List ℕ). put r a (edited g fs cs)) e
       ∙ put-put u a cs (edited g fs cs) (sym (length-edited g fs cs))
