@@ -8,7 +8,11 @@ use Prim.Native.Nat.{ℕ}
 use native.Mathlib.Omega.{arith}
 use lib.ListN.{getD}
 use Rattle.pieces.specs.AtBases.{placing, adjusting, ending, applied}
+use Rattle.acx.proofs.Rules.{by-rules}
+use Rattle.acx.proofs.Where.{accepted-where-fits}
 use Rattle.acx.specs.Call.{load}
+use Rattle.acx.specs.Rules.{Refuses}
+use Rattle.acx.specs.Where.{overlaps, of-pieces}
 use Rattle.pieces.specs.Pieces.{Piece, outline, amountOf, edited, adjustments, events}
 use Rattle.acx.specs.Walk.{refused, checked, turn, recordsFrom, opening, judged}
 use Rattle.answer.specs.Checks.{need}
@@ -24,6 +28,7 @@ use Rattle.events.specs.Walk.{walk, from}
 use Rattle.fields.specs.Fields.{fieldsOf}
 use Rattle.records.specs.Records.{readCode, readItems, readFixups, readEnd, read}
 use Rattle.fields.specs.declared.Fixup.the-variants.{Word}
+use Rattle.records.specs.declared.Entry.the-variants.{Relative}
 use Rattle.records.specs.declared.Kind.the-variants.{Main, Absolute}
 use Rattle.words.proofs.Numbers.{bytes-digits}
 use Rattle.words.specs.Numbers.{number, digits, value, store, on, off, change}
@@ -64,6 +69,14 @@ loads : LoadsAt hooked pieces 8192
     × (load 1 (at 0x0201) hooked .answer ≡ refused PiecesOverlap 7)
 unfolding hooked number value part put allZero contains fieldsOf need readCode readItems readFixups readEnd read marks blank adjustments events placing adjusting ending applied checked turn recordsFrom walk from opening judged load
 loads = (refl, refl, refl, refl)
+
+-- the same by `accepted-where-fits`: the vector, which comes later in the file, would share an address with the routine
+pub onto-its-vector : (offset : ℕ) × Refuses 1 (at 0x0201) hooked PiecesOverlap offset
+onto-its-vector =
+    accepted-where-fits 1 hooked (at 8192) pieces (Relative 0) (by-rules 1 (at 8192) hooked .accepts-only pieces (Relative 0) (loads .0)) (at 0x0201)
+    refl .refuses PiecesOverlap
+    (of-pieces
+    (overlaps (record { below = (omega arith, tt); apart = (tt, tt) }) (omega arith) (λ d. d .0 0x0201 (omega arith, omega arith) (omega arith, omega arith))))
 
 -- the file is bytes
 hooked-bytes : Bytes hooked
