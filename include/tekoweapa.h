@@ -1,14 +1,15 @@
-/* Tekoweapa: loads SpartaDOS X (SDX) programs and ACX handlers into a lent memory, and moves handlers while they live. Runs nothing.
+/* Tekoweapa: loads SpartaDOS X (SDX) programs and ACX handlers into a lent memory, and moves handlers while they live, by their file or by a
+ * small index built from it. Runs nothing.
  *
  * Every function takes whatever comes and ends with a number: 0 for an acceptance, else the first fault (enum tkw_number). A buffer is a
  * pointer and its length in bytes. A length may be wrong, and the call is then refused with 1, but the pointer must be good for that many
  * bytes; an empty buffer may be NULL. No alignment is asked for. No two buffers of one call may overlap: nothing checks that, and every
- * promise rests on it. Nothing is kept between calls, and what map, scratch and the new-name buffers held before decides nothing.
+ * promise rests on it. Nothing is kept between calls, and what map, scratch, index and the new-name buffers held before decides nothing.
  *
  * What a call leaves:
- *   accepted     memory, map and the new-name buffers as the file says, every other byte of memory as before; the scratch all zero
+ *   accepted     memory, map, the index and the new-name buffers as the file says, every other byte of memory as before; the scratch all zero
  *   refused, 1   every buffer but the answer as before
- *   refused, 2+  memory and the new-name buffers as before; map and scratch all zero
+ *   refused, 2+  memory, the index and the new-name buffers as before; map and scratch all zero
  * The answer is written each time, unless its own length is wrong: then it too is as before.
  *
  * The code behind these functions is proved to keep these promises, and says them in full: crates/calls.
@@ -20,7 +21,7 @@
 #include <stdint.h>
 
 /* The version of this header and of the library behind it: both change together. */
-#define TKW_VERSION "1.3.0"
+#define TKW_VERSION "1.4.0"
 
 #ifdef __cplusplus
 extern "C" {
@@ -29,11 +30,12 @@ extern "C" {
 /* The lengths, in bytes, that the lent buffers must have; and how long a file may be, and how many names may be known. */
 enum {
     TKW_MEMORY_LENGTH = 65536,     /* memory, map and scratch, each */
+    TKW_INDEX_LENGTH = 65536,      /* the room in which an index is built */
     TKW_NAME_LENGTH = 8,           /* a name: all eight bytes count */
     TKW_NEW_NAMES_LENGTH = 256,    /* the room for 32 new names */
     TKW_NEW_ADDRESSES_LENGTH = 64, /* the room for their addresses, two bytes each, low byte first */
     TKW_ANSWER_LENGTH = 36,        /* the answer: nine four-byte numbers, low byte first */
-    TKW_FILE_MOST = 65536,         /* bytes of a file */
+    TKW_FILE_MOST = 65536,         /* bytes of a file, and of an index that is given */
     TKW_KNOWN_MOST = 256           /* known names */
 };
 
@@ -44,14 +46,15 @@ enum { TKW_UNTOUCHED = 0, TKW_PLACED = 1, TKW_RESERVED = 2, TKW_ADJUSTED = 3 };
  * only number, offset and side. */
 enum tkw_answer {
     TKW_AT_NUMBER = 0,        /* 0, or the fault: what the call returns */
-    TKW_AT_OFFSET = 1,        /* of a refusal: the offset of the first byte at fault; the file's length for 5, 0 for 1 to 4 */
+    TKW_AT_OFFSET = 1,        /* of a refusal: the offset of the first byte at fault; the file's length for 5, 0 for 1 to 4, 24 and 25; by an
+                               * index the offset of the entry at fault, which begins with its length */
     TKW_AT_SIDE = 2,          /* of a refused move: 0 for the old bases, 1 for the new */
     TKW_AT_START_PRESENT = 3, /* 1 if the file names a start, else 0 */
     TKW_AT_START = 4,         /* the start address */
     TKW_AT_PLACED = 5,        /* bytes placed, overwritten ones included */
     TKW_AT_ADJUSTED = 6,      /* fields adjusted */
     TKW_AT_NEW_NAMES = 7,     /* SDX: new names */
-    TKW_AT_LOW = 8            /* SDX: low afterwards */
+    TKW_AT_LOW = 8            /* SDX: low afterwards; of an index that was built: how many of its bytes are used */
 };
 
 /* One of the nine numbers of an answer. */
@@ -83,7 +86,9 @@ enum tkw_number {
     TKW_PIECES_OVERLAP = 17,
     TKW_FIXUP_UNSUITED = 18,
     TKW_BYTES_AFTER_END = 19,
-    TKW_START_TOO_HIGH = 20
+    TKW_START_TOO_HIGH = 20,
+    TKW_WRONG_VERSION = 24,
+    TKW_INDEX_TOO_LONG = 25
 };
 
 /* What a number means, in the words of the league's table. Never NULL: a number that no call returns has a text that says so. */
@@ -93,7 +98,7 @@ static inline const char *tkw_number_text(uint32_t number)
     case TKW_ACCEPTED:
         return "accepted";
     case TKW_WRONG_BUFFER:
-        return "memory, map, scratch, new-name buffers or C answer of another length; "
+        return "memory, map, scratch, index, new-name buffers or C answer of another length; "
                "known names not eight bytes per address, or over 256";
     case TKW_SETTING_OUT_OF_RANGE:
         return "a setting outside its range";
@@ -133,6 +138,10 @@ static inline const char *tkw_number_text(uint32_t number)
         return "bytes after the end record";
     case TKW_START_TOO_HIGH:
         return "start above 65,535";
+    case TKW_WRONG_VERSION:
+        return "another version of the index";
+    case TKW_INDEX_TOO_LONG:
+        return "the index doesn't fit";
     default:
         return "a number that no call returns";
     }
@@ -180,6 +189,19 @@ uint32_t tkw_acx_move(uint32_t form, const uint8_t *file, size_t file_length, ui
                       uint32_t new_main, uint32_t new_zero,
                       uint8_t *memory, size_t memory_length, uint8_t *map, size_t map_length,
                       uint8_t *scratch, size_t scratch_length, uint8_t *answer, size_t answer_length);
+
+/* Builds the fixup index of an ACX file, by which its handler can be moved without the file. Refused as a load of the file at these bases
+ * would be, then with 25 where the index would not fit in its room. Answer and map are those of the load, and low is the number of bytes used
+ * from the front of the room, of which the rest is zero. The index is the same at all bases at which the file is accepted. */
+uint32_t tkw_index_build(uint32_t form, const uint8_t *file, size_t file_length, uint32_t main_base, uint32_t zero_base,
+                         uint8_t *map, size_t map_length, uint8_t *index, size_t index_length, uint8_t *answer, size_t answer_length);
+
+/* Moves a handler by an index, of just the bytes that were used: it leaves what tkw_acx_move leaves by the file that the index was built from,
+ * and gives the same answer but for the offset of a refusal, which is that of an entry of the index. */
+uint32_t tkw_index_move(const uint8_t *index, size_t index_length, uint32_t old_main, uint32_t old_zero,
+                        uint32_t new_main, uint32_t new_zero,
+                        uint8_t *memory, size_t memory_length, uint8_t *map, size_t map_length,
+                        uint8_t *scratch, size_t scratch_length, uint8_t *answer, size_t answer_length);
 
 #ifdef __cplusplus
 }
