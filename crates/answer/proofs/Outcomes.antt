@@ -10,7 +10,7 @@ use lib.Dec.{leb}
 use lib.ListN.{getD}
 use Rattle.answer.specs.Report.{numberOf, numbersOf}
 use Rattle.answer.specs.declared.Fault.{Fault}
-use Rattle.answer.specs.declared.Fault.the-variants.{WrongBuffer, SettingOutOfRange, FileTooLong, WrongOpening, CutShort, NotKnown, BlockTaken, BlockMissing, LengthNotAllowed, DoesNotFit, CounterUnusable, FieldNotLoaded, AdjustedTwice, NameUnknown, TooManyNames, NameOutsideBlock, PiecesOverlap, FixupUnsuited, BytesAfterEnd, StartTooHigh}
+use Rattle.answer.specs.declared.Fault.the-variants.{WrongBuffer, SettingOutOfRange, FileTooLong, WrongOpening, CutShort, NotKnown, BlockTaken, BlockMissing, LengthNotAllowed, DoesNotFit, CounterUnusable, FieldNotLoaded, AdjustedTwice, NameUnknown, TooManyNames, NameOutsideBlock, PiecesOverlap, FixupUnsuited, BytesAfterEnd, StartTooHigh, WrongVersion, IndexTooLong}
 use Rattle.answer.specs.declared.Start.{Start}
 use Rattle.answer.specs.declared.Start.the-variants.{Absent, At}
 use Rattle.answer.specs.declared.Outcome.{Outcome}
@@ -53,11 +53,16 @@ faultWith n =
     ∷ FixupUnsuited
     ∷ BytesAfterEnd
     ∷ StartTooHigh
+    ∷ WrongBuffer
+    ∷ WrongBuffer
+    ∷ WrongBuffer
+    ∷ WrongVersion
+    ∷ IndexTooLong
     ∷ [])
     n WrongBuffer
 
--- the number of a fault is from 1 to 20, and no other fault has it
-numbered : (f : Fault) → (leb 1 (numberOf f) ≡ true) × (leb (numberOf f) 20 ≡ true) × (faultWith (numberOf f) ≡ f)
+-- the number of a fault is from 1 to 25, and no other fault has it
+numbered : (f : Fault) → (leb 1 (numberOf f) ≡ true) × (leb (numberOf f) 25 ≡ true) × (faultWith (numberOf f) ≡ f)
 numbered WrongBuffer = (refl, refl, refl)
 numbered SettingOutOfRange = (refl, refl, refl)
 numbered FileTooLong = (refl, refl, refl)
@@ -78,8 +83,10 @@ numbered PiecesOverlap = (refl, refl, refl)
 numbered FixupUnsuited = (refl, refl, refl)
 numbered BytesAfterEnd = (refl, refl, refl)
 numbered StartTooHigh = (refl, refl, refl)
+numbered WrongVersion = (refl, refl, refl)
+numbered IndexTooLong = (refl, refl, refl)
 
-pub number-bounds : (f : Fault) → (1 ≤ numberOf f) × (numberOf f ≤ 20)
+pub number-bounds : (f : Fault) → (1 ≤ numberOf f) × (numberOf f ≤ 25)
 number-bounds f = (leb-true _ _ (numbered f .0), leb-true _ _ (numbered f .1))
 
 -- the start that is reported as present or not, at an address

@@ -6,7 +6,7 @@ ghost use lib.ListN.{length};
 ghost use Rattle.answer.specs.declared.Outcome.the-variants.{Refused};
 ghost use Rattle.answer.specs.Report.{numberOf, numbersOf, numberReturned, answerLength, Written};
 
-// What is wrong: a variant for each row of the table "Numbers a bench can show", in its order.
+// What is wrong: a variant for each row of the table "Numbers a bench can show", in its order, and for each number that document 02 adds to it.
 pub enum Fault {
     WrongBuffer,
     SettingOutOfRange,
@@ -28,6 +28,8 @@ pub enum Fault {
     FixupUnsuited,
     BytesAfterEnd,
     StartTooHigh,
+    WrongVersion,
+    IndexTooLong,
 }
 
 // Where a program starts.
@@ -92,6 +94,8 @@ pub fn fault_number(fault: Fault) -> u32
         Fault::FixupUnsuited => 18,
         Fault::BytesAfterEnd => 19,
         Fault::StartTooHigh => 20,
+        Fault::WrongVersion => 24,
+        Fault::IndexTooLong => 25,
     }
 }
 

@@ -31,8 +31,8 @@ pub record Told (o : Outcome) (a : List ℕ) (r : ℕ) (a′ : List ℕ) : Type 
   -- 0 exactly on an acceptance
   pub accepted : IsAccepted o → r ≡ 0
   pub accepted-only : r ≡ 0 → IsAccepted o
-  -- and 1 to 20 on a refusal
-  pub refused : ¬ IsAccepted o → (1 ≤ r) × (r ≤ 20)
+  -- and 1 to 25 on a refusal
+  pub refused : ¬ IsAccepted o → (1 ≤ r) × (r ≤ 25)
   -- what it lent with another length it finds as it was
   pub unchanged : answerSized a ≡ false → a′ ≡ a
 

@@ -11,7 +11,7 @@ use Rattle.answer.proofs.Checks.{on-need}
 use Rattle.answer.proofs.Faults.{isEarly, PlaceOf, OfFile}
 use Rattle.answer.specs.declared.Fault.{Fault}
 use Rattle.words.specs.Runs.{Bytes}
-use Rattle.records.specs.Records.{RecordType, code, fixups, end, unknown, types, suits, readCode, readItems, readFixups, readEnd, readAs, read}
+use Rattle.records.specs.Records.{typeOf, suits, readCode, readItems, readFixups, readEnd, readAs, read}
 use Rattle.fields.specs.declared.Fixup.{Fixup}
 use Rattle.records.specs.declared.Kind.{Kind}
 use Rattle.records.specs.declared.Kind.the-variants.{Main, ZeroPage, Absolute}
@@ -19,6 +19,8 @@ use Rattle.records.specs.declared.Last.{Last}
 use Rattle.records.specs.declared.Last.the-variants.{Nothing, Of}
 use Rattle.records.specs.declared.Record.{Record}
 use Rattle.records.specs.declared.Record.the-variants.{Code, Fixups, End, Faulty}
+use Rattle.records.specs.declared.RecordType.{RecordType}
+use Rattle.records.specs.declared.RecordType.the-variants.{Code as code, Fixups as fixups, End as end, Unknown as unknown}
 
 -- ---- a record lies in its file
 
@@ -74,7 +76,7 @@ end-lies file at =
 pub read-lies : (file : List ℕ) (at : ℕ) (last : Last) → Lies (length file) at (read file at last)
 unfolding read
 read-lies file at last =
-    on-need Faulty (Lies (length file) at) _ _ _ _ (bad refl (omega arith)) (λ h. typed (ltb-true _ _ h) (getD types (getD file at 0) unknown))
+    on-need Faulty (Lies (length file) at) _ _ _ _ (bad refl (omega arith)) (λ h. typed (ltb-true _ _ h) (typeOf (getD file at 0)))
   where
     typed : at < length file → (t : RecordType) → Lies (length file) at (readAs file at last t)
     typed h (code kind) = code-lies file at kind
@@ -145,7 +147,7 @@ end-follows file at last =
 -- the record at an offset has what it asks for before it
 read-follows : (file : List ℕ) (at : ℕ) (last : Last) → Follows last (read file at last)
 unfolding read
-read-follows file at last = on-need Faulty (Follows last) _ _ _ _ free (λ _. typed (getD types (getD file at 0) unknown))
+read-follows file at last = on-need Faulty (Follows last) _ _ _ _ free (λ _. typed (typeOf (getD file at 0)))
   where
     typed : (t : RecordType) → Follows last (readAs file at last t)
     typed (code kind) = code-follows file at last kind
@@ -203,7 +205,7 @@ end-short file at = on-need Faulty Short _ _ _ _ none (λ _. on-need Faulty Shor
 -- the record at an offset, whatever its type
 read-short : (file : List ℕ) (at : ℕ) (last : Last) → Bytes file → Short (read file at last)
 unfolding read
-read-short file at last b = on-need Faulty Short _ _ _ _ none (λ _. typed (getD types (getD file at 0) unknown))
+read-short file at last b = on-need Faulty Short _ _ _ _ none (λ _. typed (typeOf (getD file at 0)))
   where
     typed : (t : RecordType) → Short (readAs file at last t)
     typed (code kind) = code-short file at kind b

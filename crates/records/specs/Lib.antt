@@ -1,2 +1,3 @@
 -- What the contracts of `records` cite.
 pub mod Records
+pub mod Types

@@ -21,13 +21,8 @@ use Rattle.records.specs.declared.Last.{Last}
 use Rattle.records.specs.declared.Last.the-variants.{Nothing, Of}
 use Rattle.records.specs.declared.Record.{Record}
 use Rattle.records.specs.declared.Record.the-variants.{Code, Fixups, End, Faulty}
-
--- what a record's type byte says
-pub data RecordType : Type 0 where
-  code : Kind → RecordType
-  fixups : Kind → Fixup → RecordType
-  end : RecordType
-  unknown : RecordType
+use Rattle.records.specs.declared.RecordType.{RecordType}
+use Rattle.records.specs.declared.RecordType.the-variants.{Code as code, Fixups as fixups, End as end, Unknown as unknown}
 
 -- the types 00 to 0B. A fixup type has the relocatable code that it is for, "02, 04, 06, 08 after 00; 03, 05, 07, 09 after 0A"; `suits` says what it
 -- may follow.
@@ -46,6 +41,10 @@ types =
     ∷ code ZeroPage
     ∷ end
     ∷ []
+
+-- what a type byte says
+abbrev pub typeOf : ℕ → RecordType
+typeOf byte = getD types byte unknown
 
 -- "Code 00, 0A, 01: length byte present (5); 2 to 255 (9); that many bytes present (5), the first two the address, the rest n code bytes"
 unfoldable pub readCode : List ℕ → ℕ → Kind → Record
@@ -112,4 +111,4 @@ readAs file at last unknown = Faulty NotKnown at
 
 -- the record at an offset: "Type known (5, 6)", and then as the type says
 unfoldable pub read : List ℕ → ℕ → Last → Record
-read file at last = need Faulty (ltb at (length file)) CutShort (length file) (readAs file at last (getD types (getD file at 0) unknown))
+read file at last = need Faulty (ltb at (length file)) CutShort (length file) (readAs file at last (typeOf (getD file at 0)))

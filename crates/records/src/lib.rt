@@ -5,7 +5,8 @@ use fields::Fixup;
 ghost use mathlib.Core.Path.{_≡_};
 ghost use Prim.Native.Nat.{_+_, _<_, _≤_};
 ghost use lib.ListN.{length};
-ghost use Rattle.records.specs.Records.{suits as suitsOf, lengthAllowed, readCode, readItems, readFixups, readEnd, read as readOf};
+ghost use Rattle.records.specs.Types.{codeType, mainFixupType, fixupType};
+ghost use Rattle.records.specs.Records.{typeOf, suits as suitsOf, lengthAllowed, readCode, readItems, readFixups, readEnd, read as readOf};
 
 // What a code record's address counts from: the main base, the zero-page base, or nothing.
 pub enum Kind {
@@ -25,6 +26,14 @@ pub enum Entry {
     Nowhere,
     Fixed(u16),
     Relative(u16),
+}
+
+// What a record's type byte says. Fixups have the relocatable code that they are for; `suits` says what they may follow.
+pub enum RecordType {
+    Code(Kind),
+    Fixups(Kind, Fixup),
+    End,
+    Unknown,
 }
 
 // A record: its code bytes or its items are the `size` bytes of the file from `from` on, and the next record begins after them; or a fault, with the
@@ -56,21 +65,68 @@ pub fn read(file: &[u8], at: usize, last: Last) -> Record
     if file.len() <= at {
         return Record::Faulty(Fault::CutShort, file.len());
     }
-    let record_type = file[at];
+    let record_type = type_of(file[at]);
     match record_type {
-        0 => read_code(file, at, Kind::Main),
-        1 => read_code(file, at, Kind::Absolute),
-        2 => read_fixups(file, at, last, Kind::Main, Fixup::LowByte),
-        3 => read_fixups(file, at, last, Kind::ZeroPage, Fixup::LowByte),
-        4 => read_fixups(file, at, last, Kind::Main, Fixup::ZeroPageByte),
-        5 => read_fixups(file, at, last, Kind::ZeroPage, Fixup::ZeroPageByte),
-        6 => read_fixups(file, at, last, Kind::Main, Fixup::Word),
-        7 => read_fixups(file, at, last, Kind::ZeroPage, Fixup::Word),
-        8 => read_fixups(file, at, last, Kind::Main, Fixup::HighByte),
-        9 => read_fixups(file, at, last, Kind::ZeroPage, Fixup::HighByte),
-        10 => read_code(file, at, Kind::ZeroPage),
-        11 => read_end(file, at),
-        _ => Record::Faulty(Fault::NotKnown, at),
+        RecordType::Code(kind) => read_code(file, at, kind),
+        RecordType::Fixups(kind, fixup) => read_fixups(file, at, last, kind, fixup),
+        RecordType::End => read_end(file, at),
+        RecordType::Unknown => Record::Faulty(Fault::NotKnown, at),
+    }
+}
+
+// What a type byte says.
+pub fn type_of(byte: u8) -> RecordType
+    ensures { λ r. ⌜ r ≡ typeOf byte ⌝ }
+{
+    match byte {
+        0 => RecordType::Code(Kind::Main),
+        1 => RecordType::Code(Kind::Absolute),
+        2 => RecordType::Fixups(Kind::Main, Fixup::LowByte),
+        3 => RecordType::Fixups(Kind::ZeroPage, Fixup::LowByte),
+        4 => RecordType::Fixups(Kind::Main, Fixup::ZeroPageByte),
+        5 => RecordType::Fixups(Kind::ZeroPage, Fixup::ZeroPageByte),
+        6 => RecordType::Fixups(Kind::Main, Fixup::Word),
+        7 => RecordType::Fixups(Kind::ZeroPage, Fixup::Word),
+        8 => RecordType::Fixups(Kind::Main, Fixup::HighByte),
+        9 => RecordType::Fixups(Kind::ZeroPage, Fixup::HighByte),
+        10 => RecordType::Code(Kind::ZeroPage),
+        11 => RecordType::End,
+        _ => RecordType::Unknown,
+    }
+}
+
+// The type byte of code of a kind.
+pub fn code_type(kind: Kind) -> u8
+    ensures { λ r. ⌜ r ≡ codeType kind ⌝ }
+{
+    match kind {
+        Kind::Main => 0x00,
+        Kind::ZeroPage => 0x0A,
+        Kind::Absolute => 0x01,
+    }
+}
+
+// The type byte of a fixup after code of a kind.
+pub fn fixup_type(kind: Kind, fixup: Fixup) -> u8
+    ensures { λ r. ⌜ r ≡ fixupType kind fixup ⌝ }
+{
+    let main = main_fixup_type(fixup);
+    match kind {
+        Kind::Main => main,
+        Kind::ZeroPage => main + 1,
+        Kind::Absolute => main,
+    }
+}
+
+// The type byte of a fixup after main code.
+fn main_fixup_type(fixup: Fixup) -> u8
+    ensures { λ r. ⌜ (r ≡ mainFixupType fixup) × (r < 10) ⌝ }
+{
+    match fixup {
+        Fixup::LowByte => 0x02,
+        Fixup::ZeroPageByte => 0x04,
+        Fixup::Word => 0x06,
+        Fixup::HighByte => 0x08,
     }
 }
 
@@ -112,8 +168,8 @@ fn read_fixups(file: &[u8], at: usize, last: Last, kind: Kind, fixup: Fixup) -> 
     read_items(file, at, fixup)
 }
 
-// Whether a fixup record for code of a kind may follow the last code record. Those for main code serve absolute code too.
-fn suits(kind: Kind, last: Last) -> bool
+// Whether a fixup for code of a kind may follow the last code record. Those for main code serve absolute code too.
+pub fn suits(kind: Kind, last: Last) -> bool
     ensures { λ r. ⌜ r ≡ suitsOf kind last ⌝ }
 {
     match last {
