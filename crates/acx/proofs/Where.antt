@@ -32,7 +32,8 @@ use Rattle.pieces.specs.Places.{FieldsApart, Inside, PiecesFit, FieldsSound}
 use Rattle.pieces.specs.declared.Bases.{Bases}
 use Rattle.acx.proofs.Cursors.{Tracks, tracks-first, tracks-ends, tracks-on}
 use Rattle.acx.proofs.Demand2.{well-placed-of}
-use Rattle.acx.proofs.Unfit.{fits-not-unfit, unfit-same, unfit-fields}
+use Rattle.acx.proofs.Settling.{Settles, fits, unfit, settled-where}
+use Rattle.acx.proofs.Unfit.{unfit-fields}
 use Rattle.acx.proofs.Rules.{judged-records, load-judged, by-rules}
 use Rattle.acx.proofs.Turning.{refused-accepted, accepted-same, turn-is, checked-fixups, end-answers, code-answers}
 use Rattle.acx.proofs.Walking.{opening-fits, Passes}
@@ -176,59 +177,32 @@ module _ (file : List ℕ) (b : Bases) (first : ℕ) where
 
 -- ---- the whole file
 
--- what a file with these pieces and this entry comes to at the bases
-pub data Settles (b : Bases) (ps : List Piece) (entry : Entry) : Verdict Piece → Type 0 where
-  fits : HandlerFits b (map outline ps) entry → Settles b ps entry (accepted ps entry)
-  unfit : {fault : Fault} {offset : ℕ} → HandlerUnfit b (map outline ps) entry fault → Settles b ps entry (refused fault offset)
-
 module _ (form : Form) (file : List ℕ) (b : Bases) where
   -- at the end record the start decides
   ends-at : (s : Progress) (entry : Entry) → recordAt file s ≡ End entry (length file) → Comes file b (openingSize form) s
-      → Settles b (s .pieces) entry (recordsOf file b (openingSize form) .answer)
-  ends-at s entry is (ended m e) = subst (Settles b (s .pieces) entry) (sym e) (unfit (of-pieces m))
+      → Settles b (map outline (s .pieces)) (s .pieces) entry (recordsOf file b (openingSize form) .answer)
+  ends-at s entry is (ended m e) = subst (Settles b (map outline (s .pieces)) (s .pieces) entry) (sym e) (unfit (of-pieces m))
   ends-at s entry is (so-far f c t) = by (checked file b s (marks (events b (s .pieces)) blank) .answer) refl
     where
       by : (v : Check) → checked file b s (marks (events b (s .pieces)) blank) .answer ≡ v
-          → Settles b (s .pieces) entry (recordsOf file b (openingSize form) .answer)
+          → Settles b (map outline (s .pieces)) (s .pieces) entry (recordsOf file b (openingSize form) .answer)
       by Passed e =
           let x = ending-passed _ b entry (length file) (length file) (end-answers file b s _ entry (length file) is e) in
           let v = ap (λ (o : Ran (Verdict Piece)). o .answer) (tracks-ends t _ (turn-is file b s _ Passed _ e is)) in
-          subst (Settles b (s .pieces) entry) (sym v) (fits (record { pieces = f; start = x .0 }))
+          subst (Settles b (map outline (s .pieces)) (s .pieces) entry) (sym v) (fits (record { pieces = f; start = x .0 }))
       by (Failed fault offset) e =
           let x = ending-failed _ b entry (length file) fault offset (end-answers file b s _ entry (length file) is e) in
-          subst (Settles b (s .pieces) entry) (sym (stops file b (openingSize form) s c fault offset t e))
+          subst (Settles b (map outline (s .pieces)) (s .pieces) entry) (sym (stops file b (openingSize form) s c fault offset t e))
           (unfit (subst (HandlerUnfit b (map outline (s .pieces)) entry) (sym (x .0)) (of-start f (x .1))))
 
   -- a file that holds sound pieces
-  pub settles : (ps : List Piece) (entry : Entry) → Holds form file ps entry → FieldsSound (map outline ps) → Settles b ps entry (judged form file b .answer)
+  pub settles : (ps : List Piece) (entry : Entry) → Holds form file ps entry → FieldsSound (map outline ps) → Settles b (map outline ps) ps entry (judged form file b .answer)
   settles ps entry h s =
       let e = ap (λ (o : Ran (Verdict Piece)). o .answer) (judged-records form file b (h .opens)) in
       let sound : FieldsSound (map outline (h .last .pieces)) = subst (λ (qs : List Piece). FieldsSound (map outline qs)) (h .pieces) s in
       let c = comes file b (openingSize form) (h .last) (opening-fits form file (h .opens)) (h .records) sound in
-      subst (Settles b ps entry) (sym e)
-      (subst (λ (qs : List Piece). Settles b qs entry (recordsOf file b (openingSize form) .answer)) (sym (h .pieces)) (ends-at (h .last) entry (h .end) c))
-
--- ---- read from either side
-
-module _ {b : Bases} {ps : List Piece} {entry : Entry} where
-  settled-accepts : {v : Verdict Piece} → Settles b ps entry v → HandlerFits b (map outline ps) entry → v ≡ accepted ps entry
-  settled-accepts (fits f) h = refl
-  settled-accepts (unfit l) h = absurd (fits-not-unfit h l)
-
-  settled-accepted : {v : Verdict Piece} {qs : List Piece} {other : Entry} → Settles b ps entry v → v ≡ accepted qs other
-      → HandlerFits b (map outline ps) entry × (qs ≡ ps) × (other ≡ entry)
-  settled-accepted (fits f) e = let x = accepted-same e in (f, sym (x .0), sym (x .1))
-  settled-accepted (unfit l) e = absurd (refused-accepted e)
-
-  settled-refuses : {v : Verdict Piece} {fault : Fault} → Settles b ps entry v → HandlerUnfit b (map outline ps) entry fault
-      → (offset : ℕ) × (v ≡ refused fault offset)
-  settled-refuses (fits f) l = absurd (fits-not-unfit f l)
-  settled-refuses (unfit {offset = offset} k) l = (offset, ap (λ (g : Fault). refused g offset) (unfit-same k l))
-
-  settled-refused : {v : Verdict Piece} {fault : Fault} {offset : ℕ} → Settles b ps entry v → v ≡ refused fault offset
-      → HandlerUnfit b (map outline ps) entry fault
-  settled-refused (fits f) e = absurd (refused-accepted (sym e))
-  settled-refused {fault = fault} (unfit {fault = g} l) e = let k : g ≡ fault = cc in subst (HandlerUnfit b (map outline ps) entry) k l
+      subst (Settles b (map outline ps) ps entry) (sym e)
+      (subst (λ (qs : List Piece). Settles b (map outline qs) qs entry (recordsOf file b (openingSize form) .answer)) (sym (h .pieces)) (ends-at (h .last) entry (h .end) c))
 
 -- of every file that is accepted at some bases
 pub accepted-where-fits : WhereClaim
@@ -236,13 +210,8 @@ accepted-where-fits form file a ps entry h b r =
     let judged-here = ap (λ (o : Ran (Verdict Piece)). o .answer) (load-judged form b file r (h .fits)) in
     let at-a = ap (λ (o : Ran (Verdict Piece)). o .answer) (sym (load-judged form a file (h .settings) (h .fits))) ∙ by-rules form a file .accepts ps entry h in
     let sound = well-placed-of (formOf form) file a ps entry at-a .0 .sound in
-    let s : Settles b ps entry (load form b file .answer) =
-    subst (Settles b ps entry) (sym judged-here)
+    let s : Settles b (map outline ps) ps entry (load form b file .answer) =
+    subst (Settles b (map outline ps) ps entry) (sym judged-here)
     (settles (formOf form) file b ps entry (follows-holds (formOf form) file a ps entry (h .follows)) sound) in
     let rules = by-rules form b file in
-    record {
-      accepts = λ f. rules .accepts-only ps entry (settled-accepts s f);
-      accepts-only = λ qs other k. settled-accepted s (rules .accepts qs other k);
-      refuses = λ fault l. let x = settled-refuses s l in (x .0, rules .refuses-only fault (x .0) (x .1));
-      refuses-only = λ fault offset k. settled-refused s (rules .refuses fault offset k);
-    }
+    settled-where s (rules .accepts) (rules .accepts-only) (rules .refuses) (rules .refuses-only)

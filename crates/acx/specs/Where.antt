@@ -36,18 +36,20 @@ pub data HandlerUnfit (b : Bases) (os : List Outline) (entry : Entry) : Fault �
   of-pieces : {fault : Fault} → PiecesUnfit b os fault → HandlerUnfit b os entry fault
   of-start : PiecesFit b os → 65535 < address (startOf b entry) → HandlerUnfit b os entry StartTooHigh
 
--- A file with these pieces and this entry, at bases in their ranges.
-pub record AcceptedWhere (form : ℕ) (file : List ℕ) (ps : List Piece) (entry : Entry) (b : Bases) : Type 0 where
+-- What is said of a handler with these outlines and this entry, at bases in their ranges. Whoever judges it says of which pieces it is accepted and with
+-- what it is refused: a load by pieces, and an index (crates/index) by outlines.
+pub record AcceptedWhere {P : Type 0} (Accepts : List P → Entry → Type 0) (Refuses : Fault → ℕ → Type 0) (os : List Outline) (ps : List P) (entry : Entry)
+    (b : Bases) : Type 0 where
   -- it is accepted exactly if they fit there, with the same pieces and the same entry
-  pub accepts : HandlerFits b (map outline ps) entry → Accepts form b file ps entry
-  pub accepts-only : (qs : List Piece) (other : Entry) → Accepts form b file qs other → HandlerFits b (map outline ps) entry × (qs ≡ ps) × (other ≡ entry)
+  pub accepts : HandlerFits b os entry → Accepts ps entry
+  pub accepts-only : (qs : List P) (other : Entry) → Accepts qs other → HandlerFits b os entry × (qs ≡ ps) × (other ≡ entry)
   -- it is refused exactly if they do not, with the first of 10 and 17 in file order, then 20 (at which offset, outlines can't say)
-  pub refuses : (fault : Fault) → HandlerUnfit b (map outline ps) entry fault → (offset : ℕ) × Refuses form b file fault offset
-  pub refuses-only : (fault : Fault) (offset : ℕ) → Refuses form b file fault offset → HandlerUnfit b (map outline ps) entry fault
+  pub refuses : (fault : Fault) → HandlerUnfit b os entry fault → (offset : ℕ) × Refuses fault offset
+  pub refuses-only : (fault : Fault) (offset : ℕ) → Refuses fault offset → HandlerUnfit b os entry fault
 
 -- The claim: of every file that is accepted at some bases, at every pair of bases in their ranges. (That calls answer as `Accepts` and `Refuses` say
 -- stands in Demand2.antt, `Exactly`, and in Refusals.antt.)
 abbrev pub WhereClaim : Type 0
 WhereClaim =
     (form : ℕ) (file : List ℕ) (a : Bases) (ps : List Piece) (entry : Entry) → Accepts form a file ps entry → (b : Bases) → inRange form b ≡ true
-    → AcceptedWhere form file ps entry b
+    → AcceptedWhere (Accepts form b file) (Refuses form b file) (map outline ps) ps entry b

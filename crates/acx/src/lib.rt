@@ -11,7 +11,7 @@ use records::Last;
 use records::Record;
 ghost use mathlib.Core.Bool.{true};
 ghost use mathlib.Core.Path.{_≡_};
-ghost use Prim.Native.Nat.{_≤_};
+ghost use Prim.Native.Nat.{_≤_, _<_};
 ghost use lib.ListN.{length};
 ghost use Rattle.answer.specs.Report.{address as addressOf};
 ghost use Rattle.answer.specs.declared.Outcome.the-variants.{Accepted};
@@ -183,7 +183,7 @@ fn load_sized(
 }
 
 // Whether the settings of a call are in their ranges.
-fn in_range(form: u32, main_base: u32, zero_base: u32) -> bool
+pub fn in_range(form: u32, main_base: u32, zero_base: u32) -> bool
     ensures { λ r. ⌜ r ≡ inRange form (basesAt «main_base» «zero_base») ⌝ }
 {
     if 1 < form {
@@ -264,21 +264,21 @@ fn walk(
             return answer::refused(fault, offset);
         }
         if let Record::End { entry, next } = found {
-            return accepted(bases, entry, cursor);
+            return accepted(bases, entry, cursor.placed, cursor.adjusted);
         }
         cursor = advance(bases, cursor, found);
     }
 }
 
-// The acceptance of a file whose end record is at the cursor.
-fn accepted(bases: Bases, entry: Entry, cursor: Cursor) -> Outcome
-    requires { ⌜ (addressOf (startOf bases entry) ≤ 65535) × (cursor .placed ≤ 65536) × (cursor .adjusted ≤ 65536) ⌝ }
-    ensures { λ r. ⌜ r ≡ Accepted (startOf bases entry) (cursor .placed) (cursor .adjusted) 0 0 ⌝ }
+// The acceptance of a file or an index that ends with an entry, after so many bytes placed and fields adjusted.
+pub fn accepted(bases: Bases, entry: Entry, placed: usize, adjusted: usize) -> Outcome
+    requires { ⌜ (addressOf (startOf bases entry) ≤ 65535) × (placed < 4294967296) × (adjusted < 4294967296) ⌝ }
+    ensures { λ r. ⌜ r ≡ Accepted (startOf bases entry) placed adjusted 0 0 ⌝ }
 {
     Outcome::Accepted {
         start: pieces::start(bases, entry),
-        placed: cursor.placed as u32,
-        adjusted: cursor.adjusted as u32,
+        placed: placed as u32,
+        adjusted: adjusted as u32,
         new_names: 0,
         low: 0,
     }

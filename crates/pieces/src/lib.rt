@@ -107,7 +107,7 @@ pub fn start(bases: Bases, entry: Entry) -> Start
 }
 
 // Where code of a kind has to end.
-fn limit(kind: Kind) -> usize
+pub fn limit(kind: Kind) -> usize
     ensures { λ r. ⌜ (r ≡ limitOf kind) × (r ≤ 65536) ⌝ }
 {
     match kind {
@@ -140,7 +140,7 @@ fn place_code(
 
 // Marks `size` code bytes at `place` in the map, whose address stands at `at`, if they end within their limit and no address there is placed
 // already. Of code only the length is looked at.
-fn mark_code(at: usize, place: usize, size: usize, limit: usize, map: &mut [u8]) -> Check
+pub fn mark_code(at: usize, place: usize, size: usize, limit: usize, map: &mut [u8]) -> Check
     requires { ⌜ (place ≤ 131070) × (size ≤ 65536) × (limit ≤ 65536) × (length (now map) ≡ 65536) ⌝ }
     ensures { λ r. ⌜ Noted Check (placing at place limit (replicate size 0) (now (map .entry))) (now (map .entry)) r (now (map .exit)) ⌝ }
 {
@@ -220,7 +220,7 @@ fn adjust_field(
 
 // Marks a field of the `size` code bytes at `place` in the map, if it lies inside and no byte of it was adjusted before. The item that lists it
 // stands at `at`. No base is looked at.
-fn mark_field(field: Field, at: usize, place: usize, size: usize, map: &mut [u8]) -> Check
+pub fn mark_field(field: Field, at: usize, place: usize, size: usize, map: &mut [u8]) -> Check
     requires { ⌜ (field .index < 256) × (place + size ≤ 65536) × (length (now map) ≡ 65536) ⌝ }
     ensures { λ r. ⌜ ((bases : Bases) → Noted Check (adjusting at 0 bases place size (field ∷ []) (now (map .entry))) (now (map .entry)) r (now (map .exit))) ⌝ }
 {
@@ -265,7 +265,7 @@ fn write_field(
 }
 
 // Checks the end record, whose address stands at `at`, and which ends at `next` of a file of `length` bytes.
-fn end(at: usize, bases: Bases, entry: Entry, next: usize, length: usize) -> Check
+pub fn end(at: usize, bases: Bases, entry: Entry, next: usize, length: usize) -> Check
     ensures { λ r. ⌜ r ≡ ending at bases entry next length .answer ⌝ }
 {
     let address = start_address(bases, entry);
