@@ -19,14 +19,13 @@ use Rattle.answer.specs.declared.Outcome.the-variants.{Accepted, Refused}
 use Rattle.answer.specs.declared.Start.{Start}
 use Rattle.answer.specs.declared.Start.the-variants.{Absent}
 use Rattle.events.proofs.Checks.{failed-passed}
-use Rattle.events.proofs.Events.{placed-append, adjusted-append, length-play, length-marks, length-blank, blank-at}
-use Rattle.events.proofs.Lists.{each-image, image-each}
+use Rattle.events.proofs.Events.{placed-append, adjusted-append, length-play}
+use Rattle.events.proofs.Lists.{image-each}
 use Rattle.events.specs.Lists.{Each}
 use Rattle.events.specs.Events.{Event, place, play, marks, blank, placedIn, adjustedIn, Ran}
 use Rattle.acx.proofs.Calling.{load-admitted, loaded-right}
-use Rattle.acx.proofs.WellPlaced.{fits-memory, fits-map, placed-well}
+use Rattle.acx.proofs.WellPlaced.{fits-memory, marked-events, placed-well}
 use Rattle.pieces.proofs.Loads.{pieceAt, laid, play-laid, laid-outside, laid-plain, laid-fields}
-use Rattle.pieces.proofs.Marks.{marks-outside, marks-plain, marks-fields}
 use Rattle.pieces.proofs.PieceEvents.{placed-adjustments, adjusted-adjustments}
 use Rattle.acx.proofs.Rules.{followed, follows-judged, load-judged}
 use Rattle.acx.proofs.Standing.{Stands}
@@ -48,14 +47,14 @@ pub well-placed-of : (form : Form) (file : List ℕ) (b : Bases) (ps : List Piec
 well-placed-of form file b ps entry e = placed-well file b form ps entry e .held .0
 
 -- the counts of the events of pieces are sums over the pieces
-placed-total : (b : Bases) (ps : List Piece) → placedIn (events b ps) ≡ total size ps
+pub placed-total : (b : Bases) (ps : List Piece) → placedIn (events b ps) ≡ total size ps
 unfolding events placedIn
 placed-total b [] = refl
 placed-total b (p ∷ ps) =
     placed-append (events b ps) (place (pieceAt b p) (p .code) ∷ adjustments b (pieceAt b p) (p .fields))
     ∙ omega (arith, placed-total b ps, placed-adjustments b (pieceAt b p) (p .fields))
 
-adjusted-total : (b : Bases) (ps : List Piece) → adjustedIn (events b ps) ≡ total (λ p. length (p .fields)) ps
+pub adjusted-total : (b : Bases) (ps : List Piece) → adjustedIn (events b ps) ≡ total (λ p. length (p .fields)) ps
 unfolding events adjustedIn
 adjusted-total b [] = refl
 adjusted-total b (p ∷ ps) =
@@ -70,7 +69,6 @@ loads form file b ps entry at m f (h, k) l s n =
     let os = map outline ps in
     let inside = h .sound .inside in
     let fits = fits-memory b (length m) os n (h .fit) in
-    let clear = fits-map b os (h .fit) in
     let e : play (events b ps) m ≡ laid b ps m = play-laid b ps m fits inside in
     let outside : (x : ℕ) → Each (λ p. ¬ Placed b x (outline p)) ps → Each (λ o. ¬ Placed b x o) os =
     λ x w. image-each outline (λ o. ¬ Placed b x o) ps w in
@@ -81,10 +79,8 @@ loads form file b ps entry at m f (h, k) l s n =
       loaded = rw e (laid-plain b ps m fits (h .fit .apart));
       fields = rw e (laid-fields b ps m fits (h .fit .apart) (h .sound));
       others = λ x w. ap (λ (t : List ℕ). getD t x 0) e ∙ laid-outside b ps m x (outside x w);
-      lengths = (length-play (events b ps) m, length-marks (events b ps) blank ∙ length-blank);
-      untouched-marks = λ x w. marks-outside b ps blank inside x (outside x w) ∙ blank-at x;
-      placed-marks = each-image outline _ ps (marks-plain b ps blank inside clear (h .fit .apart));
-      adjusted-marks = each-image outline _ ps (marks-fields b ps blank inside clear (h .fit .apart));
+      lengths = length-play (events b ps) m;
+      marks = marked-events b ps h;
       placed-count = placed-total b ps;
       adjusted-count = adjusted-total b ps;
       placed-fits = omega (arith, s .counts, l);

@@ -2,11 +2,11 @@
 -- Assumes nothing.
 use mathlib.Core.Bool.{true}
 use mathlib.Core.List.{List, [], _∷_, map}
-use mathlib.Core.Path.{_≡_, sym, ap}
+use mathlib.Core.Path.{_≡_, sym, ap, _∙_}
 use Prim.Native.Nat.{ℕ, _+_, _≤_}
 use native.Mathlib.Omega.{arith}
 use lib.ListN.{length}
-use Rattle.events.proofs.Events.{length-marks, length-blank}
+use Rattle.events.proofs.Events.{length-marks, length-blank, blank-at}
 use Rattle.events.proofs.Lists.{each-map, each-append, pairwise-append}
 use Rattle.events.specs.Events.{marks, blank}
 use Rattle.events.specs.Lists.{Each}
@@ -22,12 +22,12 @@ use Rattle.words.proofs.Runs.{length-part}
 use Rattle.words.specs.Runs.{part, allZero}
 use Rattle.pieces.proofs.Checks.{placing-passed, limit-le}
 use Rattle.pieces.proofs.Loads.{Fits}
-use Rattle.pieces.proofs.Marks.{marks-fields, marks-some, code-apart, fields-fresh}
+use Rattle.pieces.proofs.Marks.{marks-outside, marks-plain, marks-fields, marks-some, code-apart, fields-fresh}
 use Rattle.acx.proofs.Standing.{Stands, stands-first, stands-on}
 use Rattle.acx.proofs.Turning.{code-answers, fixups-passed}
 use Rattle.acx.proofs.Walking.{Passes, EndedAt, accepted-keeps}
 use Rattle.pieces.specs.AtBases.{adjusting}
-use Rattle.pieces.specs.Places.{FieldsApart, Inside, PiecesFit, WellPlaced}
+use Rattle.pieces.specs.Places.{FieldsApart, Inside, PiecesFit, WellPlaced, Marked}
 use Rattle.acx.specs.Rules.{Onward}
 use Rattle.acx.specs.Demand2.{FromFile}
 use Rattle.pieces.specs.Pieces.{Piece, size, Outline, outline, placeOf, limitOf, events}
@@ -42,6 +42,18 @@ fits-memory b n os e h = each-map (λ o i. omega (arith, i, e, limit-le (o .kind
 -- and in the map, which is as long
 pub fits-map : (b : Bases) (os : List Outline) → PiecesFit b os → Each (Fits b (length blank)) os
 fits-map b os h = fits-memory b (length blank) os length-blank h
+
+-- and the map has their marks
+pub marked-events : (b : Bases) (ps : List Piece) → WellPlaced b (map outline ps) → Marked b (map outline ps) (marks (events b ps) blank)
+marked-events b ps h =
+    let inside = h .sound .inside in
+    let clear = fits-map b (map outline ps) (h .fit) in
+    record {
+      size = length-marks (events b ps) blank ∙ length-blank;
+      untouched = λ x w. marks-outside b ps blank inside x w ∙ blank-at x;
+      placed = marks-plain b ps blank inside clear (h .fit .apart);
+      adjusted = marks-fields b ps blank inside clear (h .fit .apart);
+    }
 
 -- code that found room and nothing placed fits with the pieces before it
 pub code-fits : (b : Bases) (p : Piece) (ps : List Piece) → Each (λ o. Each (Inside (o .size)) (o .fields)) (map outline ps) → PiecesFit b (map outline ps)

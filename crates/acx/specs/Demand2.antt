@@ -16,7 +16,7 @@ use Rattle.words.specs.Numbers.{value, on}
 use Rattle.words.specs.Runs.{part}
 use Rattle.acx.specs.Call.{formOf, inRange, sized, Loaded}
 use Rattle.pieces.specs.AtBases.{startOf}
-use Rattle.pieces.specs.Places.{Placed, In, WellPlaced}
+use Rattle.pieces.specs.Places.{Placed, In, WellPlaced, Marked}
 use Rattle.pieces.specs.Pieces.{Piece, size, outline, placeOf, width, amountOf}
 use Rattle.pieces.specs.declared.Bases.{Bases}
 use Rattle.acx.specs.Rules.{Follows}
@@ -27,8 +27,8 @@ use Rattle.records.specs.declared.Entry.{Entry}
 abbrev pub FromFile : List ℕ → List Piece → Type 0
 FromFile file ps = Each (λ p. (from : ℕ) × (from + size p ≤ length file) × (p .code ≡ part file from (size p))) ps
 
--- the sum of a number over the pieces
-abbrev pub total : (Piece → ℕ) → List Piece → ℕ
+-- the sum of a number over the pieces, or over their outlines
+abbrev pub total : {P : Type 0} → (P → ℕ) → List P → ℕ
 total n [] = 0
 total n (p ∷ ps) = n p + total n ps
 
@@ -44,12 +44,10 @@ pub record Demand2 (form : Form) (file : List ℕ) (b : Bases) (ps : List Piece)
   pub fields : Each (λ p. Each (λ f. value (width f) m′ (placeOf b (outline p) + f .index) ≡ on (width f) (amountOf b f) (value (width f) (p .code) (f .index))) (p .fields)) ps
   -- "and every other byte as before"
   pub others : (x : ℕ) → Each (λ p. ¬ Placed b x (outline p)) ps → getD m′ x 0 ≡ getD m x 0
-  -- (memory and the map have as many bytes after it as before)
-  pub lengths : (length m′ ≡ length m) × (length p′ ≡ memorySize)
-  -- "0 untouched, 1 placed, .. 3 adjusted"
-  pub untouched-marks : (x : ℕ) → Each (λ p. ¬ Placed b x (outline p)) ps → getD p′ x 0 ≡ 0
-  pub placed-marks : Each (λ p. (j : ℕ) → j < size p → Each (λ f. ¬ In j f) (p .fields) → getD p′ (placeOf b (outline p) + j) 0 ≡ 1) ps
-  pub adjusted-marks : Each (λ p. Each (λ f. (j : ℕ) → In j f → getD p′ (placeOf b (outline p) + j) 0 ≡ 3) (p .fields)) ps
+  -- (memory has as many bytes after it as before)
+  pub lengths : length m′ ≡ length m
+  -- "The map holds the marks."
+  pub marks : Marked b (map outline ps) p′
   -- "the counts reported are those of these events"
   pub placed-count : placed ≡ total size ps
   pub adjusted-count : adjusted ≡ total (λ p. length (p .fields)) ps

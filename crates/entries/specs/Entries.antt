@@ -3,7 +3,7 @@
 -- Assumes nothing.
 use mathlib.Core.Bool.{Bool, _&&_}
 use mathlib.Core.List.{List, [], _∷_}
-use Prim.Native.Nat.{ℕ, _+_, _-_, _*_, _%_}
+use Prim.Native.Nat.{ℕ, _+_, _-_, _*_, _%_, _<_}
 use lib.Dec.{leb, eqb}
 use lib.ListN.{length, getD}
 use Rattle.answer.specs.Checks.{need, pick}
@@ -77,6 +77,11 @@ listed before (fixups kind fixup) index lsb =
     pick (suits kind (Of before)) (Suited (record { fixup = fixup; index = index; lsb = lsbFor fixup lsb })) Unsuited
 listed before end index lsb = Unsuited
 listed before unknown index lsb = Unsuited
+
+-- the index and the LSB of what is listed are bytes
+abbrev pub InBytes : Listed → Type 0
+InBytes (Suited f) = (f .index < 256) × (f .lsb < 256)
+InBytes Unsuited = Unit {0}
 
 -- a field before others; a bad kind ends the list
 abbrev pub joined : Listed → List Field → List Field

@@ -10,7 +10,7 @@ ghost use mathlib.Core.Path.{_≡_};
 ghost use Prim.Native.Nat.{_+_, _≤_};
 ghost use lib.ListN.{length, getD};
 ghost use Rattle.records.specs.Records.{typeOf};
-ghost use Rattle.entries.specs.Entries.{readCode, readEnd, read as readOf, lsbFor, listed};
+ghost use Rattle.entries.specs.Entries.{readCode, readEnd, read as readOf, lsbFor, listed, InBytes};
 
 // An entry: a code record of `size` code bytes, whose fixups are the `length` bytes of the index from `from` on; the end record, with the offset after
 // it; or a fault.
@@ -114,22 +114,27 @@ fn read_end(index: &[u8], at: usize, count: usize) -> IndexEntry
 // What the fixup at `at` of an entry's fixups lists, after code of a kind.
 pub fn listed_at(items: &[u8], at: usize, kind: Kind) -> Listed
     requires { ⌜ at + 3 ≤ length (now items) ⌝ }
-    ensures { λ r. ⌜ r ≡ listed kind (typeOf (getD (now (items .entry)) at 0)) (getD (now (items .entry)) (at + 1) 0) (getD (now (items .entry)) (at + 2) 0) ⌝ }
+    ensures { λ r. ⌜ (r ≡ listed kind (typeOf (getD (now (items .entry)) at 0)) (getD (now (items .entry)) (at + 1) 0) (getD (now (items .entry)) (at + 2) 0)) × InBytes r ⌝ }
 {
     let record_type = records::type_of(items[at]);
     let index = words::wide(items[at + 1]);
     let lsb = words::wide(items[at + 2]);
-    if let RecordType::Fixups(of, fixup) = record_type {
-        let suited = records::suits(of, Last::Of(kind));
-        if suited {
-            return Listed::Suited(Field {
+    match record_type {
+        RecordType::Code(of) => Listed::Unsuited,
+        RecordType::Fixups(of, fixup) => {
+            let suited = records::suits(of, Last::Of(kind));
+            if !suited {
+                return Listed::Unsuited;
+            }
+            Listed::Suited(Field {
                 fixup,
                 index,
                 lsb: lsb_for(fixup, lsb),
-            });
+            })
         }
+        RecordType::End => Listed::Unsuited,
+        RecordType::Unknown => Listed::Unsuited,
     }
-    Listed::Unsuited
 }
 
 // The LSB that a fixup uses, else zero.

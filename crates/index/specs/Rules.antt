@@ -1,6 +1,6 @@
 -- The rules for an index in plain steps: one entry after another, each by what the wish says of a single entry (`begun`, `entryAt`, `checked` and
 -- `stepped` in Walk.antt). No walk is in it; that the definition's walk comes to this, both ways, is the claim at the end, proved in proofs/Rules.antt
--- (`by-rules : RulesClaim`).
+-- (`by-rules : RulesClaim`; `refusals-located : LocatedClaim` in proofs/Faults.antt).
 -- Assumes nothing.
 use mathlib.Core.Bool.{true, false}
 use mathlib.Core.List.{List, []}
@@ -9,6 +9,7 @@ use Prim.Native.Nat.{ℕ, _≤_, _<_}
 use lib.ListN.{length, getD}
 use Rattle.acx.specs.Call.{inRange}
 use Rattle.acx.specs.Walk.{accepted, refused}
+use Rattle.answer.specs.Report.{numberOf}
 use Rattle.answer.specs.declared.Fault.{Fault}
 use Rattle.answer.specs.declared.Fault.the-variants.{SettingOutOfRange, FileTooLong, CutShort, WrongVersion}
 use Rattle.entries.specs.Bytes.{version}
@@ -80,7 +81,21 @@ pub data Refuses (b : Bases) (index : List ℕ) : Fault → ℕ → Type 0 where
   too-long : inRange formless b ≡ true → fileLimit < length index → Refuses b index FileTooLong 0
   by-index : {fault : Fault} {at : ℕ} → inRange formless b ≡ true → length index ≤ fileLimit → Fails index b fault at → Refuses b index fault at
 
--- ---- the claim
+-- ---- the claims
+
+-- Where a refusal lies in an index of so many bytes.
+pub record LocatedEntry (len : ℕ) (fault : Fault) (offset : ℕ) : Type 0 where
+  -- "0 for 1 to 4"; "24, at offset 0"
+  pub at-front : numberOf fault ≤ 4 → offset ≡ 0
+  pub of-version : fault ≡ WrongVersion → offset ≡ 0
+  -- an entry that is cut begins in the index, or would begin at its end
+  pub within : offset ≤ len
+  -- any other has its length word there
+  pub at-entry : 5 < numberOf fault → offset < len
+
+-- of every index that is refused
+abbrev pub LocatedClaim : Type 0
+LocatedClaim = (b : Bases) (index : List ℕ) (fault : Fault) (offset : ℕ) → Refuses b index fault offset → LocatedEntry (length index) fault offset
 
 -- The definition accepts and refuses exactly so.
 pub record ByRules (b : Bases) (index : List ℕ) : Type 0 where

@@ -2,8 +2,12 @@
 -- where anything lies.
 -- Assumes nothing.
 use mathlib.Core.List.{List}
-use Prim.Native.Nat.{ℕ, _+_, _≤_}
+use mathlib.Core.Path.{_≡_}
+use Prim.Native.Nat.{ℕ, _+_, _≤_, _<_}
+use lib.ListN.{length, getD}
+use Rattle.events.specs.Events.{placedMark, adjustedMark}
 use Rattle.events.specs.Lists.{Each, Pairwise}
+use Rattle.events.specs.Sizes.{memorySize}
 use Rattle.fields.specs.declared.Field.{Field}
 use Rattle.words.specs.Runs.{Within, Apart}
 use Rattle.pieces.specs.Pieces.{Outline, placeOf, limitOf, width}
@@ -47,3 +51,10 @@ pub record FieldsSound (os : List Outline) : Type 0 where
 pub record WellPlaced (b : Bases) (os : List Outline) : Type 0 where
   pub fit : PiecesFit b os
   pub sound : FieldsSound os
+
+-- What the map holds of pieces with these outlines, placed at b: "0 untouched, 1 placed, .. 3 adjusted".
+pub record Marked (b : Bases) (os : List Outline) (map : List ℕ) : Type 0 where
+  pub size : length map ≡ memorySize
+  pub untouched : (x : ℕ) → Each (λ o. ¬ Placed b x o) os → getD map x 0 ≡ 0
+  pub placed : Each (λ o. (j : ℕ) → j < o .size → Each (λ f. ¬ In j f) (o .fields) → getD map (placeOf b o + j) 0 ≡ placedMark) os
+  pub adjusted : Each (λ o. Each (λ f. (j : ℕ) → In j f → getD map (placeOf b o + j) 0 ≡ adjustedMark) (o .fields)) os

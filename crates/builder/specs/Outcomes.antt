@@ -1,0 +1,96 @@
+-- What a call of the builder comes to, in the wish's words: when it is accepted and what it then leaves, and when it is refused and with what. Proved in
+-- proofs/Outcomes.antt: `built-exactly : Claim` and `build-refusals : RefusalsClaim`.
+-- Assumes nothing.
+use mathlib.Core.Bool.{Bool, true, false, _&&_}
+use mathlib.Core.List.{List}
+use mathlib.Core.Path.{_≡_}
+use Prim.Native.Nat.{ℕ, _≤_, _<_}
+use lib.Dec.{leb}
+use lib.ListN.{length, getD}
+use Rattle.acx.specs.Call.{inRange, Loaded}
+use Rattle.acx.specs.Rules.{Accepts, Refuses}
+use Rattle.answer.specs.Causes.{Causes}
+use Rattle.answer.specs.Report.{Located}
+use Rattle.answer.specs.declared.Fault.{Fault}
+use Rattle.answer.specs.declared.Fault.the-variants.{WrongBuffer, IndexTooLong}
+use Rattle.answer.specs.declared.Outcome.{Outcome}
+use Rattle.answer.specs.declared.Outcome.the-variants.{Accepted, Refused}
+use Rattle.answer.specs.declared.Start.{Start}
+use Rattle.events.specs.Events.{blank}
+use Rattle.events.specs.Sizes.{memorySize, fileLimit}
+use Rattle.index.specs.Built.{BuiltFrom}
+use Rattle.pieces.specs.Pieces.{Piece}
+use Rattle.pieces.specs.declared.Bases.{Bases}
+use Rattle.records.specs.declared.Entry.{Entry}
+use Rattle.words.specs.Runs.{part}
+use Rattle.builder.specs.Build.{indexOf, sized, Built}
+
+-- ---- accepted
+
+-- A call that was accepted with these counts, where low is the number of bytes used: it left the map p′ and the room q′.
+pub record AcceptedBuild (form : ℕ) (b : Bases) (file : List ℕ) (start : Start) (placed adjusted low : ℕ) (p′ q′ : List ℕ) : Type 0 where
+  -- the file is accepted at the bases
+  pub pieces : List Piece
+  pub entry : Entry
+  pub accepts : Accepts form b file pieces entry
+  -- "low in the answer is how many were used": these hold the index of its pieces, "and the unfilled rest .. is zero"
+  pub index : part q′ 0 low ≡ indexOf pieces entry
+  pub fits : low ≤ memorySize
+  pub rest : (x : ℕ) → low ≤ x → getD q′ x 0 ≡ 0
+  pub room : length q′ ≡ memorySize
+  -- so they are an index built from the file
+  pub built : BuiltFrom form file (part q′ 0 low)
+  -- "with its load's map, answer": of any call of the loader there that is lent buffers of the right lengths (a load has no low, and reports 0)
+  pub as-load : (k q : List ℕ) (t : Outcome) (k′ q″ : List ℕ) → Loaded form b file true k q t k′ q″
+      → (t ≡ Accepted start placed adjusted 0 0) × (p′ ≡ q″)
+
+-- When a call is accepted, where the lengths of all that is lent are right or not: it left the map p′ and the room q′.
+pub record Exactly (form : ℕ) (b : Bases) (file : List ℕ) (right : Bool) (r : Outcome) (p′ q′ : List ℕ) : Type 0 where
+  -- only with the right lengths and where a load accepts the file, and then it leaves its index
+  pub only : (start : Start) (placed adjusted names low : ℕ) → r ≡ Accepted start placed adjusted names low
+      → (right ≡ true) × (names ≡ 0) × AcceptedBuild form b file start placed adjusted low p′ q′
+  -- and always then, if the index fits, with its length
+  pub all : right ≡ true → (ps : List Piece) (entry : Entry) → Accepts form b file ps entry → length (indexOf ps entry) ≤ memorySize
+      → (start : Start) × (placed : ℕ) × (adjusted : ℕ) × (r ≡ Accepted start placed adjusted 0 (length (indexOf ps entry)))
+
+-- The claim: of every call that keeps the builder's contract. (answerSized: a C answer, if one is lent, has its length.)
+abbrev pub Claim : Type 0
+Claim =
+    (form : ℕ) (b : Bases) (file : List ℕ) (answerSized : Bool) (p q : List ℕ) (r : Outcome) (p′ q′ : List ℕ)
+    → Built form b file (answerSized && sized p q) p q r p′ q′
+    → Exactly form b file (answerSized && sized p q) r p′ q′
+
+-- ---- refused
+
+-- "Every other refusal leaves .. any other room lent for output as they were and the map all zero": a call that was refused found the map p and the room q,
+-- and left p′ and q′
+pub record RefusedBuild (fault : Fault) (p q p′ q′ : List ℕ) : Type 0 where
+  pub room : q′ ≡ q
+  -- "Refusal 1 changes nothing"
+  pub wrong-buffer : fault ≡ WrongBuffer → p′ ≡ p
+  pub other : ¬ (fault ≡ WrongBuffer) → p′ ≡ blank
+
+-- A build with the right buffers is refused with a fault, at an offset: "with its load's .. refusals", and "after the load's refusals, 25 at offset 0 where the
+-- index wouldn't fit"
+pub data RefusesBuild (form : ℕ) (b : Bases) (file : List ℕ) : Fault → ℕ → Type 0 where
+  by-load : {fault : Fault} {offset : ℕ} → Refuses form b file fault offset → RefusesBuild form b file fault offset
+  too-long : {ps : List Piece} {entry : Entry} → Accepts form b file ps entry → memorySize < length (indexOf ps entry)
+      → RefusesBuild form b file IndexTooLong 0
+
+-- A call that answered r, where the lengths of all that is lent are right or not.
+pub record Refusals (form : ℕ) (b : Bases) (file : List ℕ) (right : Bool) (p q : List ℕ) (r : Outcome) (p′ q′ : List ℕ) : Type 0 where
+  -- "1, 2, 3 come in that order": each exactly for its cause
+  pub causes : Causes right (inRange form b) (leb (length file) fileLimit) r
+  -- with the right lengths it is refused exactly so, with the first fault and its offset (a build has no side: 0)
+  pub only : right ≡ true → (fault : Fault) (offset side : ℕ) → r ≡ Refused fault offset side → RefusesBuild form b file fault offset × (side ≡ 0)
+  pub all : right ≡ true → (fault : Fault) (offset : ℕ) → RefusesBuild form b file fault offset → r ≡ Refused fault offset 0
+  -- its offset is that of a byte of the file; of 5 the file's length, of 1 to 4 zero
+  pub located : (fault : Fault) (offset side : ℕ) → r ≡ Refused fault offset side → Located (length file) fault offset
+  pub leaves : (fault : Fault) (offset side : ℕ) → r ≡ Refused fault offset side → RefusedBuild fault p q p′ q′
+
+-- The claim: of every call that keeps the builder's contract.
+abbrev pub RefusalsClaim : Type 0
+RefusalsClaim =
+    (form : ℕ) (b : Bases) (file : List ℕ) (answerSized : Bool) (p q : List ℕ) (r : Outcome) (p′ q′ : List ℕ)
+    → Built form b file (answerSized && sized p q) p q r p′ q′
+    → Refusals form b file (answerSized && sized p q) p q r p′ q′
