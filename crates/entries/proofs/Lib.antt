@@ -1,3 +1,4 @@
--- Laws about the definitions of specs/, which the crates above cite: where an entry lies that is read; and that what was written is read back.
+-- Laws about the definitions of specs/: examples; where an entry lies that is read, and that what was written is read back.
+pub mod Examples
 pub mod Reading
-pub mod Back
+pub mod ReadBack

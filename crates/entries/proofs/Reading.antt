@@ -192,7 +192,7 @@ pub lsb-below : (fixup : Fixup) (lsb : ℕ) → lsb < 256 → lsbFor fixup lsb <
 lsb-below LowByte lsb h = omega arith
 lsb-below ZeroPageByte lsb h = omega arith
 lsb-below Word lsb h = omega arith
-lsb-below HighByte lsb h = h
+lsb-below HighByte lsb h = omega arith
 
 listed-bytes : (kind : Kind) (t : RecordType) (i lsb : ℕ) → i < 256 → lsb < 256 → InBytes (listed kind t i lsb)
 listed-bytes kind (code before) i lsb h k = tt

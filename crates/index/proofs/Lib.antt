@@ -1,2 +1,17 @@
--- Laws about the definitions of specs/.
+-- Laws about the definitions of specs/: examples; what an index holds, one turn of the walk and the walk, what is accepted and refused, and where; and
+-- what was written for a file.
+pub mod Examples
 pub mod Holding
+pub mod Hollow
+pub mod Coding
+pub mod Turning
+pub mod Standing
+pub mod Walking
+pub mod Indexed
+pub mod Rules
+pub mod Faults
+pub mod Refusals
+pub mod Where
+pub mod Encoding
+pub mod Written
+pub mod Built

@@ -5,3 +5,4 @@ pub mod Cursor
 pub mod Rules
 pub mod Where
 pub mod Built
+pub mod Examples

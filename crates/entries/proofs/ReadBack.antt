@@ -13,12 +13,13 @@ use Rattle.answer.specs.Checks.{need, pick}
 use Rattle.events.specs.Lists.{Each}
 use Rattle.fields.specs.declared.Field.{Field}
 use Rattle.pieces.specs.Pieces.{Outline}
-use Rattle.records.proofs.Types.{code-type-back, fixups-suit, fixup-type-back}
-use Rattle.records.specs.Records.{typeOf, entries}
+use Rattle.records.proofs.Types.{code-type-back, fixup-type-back}
+use Rattle.records.specs.Records.{typeOf}
 use Rattle.records.specs.Types.{codeType, fixupType}
 use Rattle.records.specs.declared.Entry.{Entry}
 use Rattle.records.specs.declared.Entry.the-variants.{Nowhere, Fixed, Relative}
 use Rattle.records.specs.declared.Kind.{Kind}
+use Rattle.records.specs.declared.Kind.the-variants.{Main, ZeroPage, Absolute}
 use Rattle.words.proofs.Big.{length-big-digits}
 use Rattle.words.proofs.Numbers.{number-digits}
 use Rattle.words.specs.Numbers.{number, digits, bigDigits, bigValue}
@@ -54,7 +55,9 @@ length-fixup-bytes kind (f ∷ fs) = omega (arith, length-fixup-bytes kind fs)
 -- a fixup lists the field that it was written for
 listed-back : (kind : Kind) (f : Field) → Listable f → listed kind (typeOf (fixupType kind (f .fixup))) (f .index) (f .lsb) ≡ Suited f
 unfolding pick
-listed-back kind f y = rw (fixup-type-back kind (f .fixup), fixups-suit kind, y .unused) refl
+listed-back Main f y = rw (fixup-type-back Main (f .fixup), y .unused) refl
+listed-back ZeroPage f y = rw (fixup-type-back ZeroPage (f .fixup), y .unused) refl
+listed-back Absolute f y = rw (fixup-type-back Absolute (f .fixup), y .unused) refl
 
 -- so do all of them
 pub fields-back : (kind : Kind) (fs : List Field) → Each Listable fs → fieldsTo kind (fixupBytes kind fs) ≡ fs
@@ -83,9 +86,8 @@ length-end-bytes entry = refl
 
 -- with its length word
 pub length-entry : (bytes : List ℕ) → length (entryOf bytes) ≡ 2 + length bytes
-unfolding entryOf
-length-entry bytes =
-    length-append (bigDigits 2 (length bytes)) bytes ∙ ap (λ (n : ℕ). n + length bytes) (length-big-digits 2 (length bytes))
+unfolding entryOf bigDigits digits
+length-entry bytes = omega arith
 
 -- ---- an entry where it stands
 
@@ -192,16 +194,13 @@ module _ (index : List ℕ) (at : ℕ) (o : Outline) (rest : List ℕ) (is : dro
 
 -- ---- the end entry
 
--- the flag and the address stand for the entry
-flag-known : (entry : Entry) → flagOf entry ≤ 2
-flag-known Nowhere = omega arith
-flag-known (Fixed address) = omega arith
-flag-known (Relative address) = omega arith
-
-flag-back : (entry : Entry) → getD (entries (addressIn entry)) (flagOf entry) Nowhere ≡ entry
-flag-back Nowhere = refl
-flag-back (Fixed address) = refl
-flag-back (Relative address) = refl
+-- its flag and its address stand for the entry
+read-end : (index : List ℕ) (at : ℕ) (entry : Entry) → getD index (at + 3) 0 ≡ flagOf entry → bigValue 2 index (at + 4) ≡ addressIn entry
+    → readEnd index at 4 ≡ End entry (at + 6)
+unfolding readEnd need
+read-end index at Nowhere f a = rw f refl
+read-end index at (Fixed address) f a = rw (f, a) refl
+read-end index at (Relative address) f a = rw (f, a) refl
 
 module _ (index : List ℕ) (at : ℕ) (entry : Entry) (rest : List ℕ) (is : drop at index ≡ entryOf (endBytes entry) ++ rest) where
   -- where it ends
@@ -219,7 +218,5 @@ module _ (index : List ℕ) (at : ℕ) (entry : Entry) (rest : List ℕ) (is : d
 
   -- it is read back
   pub end-back : addressIn entry < 65536 → read index at ≡ End entry (at + 6)
-  unfolding readEnd need endBytes bigDigits digits
-  end-back h =
-      entry-read index at (endBytes entry) rest is (omega arith) (omega arith)
-      ∙ rw (end-flag, le-leb (flagOf entry) 2 (flag-known entry), end-address h, flag-back entry) refl
+  unfolding endBytes bigDigits digits
+  end-back h = entry-read index at (endBytes entry) rest is (omega arith) (omega arith) ∙ read-end index at entry end-flag (end-address h)
