@@ -1,4 +1,4 @@
--- A call with an answer to write does what the loader or the mover does, and writes the answer; one without does nothing, and is refused with 1.
+-- A call with an answer to write does what the loader, the mover or the builder does, and writes the answer; one without does nothing, and is refused with 1.
 -- Assumes nothing.
 use mathlib.Core.Bool.{true, false, _&&_, false≢true}
 use mathlib.Core.List.{List}
@@ -15,7 +15,10 @@ use Rattle.answer.specs.Report.{numberOf, numberReturned, Written}
 use Rattle.answer.specs.declared.Fault.the-variants.{WrongBuffer}
 use Rattle.answer.specs.declared.Outcome.{Outcome}
 use Rattle.answer.specs.declared.Outcome.the-variants.{Refused}
+use Rattle.builder.specs.Build.{sized as buildSized, build, Built}
+use Rattle.moves.proofs.Sources.{counted-refused}
 use Rattle.moves.specs.Call.{callOf, sized as moveSized, ruling, outcomeOf, memoryAfter, mapAfter, scratchAfter, Moved}
+use Rattle.moves.specs.Sources.{Source}
 use Rattle.pairs.proofs.Pairs.{loads-wrong}
 use Rattle.pairs.specs.Pairs.{Loads}
 use Rattle.passes.specs.Buffers.{Buffers}
@@ -23,6 +26,7 @@ use Rattle.passes.specs.Walk.{Inputs}
 use Rattle.pieces.specs.declared.Bases.{Bases}
 use Rattle.calls.specs.Answer.{answerSized, Answered}
 use Rattle.calls.specs.Acx.{Called as AcxCalled}
+use Rattle.calls.specs.Build.{Called as BuildCalled}
 use Rattle.calls.specs.Move.{Called as MoveCalled}
 use Rattle.calls.specs.Sdx.{Called as SdxCalled}
 
@@ -58,12 +62,12 @@ module _ {form : ℕ} {b : Bases} {file m p a : List ℕ} {r : ℕ} where
 
 -- ---- the mover
 
-module _ {file : List ℕ} {form : ℕ} {old new : Bases} {m p s a : List ℕ} {r : ℕ} where
-  pub move-unanswered : (length a ≡ 36 → ⊥) → r ≡ numberOf WrongBuffer → MoveCalled file (callOf form old new p s (answerSized a)) m a r m p s a
+module _ {h : Source} {old new : Bases} {m p s a : List ℕ} {r : ℕ} where
+  pub move-unanswered : (length a ≡ 36 → ⊥) → r ≡ numberOf WrongBuffer → MoveCalled (callOf h old new p s (answerSized a)) m a r m p s a
   unfolding ruling outcomeOf memoryAfter mapAfter scratchAfter need pick
-  move-unanswered h e =
-      let z : moveSized (callOf form old new p s (answerSized a)) m ≡ false =
-      and-false (eqb (length m) 65536 && eqb (length p) 65536 && eqb (length s) 65536) (answerSized a) (ne-eqb _ _ h) in
+  move-unanswered n e =
+      let z : moveSized (callOf h old new p s (answerSized a)) m ≡ false =
+      and-false (eqb (length m) 65536 && eqb (length p) 65536 && eqb (length s) 65536) (answerSized a) (ne-eqb _ _ n) in
       record {
         outcome = Refused WrongBuffer 0 0;
         moved = record {
@@ -71,15 +75,30 @@ module _ {file : List ℕ} {form : ℕ} {old new : Bases} {m p s a : List ℕ} {
           memory = rw z refl;
           map = rw z refl;
           scratch = rw z refl;
-          placed-fits = omega arith;
-          adjusted-fits = omega arith;
+          counts = counted-refused (h .format) (length (h .bytes)) WrongBuffer 0 0;
         };
+        answered = unanswered a r n e;
+      }
+
+  pub move-answered : {o : Outcome} {m′ p′ s′ a′ : List ℕ} → length a ≡ 36 → Moved (callOf h old new p s true) m o m′ p′ s′ → Answered o a r a′
+      → MoveCalled (callOf h old new p s (answerSized a)) m a r m′ p′ s′ a′
+  move-answered {o} n d t = record { outcome = o; moved = rw (eq-eqb _ _ n) d; answered = t }
+
+-- ---- the builder
+
+module _ {form : ℕ} {b : Bases} {file p q a : List ℕ} {r : ℕ} where
+  pub build-unanswered : (length a ≡ 36 → ⊥) → r ≡ numberOf WrongBuffer → BuildCalled form b file p q a r p q a
+  unfolding build need pick
+  build-unanswered h e =
+      record {
+        outcome = Refused WrongBuffer 0 0;
+        built = rw (ne-eqb _ _ h) (record { outcome = refl; map = refl; room = refl; placed-fits = omega arith; adjusted-fits = omega arith });
         answered = unanswered a r h e;
       }
 
-  pub move-answered : {o : Outcome} {m′ p′ s′ a′ : List ℕ} → length a ≡ 36 → Moved file (callOf form old new p s true) m o m′ p′ s′ → Answered o a r a′
-      → MoveCalled file (callOf form old new p s (answerSized a)) m a r m′ p′ s′ a′
-  move-answered {o} h d t = record { outcome = o; moved = rw (eq-eqb _ _ h) d; answered = t }
+  pub build-answered : {o : Outcome} {p′ q′ a′ : List ℕ} → length a ≡ 36 → Built form b file (buildSized p q) p q o p′ q′ → Answered o a r a′
+      → BuildCalled form b file p q a r p′ q′ a′
+  build-answered {o} h d t = record { outcome = o; built = rw (eq-eqb _ _ h) d; answered = t }
 
 -- ---- the SDX loader
 

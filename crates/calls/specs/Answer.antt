@@ -36,6 +36,6 @@ pub record Told (o : Outcome) (a : List ℕ) (r : ℕ) (a′ : List ℕ) : Type 
   -- what it lent with another length it finds as it was
   pub unchanged : answerSized a ≡ false → a′ ≡ a
 
--- of every call: each has an outcome that is answered (`answered` in the three records `Called`)
+-- of every call: each has an outcome that is answered (`answered` in the four records `Called`)
 abbrev pub ToldClaim : Type 0
 ToldClaim = (o : Outcome) (a : List ℕ) (r : ℕ) (a′ : List ℕ) → Answered o a r a′ → Told o a r a′

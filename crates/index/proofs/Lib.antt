@@ -1,5 +1,4 @@
--- Laws about the definitions of specs/: examples; what an index holds, one turn of the walk and the walk, what is accepted and refused, and where; and
--- what was written for a file.
+-- Laws about the definitions of specs/: examples; what an index holds, one turn of the walk, and the walk:
 pub mod Examples
 pub mod Holding
 pub mod Hollow
@@ -8,6 +7,13 @@ pub mod Turning
 pub mod Standing
 pub mod Walking
 pub mod Indexed
+-- The program keeps its contracts by:
+pub mod Fixing
+pub mod Applying
+pub mod Cursors
+pub mod Going
+pub mod Calling
+-- What is accepted and refused, and where; and what was written for a file:
 pub mod Rules
 pub mod Faults
 pub mod Refusals

@@ -1,10 +1,12 @@
 // The functions that C calls, as include/tekoweapa.h declares them, and nothing else: each hands its buffers on.
 ghost use Rattle.pieces.specs.Pieces.{basesAt};
 ghost use Rattle.moves.specs.Call.{callOf};
+ghost use Rattle.moves.specs.Sources.{fileIn, theIndex};
 ghost use Rattle.passes.specs.Buffers.{buffers};
 ghost use Rattle.passes.specs.Walk.{inputs};
 ghost use Rattle.calls.specs.Acx.{defaultBases, Called as AcxCalled};
 ghost use Rattle.calls.specs.Answer.{answerSized};
+ghost use Rattle.calls.specs.Build.{Called as BuildCalled};
 ghost use Rattle.calls.specs.Move.{Called as MoveCalled};
 ghost use Rattle.calls.specs.Sdx.{defaultInputs, Called as SdxCalled};
 
@@ -108,11 +110,55 @@ pub extern "C" fn tkw_acx_move(
     scratch: &mut [u8],
     answer: &mut [u8],
 ) -> u32
-    ensures { λ r. ⌜ MoveCalled (now (file .entry)) (callOf form (basesAt «old_main» «old_zero») (basesAt «new_main» «new_zero») (now (map .entry)) (now (scratch .entry)) (answerSized (now (answer .entry)))) (now (memory .entry)) (now (answer .entry)) r (now (memory .exit)) (now (map .exit)) (now (scratch .exit)) (now (answer .exit)) ⌝ }
+    ensures { λ r. ⌜ MoveCalled (callOf (fileIn form (now (file .entry))) (basesAt «old_main» «old_zero») (basesAt «new_main» «new_zero») (now (map .entry)) (now (scratch .entry)) (answerSized (now (answer .entry)))) (now (memory .entry)) (now (answer .entry)) r (now (memory .exit)) (now (map .exit)) (now (scratch .exit)) (now (answer .exit)) ⌝ }
 {
     calls::acx_move(
         form,
         file,
+        old_main,
+        old_zero,
+        new_main,
+        new_zero,
+        memory,
+        map,
+        scratch,
+        answer,
+    )
+}
+
+// Builds the index of an ACX file.
+#[no_mangle]
+pub extern "C" fn tkw_index_build(
+    form: u32,
+    file: &[u8],
+    main_base: u32,
+    zero_base: u32,
+    map: &mut [u8],
+    index: &mut [u8],
+    answer: &mut [u8],
+) -> u32
+    ensures { λ r. ⌜ BuildCalled form (basesAt «main_base» «zero_base») (now (file .entry)) (now (map .entry)) (now (index .entry)) (now (answer .entry)) r (now (map .exit)) (now (index .exit)) (now (answer .exit)) ⌝ }
+{
+    calls::index_build(form, file, main_base, zero_base, map, index, answer)
+}
+
+// Moves an ACX handler by an index from its old bases to the new ones.
+#[no_mangle]
+pub extern "C" fn tkw_index_move(
+    index: &[u8],
+    old_main: u32,
+    old_zero: u32,
+    new_main: u32,
+    new_zero: u32,
+    memory: &mut [u8],
+    map: &mut [u8],
+    scratch: &mut [u8],
+    answer: &mut [u8],
+) -> u32
+    ensures { λ r. ⌜ MoveCalled (callOf (theIndex (now (index .entry))) (basesAt «old_main» «old_zero») (basesAt «new_main» «new_zero») (now (map .entry)) (now (scratch .entry)) (answerSized (now (answer .entry)))) (now (memory .entry)) (now (answer .entry)) r (now (memory .exit)) (now (map .exit)) (now (scratch .exit)) (now (answer .exit)) ⌝ }
+{
+    calls::index_move(
+        index,
         old_main,
         old_zero,
         new_main,
