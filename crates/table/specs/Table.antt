@@ -15,6 +15,7 @@ use Rattle.answer.specs.Checks.{pick}
 use Rattle.answer.specs.Report.{numbersOf}
 use Rattle.events.specs.Events.{blank}
 use Rattle.moves.specs.Call as moves
+use Rattle.moves.specs.Sources.{fileIn}
 use Rattle.passes.specs.Buffers.{Buffers, buffers, newNamesLength, newAddressesLength}
 use Rattle.passes.specs.Walk.{inputs}
 use Rattle.pieces.specs.Pieces.{basesAt}
@@ -228,12 +229,12 @@ acxLoaded form file b =
 
 abbrev pub acxMoved : ℕ → List ℕ → Bases → Bases → Result
 acxMoved form file old new =
-    let c = moves.callOf form old new blank blank true in
+    let c = moves.callOf (fileIn form file) old new blank blank true in
     let m = acxLoaded form file old .memory in
     record {
-      numbers = numbersOf (moves.outcomeOf file c m);
-      memory = moves.memoryAfter file c m;
-      map = moves.mapAfter file c m;
+      numbers = numbersOf (moves.outcomeOf c m);
+      memory = moves.memoryAfter c m;
+      map = moves.mapAfter c m;
       others = moves.scratchAfter c m ∷ [];
     }
 
