@@ -12,11 +12,12 @@
 
 static const char sdx_file[] = "FF FF 00 40 00 40 11";
 static const char acx_file[] = "00 03 00 00 77 0B 00 00 00";
+static const char acx_index[] = "01 00 04 00 00 00 01 00 04 0B 00 00 00";
 static const uint32_t defaults[SETTINGS] = {
     [FORM] = 1, [LOW] = 7936, [HIGH] = 39936, [MAIN] = 9216, [ZERO] = 128, [NEW_MAIN] = 12416, [NEW_ZERO] = 128,
 };
 
-/* The call with one buffer in the huge mapping: 3 for a file, 1 for every other. Both must say so. */
+/* The call with one buffer in the huge mapping: 3 for a file or an index that is read, 1 for every other. Both must say so. */
 static bool huge_refused(struct driver *driver, enum buffer huge, uint8_t *mapping)
 {
     struct contents *contents = &driver->request.buffers[huge];
@@ -48,7 +49,8 @@ void cases_huge(struct driver *driver)
             prepare(driver, &rng, call);
             memcpy(driver->request.settings, defaults, sizeof defaults);
             struct contents *file = &driver->request.buffers[FILE_BYTES];
-            file->length = notation_bytes(call <= SDX_LOAD_DEFAULT ? sdx_file : acx_file, file->bytes, CAPACITY);
+            const char *text = call <= SDX_LOAD_DEFAULT ? sdx_file : call == INDEX_MOVE ? acx_index : acx_file;
+            file->length = notation_bytes(text, file->bytes, CAPACITY);
             bool good = huge_refused(driver, buffer, mapping);
             if (!good)
                 complain(driver, "4 GiB more than the right length is taken for it");

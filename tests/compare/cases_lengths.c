@@ -11,6 +11,8 @@ static const char *const files[CALLS] = {
     [ACX_LOAD] = "00 05 00 00 4C 03 00 06 01 01 0B 02 00 00",
     [ACX_LOAD_DEFAULT] = "00 05 00 00 4C 03 00 06 01 01 0B 02 00 00",
     [ACX_MOVE] = "00 05 00 00 4C 03 00 06 01 01 0B 02 00 00",
+    [INDEX_BUILD] = "00 05 00 00 4C 03 00 06 01 01 0B 02 00 00",
+    [INDEX_MOVE] = "01 00 07 00 00 00 03 06 01 00 00 04 0B 02 00 00",
 };
 
 static const uint32_t defaults[SETTINGS] = {
@@ -27,7 +29,7 @@ static void set_up(struct driver *driver, enum call call, bool settings_right)
     prepare(driver, &rng, call);
     memcpy(request->settings, defaults, sizeof request->settings);
     if (!settings_right)
-        request->settings[HIGH] = request->settings[FORM] = 70000;
+        request->settings[HIGH] = request->settings[FORM] = request->settings[MAIN] = 70000;
     struct contents *file = &request->buffers[FILE_BYTES];
     file->length = notation_bytes(files[call], file->bytes, CAPACITY);
     for (enum buffer buffer = 0; buffer < BUFFERS; buffer++)

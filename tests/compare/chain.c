@@ -1,9 +1,12 @@
 /* Chains of moves of one handler. Beside the comparison of every call, all that a chain leaves is held to document 01's formulas, which
  * are kept going from memory before it (formulas.h). A chain without live changes is held to the document's words on lists of moves as
  * well: what stands at the handler's places after it is what one move from A to Z leaves there, and what a fresh load at Z leaves if the
- * handler was as loaded at A; an address that is a place at none of the bases reached is as before. */
+ * handler was as loaded at A; an address that is a place at none of the bases reached is as before. Document 02, wish 5: "an index built from a
+ * file stands for that file and its loads, and a list may mix moves by either. Any other index is itself the handler, ... and only the sentence
+ * on a fresh load falls away." */
 #include "random_cases.h"
 #include "make.h"
+#include "stands.h"
 
 #include <stdio.h>
 #include <stdlib.h>
@@ -17,6 +20,8 @@ struct chain {
     struct making making;
     struct reach reach;
     struct made made;       /* the handler */
+    struct contents file;   /* its file; none if it is an index that nobody built */
+    struct contents index;  /* its index; none if it would not fit */
     struct base_pair first; /* A */
     bool as_loaded;
     bool quiet; /* live data is left alone, so that the chain can be held against one move */
@@ -57,13 +62,13 @@ static bool acceptance_by_formulas(const struct chain *chain, bool accepted)
     return false;
 }
 
-/* The last call was accepted; its answer and map are those of a load at the bases. */
-static bool report_by_formulas(const struct chain *chain, struct base_pair bases)
+/* The last call was accepted; its answer and map are those of a load at the bases, but for low, which a builder has. */
+static bool report_by_formulas(const struct chain *chain, struct base_pair bases, uint32_t low)
 {
     const struct driver *driver = chain->driver;
     struct made_answer answer = formulas_answer(&chain->made, bases);
     const uint32_t expected[ANSWER_NUMBERS] = {[AT_START_PRESENT] = answer.start_present, [AT_START] = answer.start,
-                                               [AT_PLACED] = answer.placed, [AT_ADJUSTED] = answer.adjusted};
+                                               [AT_PLACED] = answer.placed, [AT_ADJUSTED] = answer.adjusted, [AT_LOW] = low};
     uint8_t map[ADDRESSES];
     formulas_mark(&chain->made, bases, map);
     bool good = memcmp(left_in(driver, MAP), map, ADDRESSES) == 0;
@@ -98,17 +103,58 @@ static bool move_by_formulas(struct chain *chain)
         return false;
     if (accepted)
         formulas_move(&chain->made, old, new, chain->expected);
-    return (!accepted || report_by_formulas(chain, new)) && memory_by_formulas(chain);
+    return (!accepted || report_by_formulas(chain, new, 0)) && memory_by_formulas(chain);
 }
 
 /* The last call was the load at A, or at Z. A large handler may make a "file longer than 65,536". */
 static bool load_by_formulas(const struct chain *chain)
 {
     bool accepted = chain->driver->request.buffers[FILE_BYTES].length <= 65536 && formulas_accept(&chain->made, bases_now(chain));
-    return acceptance_by_formulas(chain, accepted) && (!accepted || report_by_formulas(chain, bases_now(chain)));
+    return acceptance_by_formulas(chain, accepted) && (!accepted || report_by_formulas(chain, bases_now(chain), 0));
 }
 
-/* The handler is loaded at A; false if it is not accepted there, or if something differs. */
+/* The last call was that of the builder, of a file that is accepted: "in building, after the load's refusals, 25 at offset 0 where the index
+ * wouldn't fit"; "low in the answer is how many were used" */
+static bool build_by_formulas(const struct chain *chain)
+{
+    uint8_t index[INDEX_MOST] = {0};
+    uint32_t length = formulas_index(&chain->made, index);
+    bool accepted = length <= INDEX_MOST;
+    if (!acceptance_by_formulas(chain, accepted))
+        return false;
+    if (!accepted)
+        return true;
+    if (memcmp(left_in(chain->driver, INDEX), index, INDEX_MOST) != 0) {
+        complain(chain->driver, "the index is another by document 01's formulas");
+        return false;
+    }
+    return report_by_formulas(chain, bases_now(chain), length);
+}
+
+static void copy_contents(struct contents *to, const struct contents *from)
+{
+    to->length = from->length;
+    memcpy(to->bytes, from->bytes, from->length);
+}
+
+/* The handler's index, built at A; none if it would not fit. */
+static bool build_index(struct chain *chain)
+{
+    struct driver *driver = chain->driver;
+    struct contents *input = &driver->request.buffers[FILE_BYTES];
+    driver->request.call = INDEX_BUILD;
+    copy_contents(&chain->file, input);
+    if (!agree(driver) || !build_by_formulas(chain))
+        return false;
+    if (answered(driver, AT_NUMBER) == 0) {
+        take_index(driver);
+        copy_contents(&chain->index, input);
+        copy_contents(input, &chain->file);
+    }
+    return true;
+}
+
+/* The handler is loaded at A, and its index built; false if it is not accepted there, or if something differs. */
 static bool load_first(struct chain *chain, bool *agreed)
 {
     struct driver *driver = chain->driver;
@@ -125,9 +171,29 @@ static bool load_first(struct chain *chain, bool *agreed)
     chain->as_loaded = !rng_once_in(chain->rng, 3);
     if (!chain->as_loaded)
         rng_fill(chain->rng, driver->request.buffers[MEMORY].bytes, ADDRESSES);
-    memcpy(chain->before, driver->request.buffers[MEMORY].bytes, ADDRESSES);
-    memcpy(chain->expected, chain->before, ADDRESSES);
-    return true;
+    *agreed = build_index(chain);
+    return *agreed;
+}
+
+/* An index that nobody built is the handler; what memory holds at A is taken for it. False if it is not accepted there. */
+static bool index_first(struct chain *chain)
+{
+    struct request *request = &chain->driver->request;
+    prepare(chain->driver, chain->rng, INDEX_MOVE);
+    chain->reach = make_index(&chain->making);
+    copy_contents(&chain->index, &request->buffers[FILE_BYTES]);
+    choose_bases(&chain->making, chain->reach, &request->settings[MAIN], &request->settings[ZERO]);
+    chain->first = bases_now(chain);
+    return chain->index.length <= INDEX_MOST && formulas_accept(&chain->made, chain->first);
+}
+
+/* The next call goes by the file or by the index, whichever there is. */
+static void choose_input(struct chain *chain)
+{
+    struct request *request = &chain->driver->request;
+    bool by_index = chain->file.length == 0 || (chain->index.length > 0 && rng_once_in(chain->rng, 2));
+    request->call = by_index ? INDEX_MOVE : ACX_MOVE;
+    copy_contents(&request->buffers[FILE_BYTES], by_index ? &chain->index : &chain->file);
 }
 
 /* Somebody writes another byte there between two calls. */
@@ -259,6 +325,7 @@ static bool one_move_does(struct chain *chain)
     settings[NEW_ZERO] = settings[ZERO];
     settings[MAIN] = chain->first.main;
     settings[ZERO] = chain->first.zero;
+    choose_input(chain);
     memcpy(request->buffers[MEMORY].bytes, chain->before, ADDRESSES);
     memcpy(chain->expected, chain->before, ADDRESSES);
     return agree(chain->driver) && move_by_formulas(chain) && chain_equals(chain, "one move from A to Z");
@@ -269,6 +336,7 @@ static bool fresh_load_does(struct chain *chain)
 {
     struct request *request = &chain->driver->request;
     request->call = ACX_LOAD;
+    copy_contents(&request->buffers[FILE_BYTES], &chain->file);
     request->settings[MAIN] = request->settings[NEW_MAIN];
     request->settings[ZERO] = request->settings[NEW_ZERO];
     return agree(chain->driver) && load_by_formulas(chain) && chain_equals(chain, "a fresh load at Z");
@@ -288,13 +356,15 @@ static bool list_holds(struct chain *chain)
 
 static bool run_chain(struct chain *chain)
 {
-    bool agreed;
-    if (!load_first(chain, &agreed))
+    bool agreed = true;
+    if (rng_once_in(chain->rng, 4) ? !index_first(chain) : !load_first(chain, &agreed))
         return agreed;
     struct request *request = &chain->driver->request;
-    request->call = ACX_MOVE;
+    memcpy(chain->before, request->buffers[MEMORY].bytes, ADDRESSES);
+    memcpy(chain->expected, chain->before, ADDRESSES);
     for (uint32_t moves = 1 + rng_below(chain->rng, MOVES_MOST); moves > 0; moves--) {
         request->placement = (enum placement)rng_below(chain->rng, PLACEMENTS);
+        choose_input(chain);
         if (!chain->quiet)
             live(chain);
         if (rng_once_in(chain->rng, 4) && !stray_call(chain))

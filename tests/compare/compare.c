@@ -129,6 +129,8 @@ static int run(struct driver *driver, const struct options *options)
         cases_sdx(driver);
         cases_acx(driver);
         cases_move(driver);
+        cases_build(driver);
+        cases_index(driver);
         cases_lengths(driver);
         cases_huge(driver);
         cases_search(driver);

@@ -2,7 +2,8 @@
 
 #include <stdio.h>
 
-enum { MET_LEAST = 20, COLUMNS = CALLS + 1 };
+/* A column for each call, and one more for each of the two movers. */
+enum { MET_LEAST = 20, COLUMNS = CALLS + 2 };
 
 struct column {
     const char *name;
@@ -16,6 +17,7 @@ struct column {
 #define ACX_NUMBERS                                                                                                                 \
     (BIT(0) | BIT(1) | BIT(2) | BIT(3) | BIT(4) | BIT(5) | BIT(6) | BIT(9) | BIT(10) | BIT(12) | BIT(13) | BIT(17) | BIT(18) |       \
      BIT(19) | BIT(20))
+#define NEW_NUMBERS (BIT(2) | BIT(10) | BIT(17) | BIT(20))
 
 static const struct column columns[COLUMNS] = {
     {"sdx_load", SDX_LOAD, 0, SDX_NUMBERS},
@@ -23,7 +25,10 @@ static const struct column columns[COLUMNS] = {
     {"acx_load", ACX_LOAD, 0, ACX_NUMBERS},
     {"acx_load_default", ACX_LOAD_DEFAULT, 0, ACX_NUMBERS},
     {"acx_move old", ACX_MOVE, 0, ACX_NUMBERS},
-    {"acx_move new", ACX_MOVE, 1, BIT(2) | BIT(10) | BIT(17) | BIT(20)},
+    {"acx_move new", ACX_MOVE, 1, NEW_NUMBERS},
+    {"index_build", INDEX_BUILD, 0, ACX_NUMBERS | BIT(25)},
+    {"index_move old", INDEX_MOVE, 0, (ACX_NUMBERS & ~BIT(4)) | BIT(24)},
+    {"index_move new", INDEX_MOVE, 1, NEW_NUMBERS},
 };
 
 /* One row of the table; false if a call met the number too seldom, or could not have met it. */
@@ -56,8 +61,8 @@ void coverage(struct driver *driver, bool demanded)
         count(driver, row(driver, number, demanded));
     for (int call = 0; call < CALLS; call++)
         for (int number = 0; number < NUMBERS; number++)
-            if (call != ACX_MOVE && driver->met[call][1][number] != 0) {
-                printf("%s met side 1, which a load does not have\n", call_name((enum call)call));
+            if (!call_is_move((enum call)call) && driver->met[call][1][number] != 0) {
+                printf("%s met side 1, which only a move has\n", call_name((enum call)call));
                 count(driver, false);
             }
 }

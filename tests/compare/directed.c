@@ -1,5 +1,6 @@
 #include "directed.h"
 #include "notation.h"
+#include "stands.h"
 
 #include <stdio.h>
 #include <string.h>
@@ -25,7 +26,9 @@ static void set_up(struct driver *driver, struct rng *rng, const struct directed
 
 static bool answer_holds(const struct driver *driver, const struct directed *directed)
 {
-    for (int i = 0; i < ANSWER_NUMBERS; i++)
+    /* The builder's answer is its load's but for low. */
+    int numbers = driver->request.call == directed->call ? ANSWER_NUMBERS : AT_LOW;
+    for (int i = 0; i < numbers; i++)
         if (answered(driver, i) != directed->answer[i]) {
             char what[96];
             snprintf(what, sizeof what, "the answer's number %d is %u, and should be %u", i, answered(driver, i), directed->answer[i]);
@@ -38,7 +41,7 @@ static bool answer_holds(const struct driver *driver, const struct directed *dir
 /* The room holds these bytes, and zero after them. */
 static bool room_holds(const struct driver *driver, enum buffer buffer, const char *text)
 {
-    uint8_t expected[256] = {0};
+    uint8_t expected[65536] = {0};
     size_t length = notation_bytes(text, expected, sizeof expected);
     return length <= room_length(buffer) && memcmp(left_in(driver, buffer), expected, room_length(buffer)) == 0;
 }
@@ -48,7 +51,8 @@ static bool result_holds(const struct driver *driver, const struct directed *dir
     if (!answer_holds(driver, directed))
         return false;
     const char *wrong = NULL;
-    if (directed->memory != NULL && !notation_holds(directed->memory, left_in(driver, MEMORY)))
+    bool with_memory = call_takes_buffer(driver->request.call, MEMORY);
+    if (directed->memory != NULL && with_memory && !notation_holds(directed->memory, left_in(driver, MEMORY)))
         wrong = "memory is not what the case expects";
     else if (directed->map != NULL && !notation_holds(directed->map, left_in(driver, MAP)))
         wrong = "the map is not what the case expects";
@@ -56,12 +60,15 @@ static bool result_holds(const struct driver *driver, const struct directed *dir
         wrong = "the new names are not what the case expects";
     else if (directed->addresses != NULL && !room_holds(driver, NEW_ADDRESSES, directed->addresses))
         wrong = "the new addresses are not what the case expects";
+    else if (directed->index != NULL && !room_holds(driver, INDEX, directed->index))
+        wrong = "the index is not what the case expects";
     if (wrong != NULL)
         complain(driver, wrong);
     return wrong == NULL;
 }
 
-/* The calls of the case: its own, and the short one where the settings are the default ones. */
+/* The calls of the case: its own, the short one where the settings are the default ones, and the builder for an ACX file. Document 02, wish 5:
+ * "with its load's map, answer and refusals" */
 static bool call_fits(const struct directed *directed, enum call call)
 {
     const uint32_t *settings = directed->settings;
@@ -69,6 +76,8 @@ static bool call_fits(const struct directed *directed, enum call call)
         return directed->call == SDX_LOAD && settings[LOW] == 7936 && settings[HIGH] == 39936;
     if (call == ACX_LOAD_DEFAULT)
         return directed->call == ACX_LOAD && settings[MAIN] == 9216 && settings[ZERO] == 128;
+    if (call == INDEX_BUILD && directed->call == ACX_LOAD)
+        return true;
     return call == directed->call;
 }
 
@@ -113,6 +122,8 @@ void run_directed(struct driver *driver, const struct directed *directed)
             good = agree(driver) && result_holds(driver, directed);
         }
         size_t length = driver->request.buffers[FILE_BYTES].length;
+        if (good && call == ACX_MOVE)
+            good = index_stands(driver);
         if (good && directed->answer[AT_NUMBER] == 0 && length <= SHORT_FILE && !driver->sample)
             good = changes_agree(driver) && cuts_agree(driver);
     }

@@ -5,7 +5,7 @@
 #include "request.h"
 #include "rng.h"
 
-enum { NUMBERS = 21, SIDES = 2, ANSWER_NUMBERS = 9 };
+enum { NUMBERS = 26, SIDES = 2, ANSWER_NUMBERS = 9 };
 
 /* Lies in memory shared with the process that watches, which reports from it if a call does not come back. */
 struct driver {

@@ -119,3 +119,38 @@ void formulas_move(const struct made *made, struct base_pair old, struct base_pa
         move_field(field, old, new, before + field_place(made, field, old), memory + field_place(made, field, new));
     }
 }
+
+/* "An entry is a code record: type, relative or absolute address (two bytes, big-endian), code length (a byte), then kind, index and LSB (a
+ * byte each, zero where unused) per fixup." What stands at a place of the index, which begins with the entry's length, "counting what follows". */
+static uint8_t entry_byte(const struct made *made, uint32_t piece, uint32_t first_field, uint32_t field_count, uint32_t at)
+{
+    const struct made_piece *this = &made->pieces[piece];
+    uint32_t length = 4 + 3 * field_count;
+    const uint32_t head[] = {length / 256, length % 256, this->type, this->address / 256, this->address % 256, this->n};
+    if (at < 6)
+        return (uint8_t)head[at];
+    const struct made_field *field = &made->fields[first_field + (at - 6) / 3];
+    return at % 3 == 0 ? field->type : at % 3 == 1 ? field->index : field->type >= 0x08 ? field->lsb : 0;
+}
+
+/* "one version byte, 1, then entries", "in file order". "The last entry is the end record: type, flag, big-endian address." */
+uint32_t formulas_index(const struct made *made, uint8_t index[INDEX_MOST])
+{
+    uint32_t length = 0, field = 0;
+    index[length++] = 1;
+    for (uint32_t piece = 0; piece < made->piece_count; piece++) {
+        uint32_t count = 0;
+        while (field + count < made->field_count && made->fields[field + count].piece == piece)
+            count++;
+        for (uint32_t at = 0; at < 6 + 3 * count; at++, length++)
+            if (length < INDEX_MOST)
+                index[length] = entry_byte(made, piece, field, count, at);
+        field += count;
+    }
+    uint32_t start = made->start_flag == 0 ? 0 : made->start;
+    const uint32_t end[] = {0, 4, 0x0B, made->start_flag, start / 256, start % 256};
+    for (uint32_t at = 0; at < 6; at++, length++)
+        if (length < INDEX_MOST)
+            index[length] = (uint8_t)end[at];
+    return length;
+}

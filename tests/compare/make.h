@@ -1,4 +1,4 @@
-/* Random files with settings that suit them. A file is sound unless slips are asked for; then each choice goes wrong once in a while. */
+/* Random files and indexes, with settings that suit them. One is sound unless slips are asked for; then each choice goes wrong once in a while. */
 #ifndef MAKE_H
 #define MAKE_H
 
@@ -32,6 +32,12 @@ struct reach {
 struct reach make_acx(const struct making *making);
 void choose_bases(const struct making *making, struct reach reach, uint32_t *main, uint32_t *zero);
 void choose_new_bases(const struct making *making, struct reach reach);
+
+/* An index in the place of the file, of a handler that is taken down; one that a builder could have made, or another. */
+struct reach make_index(const struct making *making);
+
+/* An ACX file whose index is about 65,536 bytes long. */
+struct reach make_long(const struct making *making);
 
 /* Spoils the request in one way or a few: cuts, flips, insertions, settings at bounds, wrong lengths, files too long. */
 void mutate(const struct making *making);

@@ -171,7 +171,7 @@ struct reach make_acx(const struct making *making)
         shuffle(making, pieces, count);
 
     if (making->made != NULL)
-        making->made->piece_count = making->made->field_count = 0;
+        making->made->piece_count = making->made->field_count = making->made->start_flag = making->made->start = 0;
     making->request->buffers[FILE_BYTES].length = 0;
     making->request->settings[FORM] = rng_once_in(making->rng, 2) ? 0 : 1;
     if (making->request->settings[FORM] == 0)

@@ -20,10 +20,12 @@ static const struct signature signatures[CALLS] = {
     [ACX_LOAD] = {"acx_load", ACX_BUFFERS, BIT(FORM) | BIT(MAIN) | BIT(ZERO)},
     [ACX_LOAD_DEFAULT] = {"acx_load_default", ACX_BUFFERS, BIT(FORM)},
     [ACX_MOVE] = {"acx_move", ACX_BUFFERS | BIT(SCRATCH), BIT(FORM) | BIT(MAIN) | BIT(ZERO) | BIT(NEW_MAIN) | BIT(NEW_ZERO)},
+    [INDEX_BUILD] = {"index_build", BIT(FILE_BYTES) | BIT(MAP) | BIT(INDEX) | BIT(ANSWER), BIT(FORM) | BIT(MAIN) | BIT(ZERO)},
+    [INDEX_MOVE] = {"index_move", ACX_BUFFERS | BIT(SCRATCH), BIT(MAIN) | BIT(ZERO) | BIT(NEW_MAIN) | BIT(NEW_ZERO)},
 };
 
 static const char *const buffer_names[BUFFERS] = {
-    "file", "known names", "known addresses", "memory", "map", "new names", "new addresses", "scratch", "answer",
+    "file", "known names", "known addresses", "memory", "map", "new names", "new addresses", "scratch", "index", "answer",
 };
 
 static const char *const setting_names[SETTINGS] = {
@@ -34,7 +36,8 @@ static const char *const placement_names[PLACEMENTS] = {"tight at the lower guar
 
 static const size_t room_lengths[BUFFERS] = {
     [MEMORY] = TKW_MEMORY_LENGTH, [MAP] = TKW_MEMORY_LENGTH, [NEW_NAMES] = TKW_NEW_NAMES_LENGTH,
-    [NEW_ADDRESSES] = TKW_NEW_ADDRESSES_LENGTH, [SCRATCH] = TKW_MEMORY_LENGTH, [ANSWER] = TKW_ANSWER_LENGTH,
+    [NEW_ADDRESSES] = TKW_NEW_ADDRESSES_LENGTH, [SCRATCH] = TKW_MEMORY_LENGTH, [INDEX] = TKW_INDEX_LENGTH,
+    [ANSWER] = TKW_ANSWER_LENGTH,
 };
 
 const char *call_name(enum call call)
@@ -45,6 +48,11 @@ const char *call_name(enum call call)
 const char *buffer_name(enum buffer buffer)
 {
     return buffer_names[buffer];
+}
+
+bool call_is_move(enum call call)
+{
+    return call == ACX_MOVE || call == INDEX_MOVE;
 }
 
 bool call_takes_buffer(enum call call, enum buffer buffer)
@@ -95,10 +103,28 @@ static uint32_t perform_acx(const struct request *request, enum maker maker, uin
         LENT(SCRATCH), LENT(ANSWER));
 }
 
+static uint32_t perform_index(const struct request *request, enum maker maker, uint8_t *const lent[BUFFERS])
+{
+    if (request->call == INDEX_BUILD)
+        return (maker == PRODUCT ? tkw_index_build : second_index_build)(
+            SETTING(FORM), LENT(FILE_BYTES), SETTING(MAIN), SETTING(ZERO), LENT(MAP), LENT(INDEX), LENT(ANSWER));
+    return (maker == PRODUCT ? tkw_index_move : second_index_move)(
+        LENT(FILE_BYTES), SETTING(MAIN), SETTING(ZERO), SETTING(NEW_MAIN), SETTING(NEW_ZERO), LENT(MEMORY), LENT(MAP), LENT(SCRATCH),
+        LENT(ANSWER));
+}
+
 uint32_t perform(const struct request *request, enum maker maker, uint8_t *const lent[BUFFERS])
 {
-    bool sdx = request->call == SDX_LOAD || request->call == SDX_LOAD_DEFAULT;
-    return sdx ? perform_sdx(request, maker, lent) : perform_acx(request, maker, lent);
+    switch (request->call) {
+    case SDX_LOAD:
+    case SDX_LOAD_DEFAULT:
+        return perform_sdx(request, maker, lent);
+    case INDEX_BUILD:
+    case INDEX_MOVE:
+        return perform_index(request, maker, lent);
+    default:
+        return perform_acx(request, maker, lent);
+    }
 }
 
 static void dump(FILE *out, const struct contents *contents)
@@ -114,11 +140,12 @@ void describe(FILE *out, const struct request *request)
     for (enum setting setting = 0; setting < SETTINGS; setting++)
         if (call_takes_setting(request->call, setting))
             fprintf(out, "  %s %u\n", setting_names[setting], request->settings[setting]);
+    const char *input = request->call == INDEX_MOVE ? "index" : "file";
     for (enum buffer buffer = 0; buffer < BUFFERS; buffer++)
         if (call_takes_buffer(request->call, buffer))
-            fprintf(out, "  %s: %zu bytes\n", buffer_names[buffer], request->buffers[buffer].length);
+            fprintf(out, "  %s: %zu bytes\n", buffer == FILE_BYTES ? input : buffer_names[buffer], request->buffers[buffer].length);
     if (request->buffers[FILE_BYTES].length <= 256) {
-        fprintf(out, "  the file:");
+        fprintf(out, "  the %s:", input);
         dump(out, &request->buffers[FILE_BYTES]);
     }
 }

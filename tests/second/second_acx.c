@@ -2,7 +2,6 @@
 #include "second_acx.h"
 #include "second.h"
 
-#include <stdbool.h>
 #include <stdio.h>
 #include <stdlib.h>
 #include <string.h>
@@ -13,10 +12,7 @@ struct reading {
     size_t file_length;
     size_t next;     /* the first byte not read yet */
     size_t fault_at; /* where the fault is, once there is one */
-    struct bases bases;
-    struct handler *handler;
-    uint32_t start_flag, start;
-    uint8_t marks[MEMORY_LENGTH]; /* PLACED and ADJUSTED, as the records so far say */
+    struct judging judging;
 };
 
 struct handler *second_new_handler(void)
@@ -85,6 +81,94 @@ void second_take_off(const struct field *field, uint8_t *at, uint32_t amount)
         *at = (uint8_t)((*at + 256 - amount % 256) % 256);
 }
 
+bool second_in_range(struct bases bases)
+{
+    return bases.main <= 65535 && bases.zero <= 255;
+}
+
+struct judging second_begin(struct handler *handler, struct bases bases)
+{
+    handler->piece_count = 0;
+    handler->field_count = 0;
+    return (struct judging){.bases = bases, .handler = handler};
+}
+
+uint32_t second_add_piece(struct judging *judging, const struct piece *piece)
+{
+    /* "Place + n <= 65,536, for 0A <= 256 (10)" */
+    uint32_t place = second_place(piece, judging->bases);
+    if (place + piece->n > (piece->type == CODE_ZERO ? 256u : 65536u))
+        return 10;
+    /* "no address already placed (17)" */
+    for (uint32_t i = 0; i < piece->n; i++)
+        if (judging->marks[place + i] != UNTOUCHED)
+            return 17;
+    memset(judging->marks + place, PLACED, piece->n);
+    judging->handler->pieces[judging->handler->piece_count++] = *piece;
+    return 0;
+}
+
+/* "the last code record before it of the right kind (18): 02, 04, 06, 08 after 00; 03, 05, 07, 09 after 0A; none ... before any code
+ * record". Document 02, wish 2: "Kinds 02, 04, 06 and 08 are to be accepted after type 01. ... Refusal 18 stays for the other kinds." */
+bool second_suits(const struct handler *handler, uint32_t type)
+{
+    if (handler->piece_count == 0)
+        return false;
+    switch (handler->pieces[handler->piece_count - 1].type) {
+    case CODE_MAIN:
+    case CODE_ABSOLUTE:
+        return type == 0x02 || type == 0x04 || type == 0x06 || type == 0x08;
+    case CODE_ZERO:
+        return type == 0x03 || type == 0x05 || type == 0x07 || type == 0x09;
+    default:
+        return false;
+    }
+}
+
+/* "index inside the record, for words index + 1 too (12); no byte adjusted before (13)." */
+uint32_t second_add_field(struct judging *judging, const struct field *field)
+{
+    struct handler *handler = judging->handler;
+    uint32_t width = second_width(field);
+    if (field->index + width > handler->pieces[field->piece].n)
+        return 12;
+    uint8_t *marks = judging->marks + second_field_place(handler, field, judging->bases);
+    for (uint32_t i = 0; i < width; i++)
+        if (marks[i] == ADJUSTED)
+            return 13;
+    memset(marks, ADJUSTED, width);
+    handler->fields[handler->field_count++] = *field;
+    return 0;
+}
+
+/* "flag 0 none, 1 absolute, 2 plus main base" */
+static uint32_t start_of(const struct handler *handler, struct bases bases)
+{
+    return handler->start_flag == 2 ? handler->start_address + bases.main : handler->start_address;
+}
+
+uint32_t second_add_end(struct judging *judging, uint32_t flag, uint32_t address)
+{
+    judging->handler->start_flag = flag;
+    judging->handler->start_address = address;
+    /* "sum <= 65,535 for flags 1, 2 (20)" */
+    return flag != 0 && start_of(judging->handler, judging->bases) > 65535 ? 20 : 0;
+}
+
+struct outcome second_acceptance(const struct judging *judging)
+{
+    const struct handler *handler = judging->handler;
+    struct outcome outcome = {.number = 0, .adjusted = handler->field_count};
+    for (uint32_t i = 0; i < handler->piece_count; i++)
+        outcome.placed += handler->pieces[i].n;
+    /* "an absent number is zero wherever it is reported or written" */
+    if (handler->start_flag != 0) {
+        outcome.start_present = 1;
+        outcome.start = start_of(handler, judging->bases);
+    }
+    return outcome;
+}
+
 static bool present(const struct reading *reading, size_t count)
 {
     return reading->file_length - reading->next >= count;
@@ -132,50 +216,9 @@ static uint32_t code_record(struct reading *reading, uint32_t type)
     struct piece piece = {.type = type, .address = take_word(reading), .n = length - 2};
     piece.code = reading->file + reading->next;
     reading->next += piece.n;
-    /* "Place + n <= 65,536, for 0A <= 256 (10)". Wish 6: "for 10 and 17 the address" */
-    uint32_t place = second_place(&piece, reading->bases);
-    if (place + piece.n > (type == CODE_ZERO ? 256u : 65536u))
-        return fault(reading, 10, address_at);
-    /* "no address already placed (17)" */
-    for (uint32_t i = 0; i < piece.n; i++)
-        if (reading->marks[place + i] != UNTOUCHED)
-            return fault(reading, 17, address_at);
-    memset(reading->marks + place, PLACED, piece.n);
-    reading->handler->pieces[reading->handler->piece_count++] = piece;
-    return 0;
-}
-
-/* "the last code record before it of the right kind (18): 02, 04, 06, 08 after 00; 03, 05, 07, 09 after 0A; none ... before any code
- * record". Document 02, wish 2: "Kinds 02, 04, 06 and 08 are to be accepted after type 01. ... Refusal 18 stays for the other kinds." */
-static bool suits(const struct handler *handler, uint32_t type)
-{
-    if (handler->piece_count == 0)
-        return false;
-    switch (handler->pieces[handler->piece_count - 1].type) {
-    case CODE_MAIN:
-    case CODE_ABSOLUTE:
-        return type == 0x02 || type == 0x04 || type == 0x06 || type == 0x08;
-    case CODE_ZERO:
-        return type == 0x03 || type == 0x05 || type == 0x07 || type == 0x09;
-    default:
-        return false;
-    }
-}
-
-/* "Item by item: index inside the record, for words index + 1 too (12); no byte adjusted before (13)." Gives the number alone. */
-static uint32_t fixup_item(struct reading *reading, const struct field *field)
-{
-    struct handler *handler = reading->handler;
-    uint32_t width = second_width(field);
-    if (field->index + width > handler->pieces[field->piece].n)
-        return 12;
-    uint8_t *marks = reading->marks + second_field_place(handler, field, reading->bases);
-    for (uint32_t i = 0; i < width; i++)
-        if (marks[i] == ADJUSTED)
-            return 13;
-    memset(marks, ADJUSTED, width);
-    handler->fields[handler->field_count++] = *field;
-    return 0;
+    /* Wish 6: "for 10 and 17 the address" */
+    uint32_t number = second_add_piece(&reading->judging, &piece);
+    return number == 0 ? 0 : fault(reading, number, address_at);
 }
 
 /* "Fixups"; the type has been read. */
@@ -187,22 +230,23 @@ static uint32_t fixup_record(struct reading *reading, uint32_t type, size_t type
         return cut_short(reading);
     size_t length_at = reading->next;
     uint32_t length = take_byte(reading);
-    if (!suits(reading->handler, type))
+    struct handler *handler = reading->judging.handler;
+    if (!second_suits(handler, type))
         return fault(reading, 18, type_at);
     /* "Length 1 to 253; for 08 and 09 even, 0 to 254 (9). Bytes present (5)." Wish 6: "for 9 the ... length" */
     if (with_lsb ? length % 2 != 0 || length > 254 : length < 1 || length > 253)
         return fault(reading, 9, length_at);
     if (!present(reading, length))
         return cut_short(reading);
-    /* "08, 09 take (index, LSB)". Wish 6: "in update bodies and fixup lists the item" */
+    /* "Item by item"; "08, 09 take (index, LSB)". Wish 6: "in update bodies and fixup lists the item" */
     uint32_t item_length = with_lsb ? 2 : 1;
     for (uint32_t i = 0; i < length; i += item_length) {
         size_t item_at = reading->next;
-        struct field field = {.piece = reading->handler->piece_count - 1, .type = (uint8_t)type};
+        struct field field = {.piece = handler->piece_count - 1, .type = (uint8_t)type};
         field.index = (uint8_t)take_byte(reading);
         if (with_lsb)
             field.lsb = (uint8_t)take_byte(reading);
-        uint32_t number = fixup_item(reading, &field);
+        uint32_t number = second_add_field(&reading->judging, &field);
         if (number != 0)
             return fault(reading, number, item_at);
     }
@@ -221,15 +265,13 @@ static uint32_t end_record(struct reading *reading)
     uint32_t address = take_word(reading);
     if (flag > 2)
         return fault(reading, 6, flag_at);
-    uint32_t start = flag == 2 ? address + reading->bases.main : address;
-    /* "sum <= 65,535 for flags 1, 2 (20)". Wish 6: "for 20 the start's first byte" */
-    if (flag != 0 && start > 65535)
-        return fault(reading, 20, address_at);
+    /* Wish 6: "for 20 the start's first byte" */
+    uint32_t number = second_add_end(&reading->judging, flag, address);
+    if (number != 0)
+        return fault(reading, number, address_at);
     /* "nothing after (19)". Wish 6: "for 19 the first byte too many" */
     if (reading->next != reading->file_length)
         return fault(reading, 19, reading->next);
-    reading->start_flag = flag;
-    reading->start = start;
     return 0;
 }
 
@@ -264,37 +306,21 @@ static uint32_t all_records(struct reading *reading)
     }
 }
 
-static struct outcome acceptance(const struct reading *reading)
-{
-    const struct handler *handler = reading->handler;
-    struct outcome outcome = {.number = 0, .adjusted = handler->field_count};
-    for (uint32_t i = 0; i < handler->piece_count; i++)
-        outcome.placed += handler->pieces[i].n;
-    /* "an absent number is zero wherever it is reported or written" */
-    if (reading->start_flag != 0) {
-        outcome.start_present = 1;
-        outcome.start = reading->start;
-    }
-    return outcome;
-}
-
 /* "1, 2, 3 come in that order, then the file from its front"; the offset is "0 for 1 to 4". Refusal 1 has been judged before. */
 struct outcome second_examine(uint32_t form, const uint8_t *file, size_t file_length, struct bases bases, struct handler *handler)
 {
-    /* "form (0 disk, 1 device), main base 0 to 65,535, zero-page base 0 to 255" */
-    if (form > 1 || bases.main > 65535 || bases.zero > 255)
+    /* "form (0 disk, 1 device)" */
+    if (form > 1 || !second_in_range(bases))
         return second_refusal(2, 0);
     if (file_length > FILE_MOST)
         return second_refusal(3, 0);
-    handler->piece_count = 0;
-    handler->field_count = 0;
-    struct reading reading = {.file = file, .file_length = file_length, .bases = bases, .handler = handler};
+    struct reading reading = {.file = file, .file_length = file_length, .judging = second_begin(handler, bases)};
     uint32_t number = opening(&reading, form);
     if (number == 0)
         number = all_records(&reading);
     if (number != 0)
         return second_refusal(number, reading.fault_at);
-    return acceptance(&reading);
+    return second_acceptance(&reading.judging);
 }
 
 void second_mark(const struct handler *handler, struct bases bases, uint8_t *map)

@@ -21,7 +21,7 @@ static struct outcome judge(uint32_t form, const uint8_t *file, size_t file_leng
 /* "Otherwise each byte of a relocatable piece goes, all at once, from old place to new. Fields are adjusted from current contents: the old
  * amount off, the new amount on, by the formulas above. ... vacated and all other bytes keep their contents." Document 02, wish 2, of absolute
  * pieces: "The mover then adjusts such fields in place and leaves the piece's other bytes." */
-static void move_handler(const struct handler *handler, struct bases old, struct bases new, uint8_t *memory)
+void second_move_handler(const struct handler *handler, struct bases old, struct bases new, uint8_t *memory)
 {
     uint8_t before[MEMORY_LENGTH];
     memcpy(before, memory, MEMORY_LENGTH);
@@ -61,7 +61,7 @@ uint32_t second_acx_move(uint32_t form, const uint8_t *file, size_t file_length,
     if (outcome.number != 0) {
         memset(map, UNTOUCHED, MEMORY_LENGTH);
     } else {
-        move_handler(handler, old, new, memory);
+        second_move_handler(handler, old, new, memory);
         second_mark(handler, new, map);
     }
     /* "a scratch of 65,536 bytes, all zero after it unless refused with 1" */

@@ -8,6 +8,8 @@
 #define second_acx_load tkw_acx_load
 #define second_acx_load_default tkw_acx_load_default
 #define second_acx_move tkw_acx_move
+#define second_index_build tkw_index_build
+#define second_index_move tkw_index_move
 
 #define second_word standin_word
 #define second_put_word standin_put_word
@@ -15,6 +17,13 @@
 #define second_report standin_report
 #define second_new_handler standin_new_handler
 #define second_examine standin_examine
+#define second_in_range standin_in_range
+#define second_begin standin_begin
+#define second_suits standin_suits
+#define second_add_piece standin_add_piece
+#define second_add_field standin_add_field
+#define second_add_end standin_add_end
+#define second_acceptance standin_acceptance
 #define second_place standin_place
 #define second_field_place standin_field_place
 #define second_width standin_width
@@ -22,6 +31,7 @@
 #define second_put_on standin_put_on
 #define second_take_off standin_take_off
 #define second_mark standin_mark
+#define second_move_handler standin_move_handler
 
 #include <stddef.h>
 #include <stdint.h>
