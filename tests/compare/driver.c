@@ -89,12 +89,10 @@ static bool same(const struct driver *driver, enum buffer buffer, const uint8_t 
     return false;
 }
 
+/* The first byte is zero, and each is as the one before it. */
 static bool all_zero(const uint8_t *bytes, size_t length)
 {
-    for (size_t i = 0; i < length; i++)
-        if (bytes[i] != 0)
-            return false;
-    return true;
+    return length == 0 || (bytes[0] == 0 && memcmp(bytes, bytes + 1, length - 1) == 0);
 }
 
 /* "Refusal 1 changes nothing but a C answer of the right length. Every other refusal leaves memory, new-name buffers and any other room

@@ -67,15 +67,16 @@ uint8_t *arena_lend(struct arena *arena, const struct loan *loan)
     return arena->lent;
 }
 
+/* The first byte is as it was filled, and each is as the one before it. */
+static bool all_slack(const uint8_t *bytes, size_t length)
+{
+    return length == 0 || (bytes[0] == SLACK && memcmp(bytes, bytes + 1, length - 1) == 0);
+}
+
 bool arena_slack_unchanged(const struct arena *arena)
 {
     const uint8_t *first = arena->base + arena->page;
     const uint8_t *end = first + arena->open * arena->page;
-    for (const uint8_t *at = first; at < arena->lent; at++)
-        if (*at != SLACK)
-            return false;
-    for (const uint8_t *at = arena->lent + arena->length; at < end; at++)
-        if (*at != SLACK)
-            return false;
-    return true;
+    const uint8_t *behind = arena->lent + arena->length;
+    return all_slack(first, (size_t)(arena->lent - first)) && all_slack(behind, (size_t)(end - behind));
 }

@@ -63,7 +63,7 @@ static bool build(struct driver *driver, const struct by_file *by_file, uint32_t
     *built = answered(driver, AT_NUMBER) == 0;
     if (build_fits(driver, by_file, side))
         return true;
-    complain(driver, "the index is built, or refused, otherwise than the file is moved by its file");
+    complain(driver, "the builder has another answer or map than a move by its file");
     return false;
 }
 
