@@ -26,8 +26,8 @@ static void set_up(struct driver *driver, struct rng *rng, const struct directed
 
 static bool answer_holds(const struct driver *driver, const struct directed *directed)
 {
-    /* The builder's answer is its load's but for low. */
-    int numbers = driver->request.call == directed->call ? ANSWER_NUMBERS : AT_LOW;
+    /* The builder's answer is its load's but for low, the last of its numbers. */
+    int numbers = driver->request.call == INDEX_BUILD && directed->call == ACX_LOAD ? AT_LOW : ANSWER_NUMBERS;
     for (int i = 0; i < numbers; i++)
         if (answered(driver, i) != directed->answer[i]) {
             char what[96];

@@ -121,7 +121,7 @@ void formulas_move(const struct made *made, struct base_pair old, struct base_pa
 }
 
 /* "An entry is a code record: type, relative or absolute address (two bytes, big-endian), code length (a byte), then kind, index and LSB (a
- * byte each, zero where unused) per fixup." What stands at a place of the index, which begins with the entry's length, "counting what follows". */
+ * byte each, zero where unused) per fixup." Gives the byte at a place in the entry, which begins with its length, "counting what follows". */
 static uint8_t entry_byte(const struct made *made, uint32_t piece, uint32_t first_field, uint32_t field_count, uint32_t at)
 {
     const struct made_piece *this = &made->pieces[piece];

@@ -51,7 +51,7 @@ static bool build_fits(const struct driver *driver, const struct by_file *by_fil
     return memcmp(left_in(driver, MAP), by_file->map, ADDRESSES) == 0;
 }
 
-/* Builds the index at the old bases (side 0) or the new; the request is then one by it if there is one. The file is given back before. */
+/* Builds the index at the old bases (side 0) or the new, and says whether there is one. */
 static bool build(struct driver *driver, const struct by_file *by_file, uint32_t side, bool *built)
 {
     struct request *request = &driver->request;
@@ -67,6 +67,18 @@ static bool build(struct driver *driver, const struct by_file *by_file, uint32_t
     return false;
 }
 
+/* The last call was refused: "refusal offsets are those of its entries", which begin with their lengths; 2 is at 0. */
+static bool at_an_entry(const struct driver *driver)
+{
+    const struct contents *index = &driver->request.buffers[FILE_BYTES];
+    size_t offset = answered(driver, AT_OFFSET), at = 1;
+    if (answered(driver, AT_NUMBER) == 2)
+        return offset == 0;
+    while (at < offset && at < index->length)
+        at += 2 + 256u * index->bytes[at] + index->bytes[at + 1];
+    return at == offset && at < index->length;
+}
+
 /* "A move by a built index must give the same memory, map and answer as one by its file; ... refusal offsets are those of its entries" */
 static bool move_by_index(struct driver *driver, const struct by_file *by_file)
 {
@@ -80,7 +92,11 @@ static bool move_by_index(struct driver *driver, const struct by_file *by_file)
         same = same && (at == AT_OFFSET || answered(driver, at) == by_file->answer[at]);
     if (!same)
         complain(driver, "a move by the index leaves something else than one by its file");
-    return same;
+    else if (answered(driver, AT_NUMBER) != 0 && !at_an_entry(driver))
+        complain(driver, "a move by the index is refused at an offset that no entry has");
+    else
+        return true;
+    return false;
 }
 
 /* An index is the same from all bases at which its file is accepted; whichever there is, the move is made by it. */
