@@ -9,7 +9,6 @@
 #include "stands.h"
 
 #include <stdio.h>
-#include <stdlib.h>
 #include <string.h>
 
 enum { MOVES_MOST = 6 };
@@ -378,16 +377,8 @@ static bool run_chain(struct chain *chain)
 
 bool chain_case(struct driver *driver, struct rng *rng)
 {
-    struct chain *chain = calloc(1, sizeof *chain);
-    if (chain == NULL) {
-        complain(driver, "no memory for a chain");
-        return false;
-    }
-    chain->driver = driver;
-    chain->rng = rng;
-    chain->making = (struct making){.rng = rng, .request = &driver->request, .made = &chain->made};
-    chain->quiet = rng_once_in(rng, 2);
-    bool good = run_chain(chain);
-    free(chain);
-    return good;
+    struct chain chain = {.driver = driver, .rng = rng};
+    chain.making = (struct making){.rng = rng, .request = &driver->request, .made = &chain.made};
+    chain.quiet = rng_once_in(rng, 2);
+    return run_chain(&chain);
 }

@@ -16,7 +16,7 @@
 #include <unistd.h>
 
 /* The default run is bounded by a number of cases, so that it is the same each time. */
-enum { DEFAULT_CASES = 120000, SAMPLE_CASES = 800 };
+enum { DEFAULT_CASES = 160000, SAMPLE_CASES = 800 };
 
 struct options {
     uint64_t seed, cases, seconds, only;

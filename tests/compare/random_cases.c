@@ -3,7 +3,6 @@
 #include "stands.h"
 
 #include <stdio.h>
-#include <stdlib.h>
 
 const char *kind_name(int kind)
 {
@@ -90,13 +89,8 @@ static bool index_move_case(struct driver *driver, struct rng *rng)
 {
     if (rng_once_in(rng, 4))
         return stands_case(driver, rng);
-    struct made *made = malloc(sizeof *made);
-    if (made == NULL) {
-        complain(driver, "no memory for a handler");
-        return false;
-    }
-    make_request(driver, rng, INDEX_MOVE, made);
-    free(made);
+    struct made made;
+    make_request(driver, rng, INDEX_MOVE, &made);
     return agree(driver);
 }
 

@@ -1,6 +1,5 @@
 #include "stands.h"
 
-#include <stdlib.h>
 #include <string.h>
 
 enum { ADDRESSES = 65536, ANSWER_BYTES = 4 * ANSWER_NUMBERS };
@@ -129,18 +128,12 @@ static bool index_of_file_stands(struct driver *driver, struct by_file *by_file)
 bool index_stands(struct driver *driver)
 {
     struct request *request = &driver->request;
-    struct by_file *by_file = malloc(sizeof *by_file);
-    if (by_file == NULL) {
-        complain(driver, "no memory for a move by file");
+    struct by_file by_file;
+    if (!index_of_file_stands(driver, &by_file))
         return false;
-    }
-    bool good = index_of_file_stands(driver, by_file);
-    if (good) {
-        request->call = ACX_MOVE;
-        memcpy(request->settings, by_file->settings, sizeof by_file->settings);
-        request->buffers[FILE_BYTES].length = by_file->file.length;
-        memcpy(request->buffers[FILE_BYTES].bytes, by_file->file.bytes, by_file->file.length);
-    }
-    free(by_file);
-    return good;
+    request->call = ACX_MOVE;
+    memcpy(request->settings, by_file.settings, sizeof by_file.settings);
+    request->buffers[FILE_BYTES].length = by_file.file.length;
+    memcpy(request->buffers[FILE_BYTES].bytes, by_file.file.bytes, by_file.file.length);
+    return true;
 }
