@@ -40,7 +40,7 @@ bool fill_buffers(const struct options *options, struct buffers *buffers)
         return false;
     if (options->names != NULL && !read_names(options->names, &buffers->known))
         return false;
-    return read_file(options->file, buffers->file, sizeof buffers->file, &buffers->file_length);
+    return read_file(source_of(options), buffers->file, sizeof buffers->file, &buffers->file_length);
 }
 
 static void call_sdx(const struct options *options, struct buffers *buffers)
@@ -54,14 +54,28 @@ static void call_sdx(const struct options *options, struct buffers *buffers)
 
 static void call_acx(const struct options *options, struct buffers *buffers)
 {
-    tkw_acx_load(options->form, buffers->file, buffers->file_length, options->main_base.value, options->zero_base.value,
+    tkw_acx_load(options->form.value, buffers->file, buffers->file_length, options->main_base.value, options->zero_base.value,
                  buffers->memory, sizeof buffers->memory, buffers->map, sizeof buffers->map,
                  buffers->answer, sizeof buffers->answer);
 }
 
-static void call_move(const struct options *options, struct buffers *buffers)
+static void call_index(const struct options *options, struct buffers *buffers)
 {
-    tkw_acx_move(options->form, buffers->file, buffers->file_length, options->from_main.value, options->from_zero.value,
+    tkw_index_build(options->form.value, buffers->file, buffers->file_length, options->main_base.value, options->zero_base.value,
+                    buffers->map, sizeof buffers->map, buffers->index, sizeof buffers->index, buffers->answer, sizeof buffers->answer);
+}
+
+static void call_move_by_index(const struct options *options, struct buffers *buffers)
+{
+    tkw_index_move(buffers->file, buffers->file_length, options->from_main.value, options->from_zero.value,
+                   options->to_main.value, options->to_zero.value,
+                   buffers->memory, sizeof buffers->memory, buffers->map, sizeof buffers->map,
+                   buffers->scratch, sizeof buffers->scratch, buffers->answer, sizeof buffers->answer);
+}
+
+static void call_move_by_file(const struct options *options, struct buffers *buffers)
+{
+    tkw_acx_move(options->form.value, buffers->file, buffers->file_length, options->from_main.value, options->from_zero.value,
                  options->to_main.value, options->to_zero.value,
                  buffers->memory, sizeof buffers->memory, buffers->map, sizeof buffers->map,
                  buffers->scratch, sizeof buffers->scratch, buffers->answer, sizeof buffers->answer);
@@ -77,8 +91,14 @@ struct answer call_loader(const struct options *options, struct buffers *buffers
     case COMMAND_ACX:
         call_acx(options, buffers);
         break;
+    case COMMAND_INDEX:
+        call_index(options, buffers);
+        break;
     case COMMAND_MOVE:
-        call_move(options, buffers);
+        if (options->index != NULL)
+            call_move_by_index(options, buffers);
+        else
+            call_move_by_file(options, buffers);
         break;
     }
     return read_answer(buffers->answer);

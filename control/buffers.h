@@ -14,11 +14,12 @@
 /* Every buffer is a member of its own, so no two overlap: the promises of the loaders rest on that. */
 struct buffers {
     size_t file_length;
-    uint8_t file[TKW_FILE_MOST + 1]; /* one more than a load takes, so that the loader sees that a file is too long */
+    uint8_t file[TKW_FILE_MOST + 1]; /* FILE or the index of a move: one more than a call takes, so that the call sees what is too long */
     struct names known;
     uint8_t memory[TKW_MEMORY_LENGTH];
     uint8_t map[TKW_MEMORY_LENGTH];
     uint8_t scratch[TKW_MEMORY_LENGTH];
+    uint8_t index[TKW_INDEX_LENGTH]; /* that is built */
     uint8_t new_names[TKW_NEW_NAMES_LENGTH];
     uint8_t new_addresses[TKW_NEW_ADDRESSES_LENGTH];
     uint8_t answer[TKW_ANSWER_LENGTH];

@@ -1,11 +1,12 @@
 #include "explain.h"
 #include "files.h"
+#include "index.h"
 #include "number.h"
 #include "text.h"
 
-bool is_of_call(uint32_t number)
+bool has_place(uint32_t number)
 {
-    return number == TKW_WRONG_BUFFER || number == TKW_SETTING_OUT_OF_RANGE || number == TKW_FILE_TOO_LONG;
+    return number > TKW_FILE_TOO_LONG && number != TKW_INDEX_TOO_LONG;
 }
 
 /* All lengths are right here but that of the list of names. */
@@ -35,10 +36,16 @@ static bool may_be_device_form(const struct buffers *buffers)
     return buffers->file_length >= 2 && (file[0] == 0x00 || file[0] == 0x01 || file[0] == 0x0A) && file[1] >= 2;
 }
 
+/* The first word, or 0 where there is none. */
+static uint32_t opening_of(const struct buffers *buffers)
+{
+    return buffers->file_length < 2 ? 0 : read_word(buffers->file);
+}
+
 /* A file of the other kind, or of the other form, shows itself by its first bytes; only where it is refused for its opening. */
 static void explain_opening(FILE *stream, const struct options *options, const struct buffers *buffers)
 {
-    uint32_t word = buffers->file_length < 2 ? 0 : read_word(buffers->file);
+    uint32_t word = opening_of(buffers);
     bool sdx = options->command == COMMAND_SDX;
     if (word == 0xFFF0 && sdx)
         fputs("it opens F0 FF, as an ACX handler does: 'tekoweapa acx' was meant?\n", stream);
@@ -48,6 +55,15 @@ static void explain_opening(FILE *stream, const struct options *options, const s
         fputs("it opens as an SDX program does: 'tekoweapa sdx' was meant?\n", stream);
     else if (may_be_device_form(buffers))
         fprintf(stream, "it opens as an ACX handler in device form may: '%s--form device' was meant?\n", sdx ? "tekoweapa acx " : "");
+}
+
+/* A handler's file that was given as its index shows itself in the same way. */
+static void explain_version(FILE *stream, const struct buffers *buffers)
+{
+    if (opening_of(buffers) == 0xFFF0)
+        fputs("it opens F0 FF, as an ACX handler does: FILE was meant, without --index?\n", stream);
+    else if (may_be_device_form(buffers))
+        fputs("it opens as an ACX handler in device form may: FILE was meant, with '--form device' and without --index?\n", stream);
 }
 
 /* The offset of this refusal is that of the name. */
@@ -60,6 +76,10 @@ static void explain_name(FILE *stream, const struct options *options, const stru
 
 void explain_refusal(FILE *stream, const struct options *options, const struct buffers *buffers, const struct answer *answer)
 {
+    if (options->index == NULL && has_place(answer->number) && is_index(buffers->file, buffers->file_length)) {
+        fputs("it is a fixup index: 'tekoweapa move --index' was meant?\n", stream);
+        return;
+    }
     switch (answer->number) {
     case TKW_WRONG_BUFFER:
         explain_buffers(stream, options, buffers);
@@ -68,7 +88,7 @@ void explain_refusal(FILE *stream, const struct options *options, const struct b
         explain_settings(stream, options);
         break;
     case TKW_FILE_TOO_LONG:
-        fprintf(stream, "the file has more than %d bytes\n", TKW_FILE_MOST);
+        fprintf(stream, "the %s has more than %d bytes\n", options->index != NULL ? "index" : "file", TKW_FILE_MOST);
         break;
     case TKW_WRONG_OPENING:
         explain_opening(stream, options, buffers);
@@ -79,6 +99,12 @@ void explain_refusal(FILE *stream, const struct options *options, const struct b
         break;
     case TKW_NAME_UNKNOWN:
         explain_name(stream, options, buffers, answer->offset);
+        break;
+    case TKW_WRONG_VERSION:
+        explain_version(stream, buffers);
+        break;
+    case TKW_INDEX_TOO_LONG:
+        fprintf(stream, "the index would have more than %d bytes\n", TKW_INDEX_LENGTH);
         break;
     }
 }

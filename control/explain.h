@@ -6,8 +6,8 @@
 
 #include <stdio.h>
 
-/* Whether a refusal is one of a call, before the file is looked at, and not one of a place in the file. */
-bool is_of_call(uint32_t number);
+/* Whether a refusal is one of a place in what was read: not of the call, before that is looked at, nor of an index that would not fit. */
+bool has_place(uint32_t number);
 
 /* Prints a line or more on a refusal, or nothing where there is no more to say. */
 void explain_refusal(FILE *stream, const struct options *options, const struct buffers *buffers, const struct answer *answer);

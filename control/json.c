@@ -10,6 +10,17 @@ static void print_member(FILE *stream, const char *name, bool present, uint32_t 
         fprintf(stream, "\"%s\":null,", name);
 }
 
+/* The path of what was read, or null, and the comma behind it. */
+static void print_path_member(FILE *stream, const char *name, const char *path)
+{
+    fprintf(stream, "\"%s\":", name);
+    if (path != NULL)
+        print_path(stream, path, JSON_ESCAPE);
+    else
+        fputs("null", stream);
+    fputc(',', stream);
+}
+
 /* The settings of the call by the names of their options, with '_' for '-'. */
 static void print_settings(FILE *stream, const struct options *options)
 {
@@ -17,7 +28,7 @@ static void print_settings(FILE *stream, const struct options *options)
     size_t count = list_settings(options, settings);
     fputs("\"settings\":{", stream);
     if (has_form(options))
-        fprintf(stream, "\"form\":\"%s\",", form_name(options->form));
+        fprintf(stream, "\"form\":\"%s\",", form_name(options->form.value));
     for (size_t i = 0; i < count; i++) {
         fputs(i > 0 ? ",\"" : "\"", stream);
         for (const char *letter = settings[i].option + 2; *letter != '\0'; letter++)
@@ -56,9 +67,9 @@ static void print_ranges(FILE *stream, const uint8_t *map)
 void print_json(FILE *stream, const struct options *options, const struct buffers *buffers, const struct answer *answer)
 {
     bool accepted = answer->number == TKW_ACCEPTED;
-    fprintf(stream, "{\"version\":\"%s\",\"command\":\"%s\",\"file\":", TKW_VERSION, command_name(options->command));
-    print_path(stream, options->file, JSON_ESCAPE);
-    fputc(',', stream);
+    fprintf(stream, "{\"version\":\"%s\",\"command\":\"%s\",", TKW_VERSION, command_name(options->command));
+    print_path_member(stream, "file", options->file);
+    print_path_member(stream, "index", options->index);
     print_settings(stream, options);
     /* The meanings have no character that JSON would want escaped. */
     fprintf(stream, "\"number\":%u,\"meaning\":\"%s\",", answer->number, tkw_number_text(answer->number));
@@ -70,6 +81,7 @@ void print_json(FILE *stream, const struct options *options, const struct buffer
     print_member(stream, "adjusted", accepted, answer->adjusted);
     print_names(stream, buffers, answer->new_names);
     print_member(stream, "low", accepted && options->command == COMMAND_SDX, answer->low);
+    print_member(stream, "index_length", accepted && options->command == COMMAND_INDEX, answer->low);
     print_ranges(stream, buffers->map);
     fputs("}\n", stream);
 }

@@ -1,14 +1,15 @@
-/* tekoweapa, the bench's control program: one load or move of an image of memory, for people at the desk.
+/* tekoweapa, the bench's control program: one load or move of an image of memory, or one index, for people at the desk.
  *
  * The command line is read by options (usage has the help), files by files, names and number. buffers makes the call; presence looks where
  * a handler is that is to be moved. report prints what came of it, with explain and rows, or json does. Outputs are planned here, looked at
- * by targets, and written by outputs, with temporaries; the picture by picture, on a canvas, as png (deflate) or ppm, into bytes. errors
- * says what is wrong, and text shows bytes that come from outside. */
+ * by targets, and written by outputs, with temporaries; the picture by picture, on a canvas, as png (deflate) or ppm, into bytes. index
+ * knows an index when it sees one, errors says what is wrong, and text shows bytes that come from outside. */
 #define _XOPEN_SOURCE 700
 
 #include "buffers.h"
 #include "errors.h"
 #include "files.h"
+#include "index.h"
 #include "json.h"
 #include "options.h"
 #include "outputs.h"
@@ -35,12 +36,15 @@ struct work {
     struct output outputs[OUTPUTS];
 };
 
-/* The files that a run writes. The picture has its bytes when it is drawn. */
+/* The files that a run writes. The picture has its bytes when it is drawn, an index its length when it is built. */
 static void plan_outputs(const struct options *options, struct work *work)
 {
     struct buffers *buffers = &work->buffers;
+    const struct output image = {
+        .path = options->out, .kind = "image", .is_of_kind = is_image, .bytes = buffers->memory, .length = sizeof buffers->memory};
+    const struct output index = {.path = options->out, .kind = "index", .is_of_kind = is_index, .bytes = buffers->index};
     const struct output outputs[OUTPUTS] = {
-        [OUT] = {.path = options->out, .kind = "image", .is_of_kind = is_image, .bytes = buffers->memory, .length = sizeof buffers->memory},
+        [OUT] = options->command == COMMAND_INDEX ? index : image,
         [MAP] = {.path = options->map, .kind = "map", .is_of_kind = is_map, .bytes = buffers->map, .length = sizeof buffers->map},
         [PICTURE] = {.path = options->picture, .kind = "picture", .is_of_kind = is_picture},
     };
@@ -69,7 +73,7 @@ static bool spare_inputs(const struct options *options, const struct output *out
     for (int i = 0; i < OUTPUTS; i++) {
         const char *path = outputs[i].path;
         bool image = i != OUT && leads_to_input(path, options->memory);
-        if (image || leads_to_input(path, options->file) || leads_to_input(path, options->names))
+        if (image || leads_to_input(path, source_of(options)) || leads_to_input(path, options->names))
             return complain(path, "would replace a file that is read");
     }
     return true;
@@ -78,9 +82,19 @@ static bool spare_inputs(const struct options *options, const struct output *out
 /* An image that is there is not begun anew unless that is asked for. A pipe or a device holds none. */
 static bool spare_image(const struct options *options, const struct output *out)
 {
-    bool image = out->present && out->target != NULL;
+    bool image = out->present && out->target != NULL && options->command != COMMAND_INDEX;
     return !image || options->memory != NULL || options->fresh
         || complain(out->path, "is there already; give it with --memory to load into it, or --fresh to begin with zeros");
+}
+
+/* The answer has the length of an index. A refusal has none to write, and leaves the one that is there. */
+static void measure_index(const struct options *options, const struct answer *answer, struct output *out)
+{
+    if (options->command != COMMAND_INDEX)
+        return;
+    out->length = answer->low;
+    if (answer->number != TKW_ACCEPTED)
+        out->path = NULL;
 }
 
 static bool draw(const struct options *options, struct work *work)
@@ -102,9 +116,10 @@ static int run(const struct options *options, struct work *work)
     if (!spare_inputs(options, work->outputs) || !find_targets(work->outputs, OUTPUTS) || !spare_image(options, &work->outputs[OUT])
         || !fill_buffers(options, &work->buffers))
         return EXIT_TROUBLE;
-    if (options->command == COMMAND_MOVE && !find_handler(options, &work->buffers, &presence))
+    if (options->command == COMMAND_MOVE && options->index == NULL && !find_handler(options, &work->buffers, &presence))
         return EXIT_TROUBLE;
     struct answer answer = call_loader(options, &work->buffers);
+    measure_index(options, &answer, &work->outputs[OUT]);
     if (!draw(options, work) || !write_outputs(work->outputs, OUTPUTS) || !rename_outputs(work->outputs, OUTPUTS))
         return EXIT_TROUBLE;
     if (options->json)

@@ -6,7 +6,14 @@
 
 #include <string.h>
 
-enum { SDX = 1u << COMMAND_SDX, ACX = 1u << COMMAND_ACX, MOVE = 1u << COMMAND_MOVE, ANY = SDX | ACX | MOVE };
+enum {
+    SDX = 1u << COMMAND_SDX,
+    ACX = 1u << COMMAND_ACX,
+    INDEX = 1u << COMMAND_INDEX,
+    MOVE = 1u << COMMAND_MOVE,
+    WITH_MEMORY = SDX | ACX | MOVE,
+    ANY = WITH_MEMORY | INDEX
+};
 
 enum { ZERO_BASE_MOST = 255 };
 
@@ -23,28 +30,30 @@ struct option {
 };
 
 /* What follows an option is told by the type of its member, so the two can't disagree. */
-#define KIND_OF(member) _Generic(((struct options *)NULL)->member, bool: FLAG, struct number: NUMBER, enum form: FORM, const char *: PATH)
+#define KIND_OF(member) \
+    _Generic(((struct options *)NULL)->member, bool: FLAG, struct number: NUMBER, struct form_choice: FORM, const char *: PATH)
 #define OPTION(name, commands, member) {name, commands, KIND_OF(member), offsetof(struct options, member), 0}
 #define SETTING(name, commands, member, most) {name, commands, KIND_OF(member), offsetof(struct options, member), most}
 
 static const struct option OPTIONS[] = {
-    OPTION("--form", ACX | MOVE, form),
-    SETTING("--main", ACX, main_base, ADDRESS_MOST),
-    SETTING("--zero", ACX, zero_base, ZERO_BASE_MOST),
+    OPTION("--form", ACX | INDEX | MOVE, form),
+    SETTING("--main", ACX | INDEX, main_base, ADDRESS_MOST),
+    SETTING("--zero", ACX | INDEX, zero_base, ZERO_BASE_MOST),
     SETTING("--low", SDX, low, ADDRESS_MOST),
     SETTING("--high", SDX, high, ADDRESS_MOST),
     OPTION("--names", SDX, names),
+    OPTION("--index", MOVE, index),
     SETTING("--from-main", MOVE, from_main, ADDRESS_MOST),
     SETTING("--from-zero", MOVE, from_zero, ZERO_BASE_MOST),
     SETTING("--to-main", MOVE, to_main, ADDRESS_MOST),
     SETTING("--to-zero", MOVE, to_zero, ZERO_BASE_MOST),
-    OPTION("--memory", ANY, memory),
+    OPTION("--memory", WITH_MEMORY, memory),
     OPTION("--fresh", SDX | ACX, fresh),
     OPTION("--out", ANY, out),
     OPTION("--map", ANY, map),
     OPTION("--picture", ANY, picture),
     OPTION("--scale", ANY, scale),
-    OPTION("--dump", ANY, dump),
+    OPTION("--dump", WITH_MEMORY, dump),
     OPTION("--ranges", ANY, ranges),
     OPTION("--quiet", ANY, quiet),
     OPTION("--json", ANY, json),
@@ -57,7 +66,7 @@ enum { OPTION_COUNT = sizeof OPTIONS / sizeof OPTIONS[0] };
 _Static_assert(OPTION_COUNT <= 32, "an option has no bit in struct reading's `given`");
 _Static_assert((int)OPTION_COUNT <= (int)SETTINGS_MOST, "a command's settings may have no room");
 
-static const char *const COMMANDS[] = {[COMMAND_SDX] = "sdx", [COMMAND_ACX] = "acx", [COMMAND_MOVE] = "move"};
+static const char *const COMMANDS[] = {[COMMAND_SDX] = "sdx", [COMMAND_ACX] = "acx", [COMMAND_INDEX] = "index", [COMMAND_MOVE] = "move"};
 
 static const char *const FORMS[] = {[FORM_DISK] = "disk", [FORM_DEVICE] = "device"};
 
@@ -80,9 +89,14 @@ const char *form_name(enum form form)
     return FORMS[form];
 }
 
+const char *source_of(const struct options *options)
+{
+    return options->index != NULL ? options->index : options->file;
+}
+
 bool has_form(const struct options *options)
 {
-    return options->command != COMMAND_SDX;
+    return options->command != COMMAND_SDX && options->index == NULL;
 }
 
 size_t list_settings(const struct options *options, struct setting settings[SETTINGS_MOST])
@@ -100,7 +114,7 @@ size_t list_settings(const struct options *options, struct setting settings[SETT
 static void take_default_settings(struct options *options)
 {
     *options = (struct options){
-        .form = FORM_DISK,
+        .form.value = FORM_DISK,
         .scale.value = 1,
         .low.value = TKW_DEFAULT_LOW,
         .high.value = TKW_DEFAULT_HIGH,
@@ -126,15 +140,15 @@ static bool take_command(const char *word, enum command *command)
     size_t place = place_of(word, COMMANDS, count);
     *command = (enum command)place;
     if (word[0] == '-')
-        return misused(word, "the command comes first: sdx, acx or move");
+        return misused(word, "the command comes first: sdx, acx, index or move");
     return place < count || misused(word, "unknown command");
 }
 
-static bool take_form(const struct option *option, const char *value, enum form *form)
+static bool take_form(const struct option *option, const char *value, struct form_choice *form)
 {
     size_t count = sizeof FORMS / sizeof FORMS[0];
     size_t place = place_of(value, FORMS, count);
-    *form = (enum form)place;
+    *form = (struct form_choice){(enum form)place, true};
     return place < count || misused(option->name, "is disk or device");
 }
 
@@ -228,6 +242,9 @@ static bool check_pairs(const struct options *options)
         {options->quiet && options->dump, "--dump", "--quiet"},
         {options->quiet && options->ranges, "--ranges", "--quiet"},
         {options->fresh && options->memory != NULL, "--fresh", "--memory"},
+        {options->index != NULL && options->file != NULL, "--index", "FILE"},
+        {options->index != NULL && options->form.given, "--form", "--index"},
+        {is_standard_input(options->index) && is_standard_input(options->memory), "--index from standard input", "--memory from there"},
         {is_standard_input(options->file) && is_standard_input(options->memory), "FILE from standard input", "--memory from there"},
         {is_standard_input(options->file) && is_standard_input(options->names), "FILE from standard input", "--names from there"},
         {is_standard_input(options->memory) && is_standard_input(options->names), "--memory from standard input", "--names from there"},
@@ -242,8 +259,10 @@ static bool check_pairs(const struct options *options)
 static bool check_needs(const struct options *options)
 {
     const char *command = COMMANDS[options->command];
-    if (options->file == NULL)
-        return misused(command, "FILE is missing");
+    if (source_of(options) == NULL)
+        return misused(command, options->command == COMMAND_MOVE ? "FILE or --index is missing" : "FILE is missing");
+    if (options->command == COMMAND_INDEX && options->out == NULL)
+        return misused(command, "needs --out, the file that the index goes to");
     if (options->command == COMMAND_MOVE && options->memory == NULL)
         return misused(command, "needs --memory, the image that the handler is in");
     if (options->command == COMMAND_MOVE && !options->to_main.given && !options->to_zero.given)

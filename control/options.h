@@ -8,13 +8,19 @@
 #include <stddef.h>
 #include <stdint.h>
 
-enum command { COMMAND_SDX, COMMAND_ACX, COMMAND_MOVE };
+enum command { COMMAND_SDX, COMMAND_ACX, COMMAND_INDEX, COMMAND_MOVE };
 
 enum form { FORM_DISK = TKW_DISK, FORM_DEVICE = TKW_DEVICE };
 
 /* A number that may be left out; it then has its default value. */
 struct number {
     uint32_t value;
+    bool given;
+};
+
+/* A form that may be left out; it is then disk. */
+struct form_choice {
+    enum form value;
     bool given;
 };
 
@@ -25,13 +31,14 @@ struct options {
     bool fresh;
     bool dump, ranges, quiet, json;
     const char *file;
+    const char *index;
     const char *names;
     const char *memory;
     const char *out;
     const char *map;
     const char *picture;
     struct number scale;
-    enum form form;
+    struct form_choice form;
     struct number low, high;
     struct number main_base, zero_base;
     struct number from_main, from_zero;
@@ -52,7 +59,10 @@ enum { SETTINGS_MOST = 32 };
 /* Reads the command line, with the default settings where none are given. False after a complaint. */
 bool parse_options(int count, char **words, struct options *options);
 
-/* Whether the command has a form; and its number settings, whose count is returned. */
+/* What the call goes by: FILE, or the index of a move. */
+const char *source_of(const struct options *options);
+
+/* Whether the call has a form; and its number settings, whose count is returned. */
 bool has_form(const struct options *options);
 size_t list_settings(const struct options *options, struct setting settings[SETTINGS_MOST]);
 

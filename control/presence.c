@@ -18,7 +18,7 @@ static void load_copy(const struct options *options, const struct buffers *buffe
                       struct load *load)
 {
     memcpy(load->memory, buffers->memory, sizeof load->memory);
-    tkw_acx_load(options->form, buffers->file, buffers->file_length, main_base.value, zero_base.value,
+    tkw_acx_load(options->form.value, buffers->file, buffers->file_length, main_base.value, zero_base.value,
                  load->memory, sizeof load->memory, load->map, sizeof load->map, load->answer, sizeof load->answer);
 }
 

@@ -21,7 +21,8 @@ struct presence {
     size_t fields_of_new;
 };
 
-/* Compares the image before a move with loads at its old and at its new bases. False after a complaint. */
+/* Compares the image before a move by its file with loads at its old and at its new bases. An index has no code to compare, so of a move by
+ * one nothing can be said. False after a complaint. */
 bool find_handler(const struct options *options, const struct buffers *buffers, struct presence *presence);
 
 /* Warns where the handler does not seem to be: most of the bytes differ. And where it seems to have been moved before, since a vector at a

@@ -97,6 +97,11 @@ static void print_acceptance(FILE *stream, const struct options *options, const 
         print_names(stream, buffers, answer->new_names);
         fprintf(stream, "low        $%04X (%u)\n", answer->low, answer->low);
     }
+    if (options->command == COMMAND_INDEX) {
+        fputs("index      ", stream);
+        print_count(stream, answer->low, "byte");
+        fputc('\n', stream);
+    }
     fputs("map\n", stream);
     if (options->ranges)
         print_ranges(stream, buffers->map);
@@ -110,15 +115,15 @@ static void print_acceptance(FILE *stream, const struct options *options, const 
 
 static void print_refusal(FILE *stream, const struct options *options, const struct buffers *buffers, const struct answer *answer)
 {
-    bool of_call = is_of_call(answer->number);
-    if (!of_call) {
+    bool placed = has_place(answer->number);
+    if (placed) {
         fprintf(stream, "at offset %u ($%04X) of %zu", answer->offset, answer->offset, buffers->file_length);
         if (options->command == COMMAND_MOVE)
             fprintf(stream, " (side: %s bases)", answer->side == 0 ? "old" : "new");
         fputc('\n', stream);
     }
     explain_refusal(stream, options, buffers, answer);
-    if (!of_call)
+    if (placed)
         print_file_rows(stream, buffers, answer->offset);
 }
 

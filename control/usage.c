@@ -4,18 +4,23 @@
 
 static const char *const COMMANDS =
     "tekoweapa loads SpartaDOS X programs and ACX handlers into an image of memory,\n"
-    "and moves handlers while they live. It runs nothing.\n"
+    "and moves handlers while they live, by their file or by an index. It runs nothing.\n"
     "\n"
     "  tekoweapa sdx FILE [options]    load an SDX program\n"
     "  tekoweapa acx FILE [options]    load an ACX handler\n"
+    "  tekoweapa index FILE [options]  build the index of an ACX handler\n"
     "  tekoweapa move FILE [options]   move an ACX handler that is in the --memory image\n"
     "\n";
 
 static const char *const ALL =
-    "all\n"
+    "sdx, acx and move\n"
     "  --memory FILE                   image of 65536 bytes before the call (zeros, but a\n"
     "                                  move needs its image)\n"
-    "  --out FILE                      the image after it, refused calls too\n"
+    "  --dump                          also print the loaded bytes\n"
+    "all\n"
+    "  --out FILE                      the image after the call, refused calls too; of the\n"
+    "                                  command index the index, which it needs, and which a\n"
+    "                                  refusal does not write\n"
     "  --map FILE                      a byte per address: 0 untouched, 1 placed,\n"
     "                                  2 reserved, 3 adjusted\n"
     "  --picture FILE                  the map as a picture, a row per page: placed blue,\n"
@@ -23,7 +28,6 @@ static const char *const ALL =
     "                                  ends in .png, else PPM\n";
 
 static const char *const PRINTED =
-    "  --dump                          also print the loaded bytes\n"
     "  --ranges                        print each range of placed, of reserved and of\n"
     "                                  adjusted bytes by itself\n"
     "  --quiet                         print the first line alone\n"
@@ -46,11 +50,12 @@ static void print_settings(FILE *stream)
             "                                  (in the name: \\\" \\\\ \\xHH; # begins a comment)\n",
             TKW_DEFAULT_LOW, TKW_DEFAULT_HIGH);
     fprintf(stream,
-            "acx and move\n"
-            "  --form disk|device              form of the file (disk)\n"
-            "acx\n"
+            "acx, index and move\n"
+            "  --form disk|device              form of FILE (disk)\n"
+            "acx and index\n"
             "  --main N --zero N               main and zero-page base (%d, %d)\n"
             "move\n"
+            "  --index FILE                    the handler's index, in place of its FILE\n"
             "  --from-main N --from-zero N     bases at which it is now (%d, %d)\n"
             "  --to-main N --to-zero N         bases to which it goes, at least one of them\n"
             "                                  (where it is now)\n"

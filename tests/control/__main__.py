@@ -23,6 +23,7 @@ import reading
 import writing
 import targets
 import picture
+import index
 import examples
 import documents
 import build

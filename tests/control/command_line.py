@@ -65,7 +65,7 @@ def unknown_words_are_usage_errors(desk):
     desk.trouble("load", "f", mention="load: unknown command (see 'tekoweapa --help')\n")
     desk.trouble("", "f", mention="unknown command")
     for word in ("--json", "-x", "--", "--version=1"):
-        desk.trouble(word, "acx", "f", mention=f"{word}: the command comes first: sdx, acx or move")
+        desk.trouble(word, "acx", "f", mention=f"{word}: the command comes first: sdx, acx, index or move")
     desk.trouble("--help", "acx", mention="acx: nothing goes with --help")
     desk.trouble("--version", "acx", mention="acx: nothing goes with --version")
     for word in ("--bogus", "-x", "-hh", "--jso", "--mainly=1", "--=1", "-1"):
@@ -119,10 +119,11 @@ def a_dash_is_standard_input(desk):
 def every_command_has_its_options_and_no_others(desk):
     desk.put("f", P1)
     desk.put("image", bytes(MEMORY))
-    needed = {"sdx": {}, "acx": {}, "move": {"--memory": "image", "--to-main": "1"}}
+    needed = {"sdx": {}, "acx": {}, "index": {"--out": "built"}, "move": {"--memory": "image", "--to-main": "1"}}
     for command in COMMANDS:
         for name, (commands, value) in OPTIONS.items():
-            words = [command, "f", name] + ([] if value is None else [value])
+            # an index stands in FILE's place
+            words = [command] + ([] if (command, name) == ("move", "--index") else ["f"]) + [name] + ([] if value is None else [value])
             words += [word for pair in needed[command].items() if pair[0] != name for word in pair]
             words += ["--picture", "picture"] if name == "--scale" else []
             if command in commands:
@@ -154,8 +155,9 @@ def an_option_without_its_value_is_a_usage_error(desk):
 def one_file_is_needed(desk):
     desk.put("f", P1)
     for command in COMMANDS:
-        desk.trouble(command, mention="FILE is missing")
-        desk.trouble(command, "--json", mention="FILE is missing")
+        missing = "FILE or --index is missing" if command == "move" else "FILE is missing"
+        desk.trouble(command, mention=f"{command}: {missing} (see 'tekoweapa --help')\n")
+        desk.trouble(command, "--json", mention=missing)
         desk.trouble(command, "f", "f", mention="second FILE")
 
 

@@ -18,11 +18,11 @@ NOBODY = 65534
 # The signals after which the program cleans up.
 ENDING = (signal.SIGINT, signal.SIGTERM, signal.SIGHUP, signal.SIGQUIT)
 ACCEPTED, REFUSED, TROUBLE = 0, 1, 2
-COMMANDS = ("sdx", "acx", "move")
+COMMANDS = ("sdx", "acx", "index", "move")
 
-# Document 01, "Numbers a bench can show".
+# Document 01, "Numbers a bench can show"; document 02, wish 5.
 MEANINGS = {
-    1: "memory, map, scratch, new-name buffers or C answer of another length; known names not eight bytes per address, or over 256",
+    1: "memory, map, scratch, index, new-name buffers or C answer of another length; known names not eight bytes per address, or over 256",
     2: "a setting outside its range",
     3: "file longer than 65,536",
     4: "wrong opening",
@@ -42,28 +42,32 @@ MEANINGS = {
     18: "fixup kind doesn't suit the code before it",
     19: "bytes after the end record",
     20: "start above 65,535",
+    24: "another version of the index",
+    25: "the index doesn't fit",
 }
 
 # The options with the commands that have them, and a value that suits.
 LOADS = ("sdx", "acx")
+WITH_MEMORY = ("sdx", "acx", "move")
 OPTIONS = {
-    "--form": ({"acx", "move"}, "device"),
-    "--main": ({"acx"}, "1"),
-    "--zero": ({"acx"}, "1"),
+    "--form": ({"acx", "index", "move"}, "device"),
+    "--main": ({"acx", "index"}, "1"),
+    "--zero": ({"acx", "index"}, "1"),
     "--low": ({"sdx"}, "1"),
     "--high": ({"sdx"}, "1"),
     "--names": ({"sdx"}, os.path.join(EXAMPLES, "names.txt")),
+    "--index": ({"move"}, "f"),
     "--from-main": ({"move"}, "1"),
     "--from-zero": ({"move"}, "1"),
     "--to-main": ({"move"}, "1"),
     "--to-zero": ({"move"}, "1"),
-    "--memory": (set(COMMANDS), "image"),
+    "--memory": (set(WITH_MEMORY), "image"),
     "--fresh": (set(LOADS), None),
     "--out": (set(COMMANDS), "target"),
     "--map": (set(COMMANDS), "target"),
     "--picture": (set(COMMANDS), "target"),
     "--scale": (set(COMMANDS), "1"),
-    "--dump": (set(COMMANDS), None),
+    "--dump": (set(WITH_MEMORY), None),
     "--ranges": (set(COMMANDS), None),
     "--quiet": (set(COMMANDS), None),
     "--json": (set(COMMANDS), None),
@@ -77,6 +81,9 @@ P3 = bytes.fromhex("00 04 00 00 A2 00 08 02 01 F0 0B 00 00 00")
 P6 = bytes.fromhex("FE FF 01 00 00 10 03 00 4C 00 10 FD FF 01 00 00 FE 01 01 FC")
 P9 = bytes.fromhex("00 05 00 00 4C 03 00 06 01 02 0B 02 00 00")
 P10 = bytes.fromhex("00 05 00 00 4C 03 00 06 02 01 01 0B 02 00 00")
+
+# The index of P1's file.
+I1 = bytes.fromhex("01 00 07 00 00 00 03 06 01 00 00 04 0B 02 00 00")
 
 
 class Failure(Exception):
@@ -143,6 +150,12 @@ def with_bytes(image, *changes):
 
 # The same with P1 loaded at main base 8,192.
 LOADED = with_bytes(PATTERN, (0x2000, b"\x4C\x03\x20"))
+
+
+def whose_index_does_not_fit():
+    """An ACX file in device form, for a main base of 0, whose index would be longer than 65,536 bytes: 253 fixups for each of 86 pieces."""
+    record = lambda number: b"\x00\xFF" + (number * 253).to_bytes(2, "little") + bytes(253) + b"\x02\xFD" + bytes(range(253))
+    return b"".join(map(record, range(86))) + bytes.fromhex("0B 00 00 00")
 
 
 class Desk:

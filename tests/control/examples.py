@@ -127,15 +127,15 @@ def the_demo_passes(desk):
     more = dict(os.environ, TMPDIR=desk.folder)
     done = subprocess.run([demo, PROGRAM], capture_output=True, timeout=60, env=more)
     same((done.returncode, done.stderr), (0, b""), "exit status and errors")
-    for text in (b"accepted", b"fd30", b"refused with 13", b"06 02 01[01]0B", b"SCOREADD"):
+    for text in (b"accepted", b"fd30", b"refused with 13", b"06 02 01[01]0B", b"SCOREADD", b"index      ", b"the same image and the same map"):
         holds(text in done.stdout, f"{text} is not shown")
     same(desk.listing(), {}, "files left by the demo")
 
 
 @test
 def the_demo_fails_with_a_wrong_program(desk):
-    """One that does nothing, one that loads where it should move, one that leaves the vector as it was, one that accepts what it should refuse:
-    each is found by what it did."""
+    """One that does nothing, one that loads where it should move, one that leaves the vector as it was, one that accepts what it should refuse, and
+    two that move by an index otherwise than by the file: each is found by what it did."""
     demo = os.path.join(EXAMPLES, "demo")
     wrong = {
         "nothing": ("exit 0", "the lap counter is '', should be '0000'"),
@@ -146,6 +146,10 @@ def the_demo_fails_with_a_wrong_program(desk):
                   'dd if=lights.img of=followed.img bs=1 skip=512 seek=512 count=2 conv=notrunc status=none',
                   "the vector after the move is '0820', should be 'fd30'"),
         "accept": ('"$program" "$@" || exit 0', "exit status 0, should be 1"),
+        "image": ('"$program" "$@" || exit $?\n[ "$1 $2" != "move --index" ] || '
+                  'dd if=heat.img of=by-index.img bs=1 skip=8192 seek=12533 count=99 conv=notrunc status=none', "by-index.img is not by-file.img"),
+        "map": ('"$program" "$@" || exit $?\n[ "$1 $2" != "move --index" ] || dd if=/dev/zero of=by-index.map bs=65536 count=1 status=none',
+                "by-index.map is not by-file.map"),
     }
     for name, (body, said) in wrong.items():
         desk.put(name, f"#!/bin/bash\nprogram='{PROGRAM}'\n{body}\n".encode())

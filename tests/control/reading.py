@@ -14,8 +14,9 @@ def a_file_that_cannot_be_read_is_an_error(desk):
     # /proc/self/mem can be opened, and its first page can't be read
     for name, cause in (("missing", "No such file"), ("folder", "directory"), ("f/f", "Not a directory"), ("link", "No such file"),
                         ("", "No such file"), ("n" * 300, "too long"), ("/proc/self/mem", "can't be read")):
-        for command, *more in (("sdx",), ("acx",), ("move", "--memory", "image", "--to-main", "1")):
+        for command, *more in (("sdx",), ("acx",), ("index",), ("move", "--memory", "image", "--to-main", "1")):
             desk.trouble(command, name, "--out", "new", *more, mention=cause)
+        desk.trouble("move", "--index", name, "--memory", "image", "--to-main", "1", "--out", "new", mention=cause)
         desk.trouble("acx", "f", "--memory", name, "--out", "new", mention=cause)
         desk.trouble("sdx", "f", "--names", name, "--out", "new", mention=cause)
 

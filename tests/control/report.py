@@ -3,7 +3,8 @@
 import os
 import re
 
-from desk import ACCEPTED, REFUSED, EXAMPLES, LOADED, MEANINGS, MEMORY, P1, P3, P6, P9, P10, PATTERN, ROOT, holds, same, test, with_bytes
+from desk import (ACCEPTED, REFUSED, EXAMPLES, LOADED, MEANINGS, MEMORY, P1, P3, P6, P9, P10, PATTERN, ROOT, holds, same, test,
+                  whose_index_does_not_fit, with_bytes)
 
 
 def row(address, content, marked=-1):
@@ -183,17 +184,17 @@ def the_place_is_marked_in_its_row(desk):
 @test
 def json_has_all_members_in_order(desk):
     (version,) = re.findall(r'#define TKW_VERSION "([^"]*)"', open(f"{ROOT}/include/tekoweapa.h", encoding="utf-8").read())
-    opening = f'{{"version":"{version}","command":"acx","file":"f","settings":{{"form":"device","main":8192,"zero":128}},'
+    opening = f'{{"version":"{version}","command":"acx","file":"f","index":null,"settings":{{"form":"device","main":8192,"zero":128}},'
     words = ("acx", "f", "--form", "device", "--main", "8192", "--json")
     desk.put("f", P1)
     same(desk.text(ACCEPTED, *words),
          opening + '"number":0,"meaning":"accepted","offset":null,"side":null,"start":8192,"init":null,"placed":3,"adjusted":1,'
-         '"new_names":[],"low":null,"ranges":[{"from":8192,"to":8192,"mark":1,"meaning":"placed","length":1},'
+         '"new_names":[],"low":null,"index_length":null,"ranges":[{"from":8192,"to":8192,"mark":1,"meaning":"placed","length":1},'
          '{"from":8193,"to":8194,"mark":3,"meaning":"adjusted","length":2}]}\n', "acceptance")
     desk.put("f", P9)
     same(desk.text(REFUSED, *words),
          opening + '"number":12,"meaning":"field not loaded","offset":9,"side":null,"start":null,"init":null,"placed":null,"adjusted":null,'
-         '"new_names":[],"low":null,"ranges":[]}\n', "refusal")
+         '"new_names":[],"low":null,"index_length":null,"ranges":[]}\n', "refusal")
 
 
 @test
@@ -246,7 +247,7 @@ def ranges_cover_the_map(desk):
 
 
 def files_for_every_refusal():
-    """For each number, a command line after FILE, FILE's bytes, and the offset."""
+    """For each number, a command line before the file's name, the file's bytes, and the offset."""
     block = bytes.fromhex("FE FF 01 00 00 10 02 00 00 00")
     new_name = bytes.fromhex("FC FF 01 00 10") + b"NEWNAMES"
     device = ["--form", "device"]
@@ -271,27 +272,33 @@ def files_for_every_refusal():
         18: (["acx", *device], bytes.fromhex("01 03 00 20 00 07 01 00"), 5),
         19: (["acx", *device], bytes.fromhex("0B 00 00 00 00"), 4),
         20: (["acx", *device], bytes.fromhex("0B 02 00 FF"), 2),
+        24: (["move", "--memory", "image", "--to-main", "1", "--index"], bytes.fromhex("02 00 04 0B 00 00 00"), 0),
+        25: (["index", *device, "--main", "0", "--out", "new"], whose_index_does_not_fit(), 0),
     }
 
 
 @test
 def every_refusal_has_its_number_and_meaning(desk):
     desk.put("long", b"".join(b'"NAME%04d" 1\n' % i for i in range(257)))
-    for number, (words, content, offset) in files_for_every_refusal().items():
+    desk.put("image", PATTERN)
+    refusals = files_for_every_refusal()
+    same(sorted(refusals), sorted(MEANINGS), "numbers")
+    for number, (words, content, offset) in refusals.items():
         desk.put("f", content)
-        answer = desk.answer(REFUSED, words[0], "f", *words[1:])
-        same((answer["number"], answer["meaning"], answer["offset"], answer["side"]), (number, MEANINGS[number], offset, None),
+        side = 0 if words[0] == "move" else None
+        answer = desk.answer(REFUSED, *words, "f")
+        same((answer["number"], answer["meaning"], answer["offset"], answer["side"]), (number, MEANINGS[number], offset, side),
              f"refusal {number}")
-        same((answer["start"], answer["init"], answer["placed"], answer["adjusted"], answer["new_names"], answer["low"], answer["ranges"]),
-             (None, None, None, None, [], None, []), f"the rest of refusal {number}")
-        lines = desk.text(REFUSED, words[0], "f", *words[1:]).splitlines()
+        same((answer["start"], answer["init"], answer["placed"], answer["adjusted"], answer["new_names"], answer["low"],
+              answer["index_length"], answer["ranges"]), (None, None, None, None, [], None, None, []), f"the rest of refusal {number}")
+        lines = desk.text(REFUSED, *words, "f").splitlines()
         same(lines[0], f"refused with {number}: {MEANINGS[number]}", "first line")
-        same(desk.text(REFUSED, words[0], "f", *words[1:], "--quiet"), lines[0] + "\n", "--quiet")
+        same(desk.text(REFUSED, *words, "f", "--quiet"), lines[0] + "\n", "--quiet")
         rows = "\n".join(line for line in lines if line.startswith("  $"))
-        if number <= 3:
+        if number in (1, 2, 3, 25):
             same((rows, len(lines)), ("", 2), f"rows of refusal {number}")
             continue
-        same(lines[1], f"at offset {offset} (${offset:04X}) of {len(content)}", "second line")
+        same(lines[1], f"at offset {offset} (${offset:04X}) of {len(content)}" + (" (side: old bases)" if side == 0 else ""), "second line")
         marked = "end" if offset == len(content) else f"{content[offset]:02X}"
         same(len(re.findall(r"\[" + marked + r"\]", rows)), 1, f"marks of refusal {number}")
 
