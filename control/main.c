@@ -79,7 +79,7 @@ static bool spare_inputs(const struct options *options, const struct output *out
     return true;
 }
 
-/* An image that is there is not begun anew unless that is asked for. A pipe or a device holds none. */
+/* An image that is there is not begun anew unless that is asked for. A pipe or a device holds none, and an index is none. */
 static bool spare_image(const struct options *options, const struct output *out)
 {
     bool image = out->present && out->target != NULL && options->command != COMMAND_INDEX;
