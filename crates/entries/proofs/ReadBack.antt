@@ -1,9 +1,9 @@
 -- An entry that was written is read back: which outlines an entry can hold, how long it is, and what is read where it stands.
 -- Assumes nothing.
 use mathlib.Core.Bool.{true}
-use mathlib.Core.List.{List, [], _∷_, _++_, reverse, reverse-reverse, append-assoc}
+use mathlib.Core.List.{List, [], _∷_, _++_, append-assoc}
 use mathlib.Core.Path.{_≡_, refl, sym, ap, _∙_}
-use Prim.Native.Nat.{ℕ, _+_, _-_, _*_, _%_, _^_, _≤_, _<_}
+use Prim.Native.Nat.{ℕ, _+_, _-_, _*_, _%_, _≤_, _<_}
 use native.Mathlib.Nat.{div-add-mod, mod-lt}
 use native.Mathlib.Omega.{arith}
 use borrow.Author.Tests.{le-leb, eq-eqb}
@@ -13,17 +13,16 @@ use Rattle.answer.specs.Checks.{need, pick}
 use Rattle.events.specs.Lists.{Each}
 use Rattle.fields.specs.declared.Field.{Field}
 use Rattle.pieces.specs.Pieces.{Outline}
-use Rattle.records.proofs.Types.{code-type-back, fixup-type-back}
+use Rattle.records.proofs.Types.{code-type-back, fixups-suit, fixup-type-back}
 use Rattle.records.specs.Records.{typeOf}
 use Rattle.records.specs.Types.{codeType, fixupType}
 use Rattle.records.specs.declared.Entry.{Entry}
 use Rattle.records.specs.declared.Entry.the-variants.{Nowhere, Fixed, Relative}
 use Rattle.records.specs.declared.Kind.{Kind}
-use Rattle.records.specs.declared.Kind.the-variants.{Main, ZeroPage, Absolute}
-use Rattle.words.proofs.Big.{length-big-digits}
-use Rattle.words.proofs.Numbers.{number-digits}
-use Rattle.words.specs.Numbers.{number, digits, bigDigits, bigValue}
+use Rattle.words.proofs.Big.{length-big-digits, big-value-there}
+use Rattle.words.specs.Numbers.{digits, bigDigits, bigValue}
 use Rattle.words.specs.Runs.{part}
+use Rattle.entries.proofs.Reading.{FieldBytes}
 use Rattle.entries.specs.Bytes.{fixupBytes, codeBytes, flagOf, addressIn, endBytes, entryOf}
 use Rattle.entries.specs.Entries.{readCode, readEnd, readAs, read, lsbFor, listed, joined, fieldsTo, allSuit}
 use Rattle.entries.specs.declared.IndexEntry.the-variants.{Code, End}
@@ -34,8 +33,7 @@ use Rattle.entries.specs.declared.Listed.the-variants.{Suited}
 
 -- a field: its index and its LSB are bytes, and the LSB is 0 where it is not used
 pub record Listable (f : Field) : Type 0 where
-  pub index : f .index < 256
-  pub lsb : f .lsb < 256
+  pub bytes : FieldBytes f
   pub unused : lsbFor (f .fixup) (f .lsb) ≡ f .lsb
 
 -- an outline: its address has two bytes, and its code is not too long
@@ -55,9 +53,7 @@ length-fixup-bytes kind (f ∷ fs) = omega (arith, length-fixup-bytes kind fs)
 -- a fixup lists the field that it was written for
 listed-back : (kind : Kind) (f : Field) → Listable f → listed kind (typeOf (fixupType kind (f .fixup))) (f .index) (f .lsb) ≡ Suited f
 unfolding pick
-listed-back Main f y = rw (fixup-type-back Main (f .fixup), y .unused) refl
-listed-back ZeroPage f y = rw (fixup-type-back ZeroPage (f .fixup), y .unused) refl
-listed-back Absolute f y = rw (fixup-type-back Absolute (f .fixup), y .unused) refl
+listed-back kind f y = rw (fixup-type-back kind (f .fixup), fixups-suit kind, y .unused) refl
 
 -- so do all of them
 pub fields-back : (kind : Kind) (fs : List Field) → Each Listable fs → fieldsTo kind (fixupBytes kind fs) ≡ fs
@@ -90,15 +86,6 @@ unfolding entryOf bigDigits digits
 length-entry bytes = omega arith
 
 -- ---- an entry where it stands
-
--- the number at i, where its bytes stand there
-big-value-there : (k : ℕ) (l : List ℕ) (i v : ℕ) (rest : List ℕ) → drop i l ≡ bigDigits k v ++ rest → v < 256 ^ k → bigValue k l i ≡ v
-unfolding bigValue bigDigits part
-big-value-there k l i v rest e h =
-    ap (λ (r : List ℕ). number (reverse (take k r))) e
-    ∙ ap (λ (r : List ℕ). number (reverse r)) (take-at (bigDigits k v) rest k (length-big-digits k v))
-    ∙ ap number (reverse-reverse (digits k v))
-    ∙ number-digits k v h
 
 module _ (index : List ℕ) (at : ℕ) (bytes rest : List ℕ) (is : drop at index ≡ entryOf bytes ++ rest) where
   -- it ends in the index

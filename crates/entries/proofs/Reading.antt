@@ -152,7 +152,7 @@ word-below : (l : List ℕ) (i : ℕ) → Bytes l → i + 2 ≤ length l → big
 word-below l i b h = omega (arith, big-value-word l i h, b i, b (i + 1))
 
 -- an entry by its flag
-flag-below : (v flag : ℕ) → v < 65536 → addressIn (getD (entries v) flag Nowhere) < 65536
+pub flag-below : (v flag : ℕ) → v < 65536 → addressIn (getD (entries v) flag Nowhere) < 65536
 flag-below v zero h = omega arith
 flag-below v (suc zero) h = h
 flag-below v (suc (suc zero)) h = h

@@ -2,7 +2,7 @@
 -- Assumes nothing.
 use mathlib.Core.List.{List, [], _∷_, map}
 use mathlib.Core.Path.{_≡_, refl}
-use Prim.Native.Nat.{ℕ, zero, suc, _+_, _<_}
+use Prim.Native.Nat.{ℕ, suc, _+_, _<_}
 use native.Mathlib.Omega.{arith}
 use borrow.Author.Tests.{leb-true}
 use lib.ListN.{length, getD}
@@ -14,6 +14,7 @@ use Rattle.acx.specs.Walk.{Progress, lastOf, recordAt, withFields, stepped}
 use Rattle.answer.proofs.Checks.{on-need}
 use Rattle.answer.specs.declared.Fault.{Fault}
 use Rattle.entries.proofs.ReadBack.{Listable, Encodable}
+use Rattle.entries.proofs.Reading.{flag-below}
 use Rattle.entries.specs.Bytes.{addressIn}
 use Rattle.entries.specs.Entries.{lsbFor}
 use Rattle.events.proofs.Lists.{each-append, image-each}
@@ -25,10 +26,8 @@ use Rattle.fields.specs.declared.Fixup.the-variants.{LowByte, ZeroPageByte, Wor
 use Rattle.pieces.specs.Pieces.{Piece, outline}
 use Rattle.pieces.specs.declared.Bases.{Bases}
 use Rattle.records.proofs.Reading.{lies-as, code-few}
-use Rattle.records.specs.Records.{typeOf, entries, readCode, readItems, readFixups, readEnd, readAs, read}
+use Rattle.records.specs.Records.{typeOf, readCode, readItems, readFixups, readEnd, readAs, read}
 use Rattle.records.specs.declared.Entry.{Entry}
-use Rattle.records.specs.declared.Entry.the-variants.{Nowhere}
-use Rattle.records.specs.declared.Kind.{Kind}
 use Rattle.records.specs.declared.Last.{Last}
 use Rattle.records.specs.declared.Record.{Record}
 use Rattle.records.specs.declared.Record.the-variants.{Code, Fixups, End, Faulty}
@@ -36,19 +35,18 @@ use Rattle.records.specs.declared.RecordType.{RecordType}
 use Rattle.records.specs.declared.RecordType.the-variants.{Code as code, Fixups as fixups, End as end, Unknown as unknown}
 use Rattle.words.proofs.Changes.{value-lt}
 use Rattle.words.proofs.Runs.{length-part, bytes-part}
-use Rattle.words.specs.Numbers.{value}
 use Rattle.words.specs.Runs.{Bytes, part}
 
 -- ---- an address that is read has two bytes
 
--- that of code and that of the entry
+-- that of code, and that of the entry
 abbrev InWord : Record → Type 0
 InWord (Code kind address from n) = address < 65536
 InWord (Fixups fixup from n) = Unit {0}
 InWord (End entry next) = addressIn entry < 65536
 InWord (Faulty fault offset) = Unit {0}
 
--- the same as a record, whose argument antt finds by itself
+-- (the same as a record)
 record Narrow (r : Record) : Type 0 where
   in-word : InWord r
 
@@ -56,50 +54,30 @@ record Narrow (r : Record) : Type 0 where
 none : {fault : Fault} {offset : ℕ} → Narrow (Faulty fault offset)
 none = record { in-word = tt }
 
-code-narrow : (file : List ℕ) (at : ℕ) (kind : Kind) → Bytes file → Narrow (readCode file at kind)
-unfolding readCode
-code-narrow file at kind b =
-    on-need Faulty Narrow _ _ _ _ none
-    (λ _. on-need Faulty Narrow _ _ _ _ none
-    (λ h₂. on-need Faulty Narrow _ _ _ _ none
-    (λ h₃.
-    let n = leb-true 2 (getD file (at + 1) 0) h₂ in
-    let l = leb-true (at + 2 + getD file (at + 1) 0) (length file) h₃ in
-    record { in-word = value-lt 2 file (at + 2) (omega arith) b })))
-
-fixups-narrow : (file : List ℕ) (at : ℕ) (last : Last) (kind : Kind) (fixup : Fixup) → Narrow (readFixups file at last kind fixup)
-unfolding readFixups readItems
-fixups-narrow file at last kind fixup =
-    on-need Faulty Narrow _ _ _ _ none
-    (λ _. on-need Faulty Narrow _ _ _ _ none
-    (λ _. on-need Faulty Narrow _ _ _ _ none
-    (λ _. on-need Faulty Narrow _ _ _ _ none
-    (λ _. record { in-word = tt }))))
-
-entry-narrow : (a flag : ℕ) → a < 65536 → addressIn (getD (entries a) flag Nowhere) < 65536
-entry-narrow a zero h = omega arith
-entry-narrow a (suc zero) h = h
-entry-narrow a (suc (suc zero)) h = h
-entry-narrow a (suc (suc (suc flag))) h = omega arith
-
-end-narrow : (file : List ℕ) (at : ℕ) → Bytes file → Narrow (readEnd file at)
-unfolding readEnd
-end-narrow file at b =
-    on-need Faulty Narrow _ _ _ _ none
-    (λ h₁. on-need Faulty Narrow _ _ _ _ none
-    (λ _.
-    let l = leb-true (at + 4) (length file) h₁ in
-    record { in-word = entry-narrow (value 2 file (at + 2)) (getD file (at + 1) 0) (value-lt 2 file (at + 2) (omega arith) b) }))
-
 -- whatever the type
 read-narrow : (file : List ℕ) (at : ℕ) (last : Last) → Bytes file → Narrow (read file at last)
-unfolding read
+unfolding read readCode readFixups readItems readEnd
 read-narrow file at last b = on-need Faulty Narrow _ _ _ _ none (λ _. typed (typeOf (getD file at 0)))
   where
     typed : (t : RecordType) → Narrow (readAs file at last t)
-    typed (code kind) = code-narrow file at kind b
-    typed (fixups kind fixup) = fixups-narrow file at last kind fixup
-    typed end = end-narrow file at b
+    typed (code kind) =
+        on-need Faulty Narrow _ _ _ _ none
+        (λ _. on-need Faulty Narrow _ _ _ _ none
+        (λ h₂. let two = leb-true 2 (getD file (at + 1) 0) h₂ in
+        on-need Faulty Narrow _ _ _ _ none
+        (λ h₃. let l = leb-true (at + 2 + getD file (at + 1) 0) (length file) h₃ in
+        record { in-word = value-lt 2 file (at + 2) (omega arith) b })))
+    typed (fixups kind fixup) =
+        on-need Faulty Narrow _ _ _ _ none
+        (λ _. on-need Faulty Narrow _ _ _ _ none
+        (λ _. on-need Faulty Narrow _ _ _ _ none
+        (λ _. on-need Faulty Narrow _ _ _ _ none
+        (λ _. record { in-word = tt }))))
+    typed end =
+        on-need Faulty Narrow _ _ _ _ none
+        (λ h₁. let l = leb-true (at + 4) (length file) h₁ in
+        on-need Faulty Narrow _ _ _ _ none
+        (λ _. record { in-word = flag-below _ (getD file (at + 1) 0) (value-lt 2 file (at + 2) (omega arith) b) }))
     typed unknown = none
 
 in-word-as : (file : List ℕ) (at : ℕ) (last : Last) (r : Record) → Bytes file → read file at last ≡ r → InWord r
@@ -109,16 +87,19 @@ in-word-as file at last r b e =
 
 -- ---- the fields that bytes list
 
+-- by their indices alone, where an LSB of 0 stays
 singles-listable : (fixup : Fixup) → lsbFor fixup 0 ≡ 0 → (items : List ℕ) → Bytes items → Each Listable (singles fixup items)
 singles-listable fixup z [] b = tt
 singles-listable fixup z (index ∷ items) b =
-    (record { index = b 0; lsb = omega arith; unused = z }, singles-listable fixup z items (λ x. b (suc x)))
+    (record { bytes = (b 0, omega arith); unused = z }, singles-listable fixup z items (λ x. b (suc x)))
 
+-- by pairs of index and LSB
 pairs-listable : (items : List ℕ) → Bytes items → Each Listable (pairs items)
 pairs-listable [] b = tt
 pairs-listable (index ∷ []) b = tt
-pairs-listable (index ∷ lsb ∷ items) b = (record { index = b 0; lsb = b 1; unused = refl }, pairs-listable items (λ x. b (suc (suc x))))
+pairs-listable (index ∷ lsb ∷ items) b = (record { bytes = (b 0, b 1); unused = refl }, pairs-listable items (λ x. b (suc (suc x))))
 
+-- by any fixup
 fields-listable : (fixup : Fixup) (items : List ℕ) → Bytes items → Each Listable (fieldsOf fixup items)
 unfolding fieldsOf
 fields-listable LowByte items b = singles-listable LowByte refl items b
@@ -128,6 +109,7 @@ fields-listable HighByte items b = pairs-listable items b
 
 -- ---- the pieces so far
 
+-- each can be written
 abbrev Written : List Piece → Type 0
 Written ps = Each (λ p. Encodable (outline p)) ps
 

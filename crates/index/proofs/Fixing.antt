@@ -7,11 +7,11 @@ use Prim.Native.Nat.{ℕ, suc, _+_, _*_, _%_, _≤_, _<_}
 use native.Mathlib.Omega.{arith}
 use borrow.Author.Tests.{eqb-true, eqb-false, eq-eqb, ne-eqb}
 use lib.Dec.{leb, eqb}
-use lib.ListN.{length, getD, drop, drop-of-length-le}
-use lib.Seq.{drop-cons}
+use lib.ListN.{length, getD, drop}
 use Rattle.answer.specs.Checks.{need}
 use Rattle.answer.specs.declared.Fault.{Fault}
 use Rattle.answer.specs.declared.Fault.the-variants.{FieldNotLoaded, AdjustedTwice, FixupUnsuited}
+use Rattle.entries.proofs.Listing.{fixup-next, fixups-end}
 use Rattle.entries.specs.Entries.{listed, joined, fieldsTo, allSuit}
 use Rattle.entries.specs.declared.Listed.{Listed}
 use Rattle.entries.specs.declared.Listed.the-variants.{Suited, Unsuited}
@@ -108,27 +108,7 @@ fixups-none : (at : ℕ) (b : Bases) (kind : Kind) (a n : ℕ) (p : List ℕ) �
 unfolding fixing fieldsTo allSuit adjusting need
 fixups-none at b kind a n p = refl
 
--- ---- the fixups of the program
-
--- three bytes, and the bytes after them
-drop-three : (items : List ℕ) (i : ℕ) → i + 3 ≤ length items
-    → drop i items ≡ getD items i 0 ∷ getD items (i + 1) 0 ∷ getD items (i + 2) 0 ∷ drop (i + 3) items
-drop-three items i h =
-    let d₁ : suc i ≡ i + 1 = omega arith in
-    let d₂ : suc (i + 1) ≡ i + 2 = omega arith in
-    let d₃ : suc (i + 2) ≡ i + 3 = omega arith in
-    drop-cons items i 0 (omega arith)
-    ∙ ap (λ (k : ℕ). getD items i 0 ∷ drop k items) d₁
-    ∙ ap (λ (r : List ℕ). getD items i 0 ∷ r) (drop-cons items (i + 1) 0 (omega arith))
-    ∙ ap (λ (k : ℕ). getD items i 0 ∷ getD items (i + 1) 0 ∷ drop k items) d₂
-    ∙ ap (λ (r : List ℕ). getD items i 0 ∷ getD items (i + 1) 0 ∷ r) (drop-cons items (i + 2) 0 (omega arith))
-    ∙ ap (λ (k : ℕ). getD items i 0 ∷ getD items (i + 1) 0 ∷ getD items (i + 2) 0 ∷ drop k items) d₃
-
--- where no three bytes are left, none is
-drop-none : (items : List ℕ) (i : ℕ) → length items % 3 ≡ 0 → i % 3 ≡ 0 → i ≤ length items → length items < i + 3 → drop i items ≡ []
-drop-none items i e f l h =
-    let g : length items ≤ i = omega arith in
-    drop-of-length-le items {i = i} g
+-- ---- the loop
 
 -- where the loop stands: it began with the items all and the map p₀, and has come to their byte i with the map p
 pub record Fixing (at : ℕ) (b : Bases) (kind : Kind) (a n : ℕ) (all p₀ : List ℕ) (i : ℕ) (p : List ℕ) : Type 0 where
@@ -156,7 +136,7 @@ module _ {at : ℕ} {b : Bases} {kind : Kind} {a n : ℕ} {all p₀ : List ℕ} 
     fixing-unsuited el e =
         let z : fixing at b kind a n all p₀ ≡ record { answer = Failed FixupUnsuited at; events = x .es } =
         x .same
-        ∙ ap (λ (r : List ℕ). after (x .es) (fixing at b kind a n r p)) (drop-three all i room)
+        ∙ ap (λ (r : List ℕ). after (x .es) (fixing at b kind a n r p)) (fixup-next all i room)
         ∙ ap (after (x .es)) (fixup-unsuited at b kind a n _ _ _ (drop (i + 3) all) p (sym el ∙ e))
         ∙ ap (λ (es : List Event). record { answer = Failed FixupUnsuited at; events = es }) (append-nil (x .es)) in
         rw z (record { answer = refl; map = x .map })
@@ -170,7 +150,7 @@ module _ {at : ℕ} {b : Bases} {kind : Kind} {a n : ℕ} {all p₀ : List ℕ} 
       one : fixing at b kind a n all p₀ ≡ after (x .es) (andThen p r (did .events) then)
       one =
           x .same
-          ∙ ap (λ (k : List ℕ). after (x .es) (fixing at b kind a n k p)) (drop-three all i room)
+          ∙ ap (λ (k : List ℕ). after (x .es) (fixing at b kind a n k p)) (fixup-next all i room)
           ∙ ap (after (x .es)) (fixup-first at b kind a n _ _ _ (drop (i + 3) all) p f (sym el ∙ e))
           ∙ ap (λ (c : Check). after (x .es) (andThen p c (did .events) then)) (sym (d .answer))
 
@@ -202,7 +182,7 @@ module _ {at : ℕ} {b : Bases} {kind : Kind} {a n : ℕ} {all p₀ : List ℕ} 
   fixing-end {i} {p} e f l h x =
       let z : fixing at b kind a n all p₀ ≡ record { answer = Passed; events = x .es } =
       x .same
-      ∙ ap (λ (k : List ℕ). after (x .es) (fixing at b kind a n k p)) (drop-none all i e f l h)
+      ∙ ap (λ (k : List ℕ). after (x .es) (fixing at b kind a n k p)) (fixups-end all i e f l h)
       ∙ ap (after (x .es)) (fixups-none at b kind a n p)
       ∙ ap (λ (es : List Event). record { answer = Passed; events = es }) (append-nil (x .es)) in
       rw z (record { answer = refl; map = x .map })

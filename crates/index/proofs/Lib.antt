@@ -13,7 +13,7 @@ pub mod Applying
 pub mod Cursors
 pub mod Going
 pub mod Calling
--- What is accepted and refused, and where; and what was written for a file:
+-- What is accepted and refused, and where; what was written for a file, and the claims on it at work:
 pub mod Rules
 pub mod Faults
 pub mod Refusals
@@ -21,3 +21,4 @@ pub mod Where
 pub mod Encoding
 pub mod Written
 pub mod Built
+pub mod Use

@@ -35,7 +35,8 @@ use Rattle.words.specs.Numbers.{number, digits, value, store, on, off, change}
 use Rattle.words.specs.Runs.{Bytes, part, put, allZero, contains}
 use Rattle.moves.proofs.Outcomes.{call-exactly}
 use Rattle.moves.proofs.Sources.{same-at}
-use Rattle.moves.proofs.Use.{Answers, calls, Always, made, afterCalls, demand3-by, at, asks, LoadsAt, accepted-at, moves-there}
+use Rattle.index.proofs.Use.{at}
+use Rattle.moves.proofs.Use.{Answers, calls, Always, made, afterCalls, demand3-by, asks, LoadsAt, accepted-at, moves-there}
 use Rattle.moves.specs.Call.{ruling, outcomeOf, memoryAfter, Moved}
 use Rattle.moves.specs.Demand3.{Memory, Demand3, Defined}
 use Rattle.moves.specs.Move.{carried, transfer, moved}

@@ -1,14 +1,15 @@
 -- Numbers of k bytes, high byte first: their bytes are those of the same numbers low byte first, in reverse.
 -- Assumes nothing.
-use mathlib.Core.List.{List, [], _∷_, reverse, reverseAux, reverse-reverse}
+use mathlib.Core.List.{List, [], _∷_, _++_, reverse, reverseAux, reverse-reverse}
 use mathlib.Core.Path.{_≡_, refl, ap, _∙_}
 use Prim.Native.Nat.{ℕ, zero, suc, _+_, _*_, _/_, _%_, _^_, _≤_, _<_}
 use native.Mathlib.Omega.{arith}
-use lib.ListN.{length, getD, length-reverse}
+use lib.ListN.{length, getD, take, drop, length-reverse}
+use lib.Seq.{take-at}
 use Rattle.words.proofs.Numbers.{length-digits, bytes-digits, number-digits}
 use Rattle.words.proofs.Runs.{length-put, part-put-long, part-two}
 use Rattle.words.specs.Numbers.{number, digits, bigDigits, bigValue, bigStore}
-use Rattle.words.specs.Runs.{Bytes}
+use Rattle.words.specs.Runs.{Bytes, part}
 
 -- ---- the bytes of a number
 
@@ -46,6 +47,15 @@ pub big-value-store : (k : ℕ) (l : List ℕ) (i v : ℕ) → i + k ≤ length 
 unfolding bigValue bigStore bigDigits
 big-value-store k l i v f h =
     ap (λ (r : List ℕ). number (reverse r)) (part-put-long l i (reverse (digits k v)) k (length-big-digits k v) f)
+    ∙ ap number (reverse-reverse (digits k v))
+    ∙ number-digits k v h
+
+-- so is one whose bytes stand there, whatever comes after them
+pub big-value-there : (k : ℕ) (l : List ℕ) (i v : ℕ) (rest : List ℕ) → drop i l ≡ bigDigits k v ++ rest → v < 256 ^ k → bigValue k l i ≡ v
+unfolding bigValue bigDigits part
+big-value-there k l i v rest e h =
+    ap (λ (r : List ℕ). number (reverse (take k r))) e
+    ∙ ap (λ (r : List ℕ). number (reverse r)) (take-at (bigDigits k v) rest k (length-big-digits k v))
     ∙ ap number (reverse-reverse (digits k v))
     ∙ number-digits k v h
 
