@@ -71,13 +71,14 @@ entryAt index s = read index (s .at)
 unfoldable pub checked : List ℕ → Bases → Progress → List ℕ → Ran Check
 checked index b s map = applied index (s .at) b (entryAt index s) map
 
+-- the outline of a code entry with these fixups
+abbrev pub outlineOf : Kind → ℕ → ℕ → List ℕ → Outline
+outlineOf kind address n items = record { kind = kind; address = address; size = n; fields = fieldsTo kind items }
+
 -- where the walk stands after an entry that passed: a code entry is an outline more
 abbrev pub stepped : List ℕ → Progress → IndexEntry → Progress
 stepped index s (Code kind address n from count) =
-    record {
-      at = from + count;
-      outlines = record { kind = kind; address = address; size = n; fields = fieldsTo kind (part index from count) } ∷ s .outlines;
-    }
+    record { at = from + count; outlines = outlineOf kind address n (part index from count) ∷ s .outlines }
 stepped index s (End entry next) = s
 stepped index s (Faulty fault) = s
 

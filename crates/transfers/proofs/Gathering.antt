@@ -1,4 +1,4 @@
--- The walk that gathers a handler's pieces: at each record the scratch holds the pieces so far, moved.
+-- The walk that gathers the pieces of a file: at each record the scratch holds the pieces so far, moved.
 -- Assumes nothing.
 use mathlib.Core.List.{List, [], _∷_, _++_, map}
 use mathlib.Core.Path.{_≡_, refl, sym, ap, _∙_}
@@ -38,59 +38,63 @@ use Rattle.records.specs.declared.Record.the-variants.{Code, Fixups, End, Fault
 use Rattle.words.proofs.Lent.{lent-is, back-is}
 use Rattle.words.proofs.Runs.{length-part, length-put, part-put-long, put-put}
 use Rattle.words.specs.Runs.{part, put}
-use Rattle.moves.proofs.Rulings.{verdict, same-load, allows-is, both}
+use Rattle.moves.proofs.Files.{verdict, same-pieces}
+use Rattle.moves.proofs.Rulings.{allows-is, both}
 use Rattle.moves.specs.Call.{rulingOf, Allows, piecesOf}
 use Rattle.moves.specs.Move.{shift, carried, transfer}
+use Rattle.moves.specs.Sources.{fileIn, FileAccepted}
 use Rattle.transfers.specs.Scratch.{scratchWith, Sound}
 
 -- ---- the file
 
--- a handler that may move can be walked through at both pairs of bases, from the offset `first` on
+-- a file that may move can be walked through at both pairs of bases, from the offset `first` on
 pub record Walkable (form : ℕ) (old new : Bases) (file : List ℕ) (first : ℕ) : Type 0 where
   pub fits : length file ≤ 65536
   pub opens : first ≤ length file
   pub pieces : List Piece
-  pub outlines : piecesOf (rulingOf form old new file) ≡ map outline pieces
+  pub outlines : piecesOf (rulingOf (fileIn form file) old new) ≡ map outline pieces
   pub entry : Entry
   pub yes-old : recordsOf file old first .answer ≡ accepted pieces entry
   pub yes-new : recordsOf file new first .answer ≡ accepted pieces entry
 
 -- it can, from the offset behind the opening on
 pub walkable : (form : ℕ) (old new : Bases) (file : List ℕ) (first : ℕ) → first ≡ openingSize (formOf form)
-    → Allows (rulingOf form old new file) → Walkable form old new file first
-walkable form old new file first e h =
-    let ps = piecesOf (rulingOf form old new file) in
-    let x = both form old new file ps (allows-is (rulingOf form old new file) h) in
-    let h = x .0 in
-    let k = x .1 in
-    let same = same-load file form ps ps old new h k in
-    let yes-old = verdict file form ps old h in
-    let yes-new = verdict file form ps new k ∙ ap (λ (qs : List Piece). accepted qs (k .entry)) (same .0) ∙ ap (accepted (h .pieces)) (same .1) in
-    let u = judged-opens (formOf form) file old (h .pieces) (h .entry) yes-old in
-    let v = judged-opens (formOf form) file new (h .pieces) (h .entry) yes-new in
+    → Allows (rulingOf (fileIn form file) old new) → Walkable form old new file first
+walkable form old new file first e a =
+    let v = rulingOf (fileIn form file) old new in
+    let ps = piecesOf v in
+    let x = both (fileIn form file) old new ps (allows-is v a) in
+    let h : FileAccepted form file old ps (x .0 .entry) = x .0 .accepts in
+    let k : FileAccepted form file new ps (x .1 .entry) = x .1 .accepts in
+    let same = same-pieces form file ps ps old new h k in
+    let yes-old = verdict form file ps old h in
+    let yes-new =
+    verdict form file ps new k ∙ ap (λ (qs : List Piece). accepted qs (x .1 .entry)) (same .0) ∙ ap (accepted (h .pieces)) (same .1) in
+    let at-old = judged-opens (formOf form) file old (h .pieces) (x .0 .entry) yes-old in
+    let at-new = judged-opens (formOf form) file new (h .pieces) (x .0 .entry) yes-new in
     rw e
     (record {
       fits = h .accepts .fits;
-      opens = opening-fits (formOf form) file (u .0);
+      opens = opening-fits (formOf form) file (at-old .0);
       pieces = h .pieces;
       outlines = h .outlines;
-      entry = h .entry;
-      yes-old = ap (λ (o : Ran (Verdict Piece)). o .answer) (sym (u .1)) ∙ yes-old;
-      yes-new = ap (λ (o : Ran (Verdict Piece)). o .answer) (sym (v .1)) ∙ yes-new;
+      entry = x .0 .entry;
+      yes-old = ap (λ (o : Ran (Verdict Piece)). o .answer) (sym (at-old .1)) ∙ yes-old;
+      yes-new = ap (λ (o : Ran (Verdict Piece)). o .answer) (sym (at-new .1)) ∙ yes-new;
     })
 
 -- ---- one record
 
 module _ (old new : Bases) (m t₀ t : List ℕ) (os : List Outline) where
   -- code taken is a piece more
-  code-taken : (kind : Kind) (address n : ℕ) → t ≡ transfer old new os m t₀
+  pub code-taken : (kind : Kind) (address n : ℕ) → t ≡ transfer old new os m t₀
       → put t (placeAt new kind address) (part m (placeAt old kind address) n)
       ≡ transfer old new (record { kind = kind; address = address; size = n; fields = [] } ∷ os) m t₀
   unfolding transfer carried edited
   code-taken kind address n e = ap (λ (r : List ℕ). put r (placeAt new kind address) (part m (placeAt old kind address) n)) e
 
   -- fields shifted are the last piece's
-  fields-taken : (fs : List Field) (o : Outline) → placeOf old o + o .size ≤ length m → placeOf new o + o .size ≤ length t
+  pub fields-taken : (fs : List Field) (o : Outline) → placeOf old o + o .size ≤ length m → placeOf new o + o .size ≤ length t
       → t ≡ transfer old new (o ∷ os) m t₀
       → put t (placeOf new o) (edited (shift old new) fs (part t (placeOf new o) (o .size)))
       ≡ transfer old new (record { kind = o .kind; address = o .address; size = o .size; fields = o .fields ++ fs } ∷ os) m t₀
@@ -173,6 +177,15 @@ taken place to size m t bs i j e =
     let is : bs ≡ part m place size = e ∙ lent-is place size m in
     back-is to size t bs j (ap length is ∙ length-part m place size i) ∙ ap (put t to) is
 
+-- fields shifted in a part of the scratch
+pub shifted : (old new : Bases) (fs : List Field) (a n : ℕ) (t bs : List ℕ) → a + n ≤ length t → bs ≡ edited (shift old new) fs (midOf a (a + n - a) t)
+    → putMid a (a + n - a) t bs ≡ put t a (edited (shift old new) fs (part t a n))
+shifted old new fs a n t bs j e =
+    let g = shift old new in
+    let is : bs ≡ edited g fs (part t a n) = e ∙ ap (edited g fs) (lent-is a n t) in
+    let l : length bs ≡ n = ap length is ∙ length-edited g fs (part t a n) ∙ length-part t a n j in
+    back-is a n t bs j l ∙ ap (put t a) is
+
 -- ---- a record gathered by the program, which lends parts of the buffers
 
 module _ (file : List ℕ) (old new : Bases) (source target : Cursor) (m t : List ℕ) {r : Record} where
@@ -192,16 +205,11 @@ module _ (file : List ℕ) (old new : Bases) (source target : Cursor) (m t : Lis
       → putMid (target .place) (target .place + target .size - target .place) t bs ≡ scratchWith file old new source target m t r
   unfolding scratchWith
   gathers-fields {fixup} {from} {n} {bs} e j d =
-      let g = shift old new in
-      let cs : List ℕ = part t (target .place) (target .size) in
-      let is : bs ≡ edited g (fieldsOf fixup (part file from n)) cs =
-      d
-      ∙ ap (λ (l : List ℕ). edited g (fieldsOf fixup l) (midOf (target .place) (target .place + target .size - target .place) t))
-      (lent-is from n file)
-      ∙ ap (edited g (fieldsOf fixup (part file from n))) (lent-is (target .place) (target .size) t) in
-      let l : length bs ≡ target .size =
-      ap length is ∙ length-edited g (fieldsOf fixup (part file from n)) cs ∙ length-part t (target .place) (target .size) j in
-      rw e (back-is (target .place) (target .size) t bs j l ∙ ap (put t (target .place)) is)
+      rw e
+      (shifted old new (fieldsOf fixup (part file from n)) (target .place) (target .size) t bs j
+      (d
+      ∙ ap (λ (l : List ℕ). edited (shift old new) (fieldsOf fixup l) (midOf (target .place) (target .place + target .size - target .place) t))
+      (lent-is from n file)))
 
   -- nothing
   pub gathers-end : {entry : Entry} {next : ℕ} → r ≡ End entry next → t ≡ scratchWith file old new source target m t r

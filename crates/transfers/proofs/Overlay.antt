@@ -13,18 +13,19 @@ use Rattle.pieces.proofs.Marks.{marks-outside, marks-some}
 use Rattle.pieces.specs.Places.{Placed, WellPlaced}
 use Rattle.pieces.specs.Pieces.{Outline, outline, placeOf, events}
 use Rattle.pieces.specs.declared.Bases.{Bases}
-use Rattle.acx.specs.Call.{load, mapAfter as loadedMap}
-use Rattle.acx.specs.Walk.{Verdict}
 use Rattle.events.proofs.Events.{length-marks, length-blank, blank-at}
 use Rattle.events.proofs.Lists.{each-zip3}
-use Rattle.events.specs.Events.{Event, marks, blank}
+use Rattle.events.specs.Events.{marks, blank}
 use Rattle.events.specs.Lists.{Each}
 use Rattle.words.proofs.Runs.{within?, part-agree-at}
-use Rattle.moves.proofs.Rulings.{judged-as, well-placed-at, events-at, allows-is, both}
+use Rattle.index.proofs.Hollow.{hollow, hollow-outlines}
+use Rattle.moves.proofs.Rulings.{allows-is, both}
+use Rattle.moves.proofs.Sources.{marksFor, well-placed-at, report-at}
 use Rattle.moves.proofs.Transfers.{length-transfer, transfer-outside, transfer-parts}
-use Rattle.moves.specs.Call.{judgedAt, rulingOf, Allows, piecesOf, mapBy}
-use Rattle.moves.specs.Demand3.{AcceptedAt}
+use Rattle.moves.specs.Call.{rulingOf, Allows, piecesOf, mapBy}
+use Rattle.moves.specs.Demand3.{Report}
 use Rattle.moves.specs.Move.{transfer, moved}
+use Rattle.moves.specs.Sources.{Source, judgedAt, AcceptedAt}
 use Rattle.transfers.specs.Scratch.{chosen, Overlaid}
 
 -- ---- the loop
@@ -96,32 +97,33 @@ some-chosen zero a b h = absurd (omega arith)
 some-chosen (suc n) a b h = refl
 
 -- pieces gathered in a scratch, and taken from there where the map of a load at the new bases has marks, have moved
-module _ (file : List ℕ) (form : ℕ) (ps : List Outline) (old new : Bases) (at-old : AcceptedAt file form ps old)
-    (at-new : AcceptedAt file form ps new) (m s m′ : List ℕ) (n : length m ≡ 65536) (l : length s ≡ 65536)
-    (o : Overlaid (marks (events new (at-new .pieces)) blank) (transfer old new ps m s) m m′) where
+module _ (h : Source) (ps : List Outline) (old new : Bases) (at-old : AcceptedAt h ps old) (at-new : AcceptedAt h ps new)
+    (m s m′ : List ℕ) (n : length m ≡ 65536) (l : length s ≡ 65536) (o : Overlaid (marksFor new ps) (transfer old new ps m s) m m′) where
   abbrev fits-old : Each (Fits old (length m)) ps
-  fits-old = fits-memory old (length m) ps n (well-placed-at file form ps old at-old .fit)
+  fits-old = fits-memory old (length m) ps n (well-placed-at h ps old at-old .fit)
 
   abbrev there : WellPlaced new ps
-  there = well-placed-at file form ps new at-new
+  there = well-placed-at h ps new at-new
 
-  -- the same of the pieces that were marked
-  abbrev marked : WellPlaced new (mapped outline (at-new .pieces))
-  marked = subst (WellPlaced new) (at-new .outlines) there
+  -- the same of the pieces that stand for them in the map
+  abbrev marked : WellPlaced new (mapped outline (mapped hollow ps))
+  marked = subst (WellPlaced new) (sym (hollow-outlines ps)) there
 
   abbrev map-new : List ℕ
-  map-new = marks (events new (at-new .pieces)) blank
+  map-new = marksFor new ps
 
   -- there is a mark at each place
   some : Each (λ p. (x : ℕ) → Placed new x p → 0 < getD map-new x 0) ps
+  unfolding marksFor
   some =
-      subst (Each (λ p. (x : ℕ) → Placed new x p → 0 < getD map-new x 0)) (sym (at-new .outlines))
-      (marks-some new (at-new .pieces) blank (marked .sound .inside) (fits-map new (mapped outline (at-new .pieces)) (marked .fit)) (marked .fit .apart))
+      subst (Each (λ p. (x : ℕ) → Placed new x p → 0 < getD map-new x 0)) (hollow-outlines ps)
+      (marks-some new (mapped hollow ps) blank (marked .sound .inside) (fits-map new (mapped outline (mapped hollow ps)) (marked .fit)) (marked .fit .apart))
 
   -- and none elsewhere
   clear : (x : ℕ) → Each (λ p. ¬ Placed new x p) ps → getD map-new x 0 ≡ 0
+  unfolding marksFor
   clear x w =
-      marks-outside new (at-new .pieces) blank (marked .sound .inside) x (subst (Each (λ p. ¬ Placed new x p)) (at-new .outlines) w) ∙ blank-at x
+      marks-outside new (mapped hollow ps) blank (marked .sound .inside) x (subst (Each (λ p. ¬ Placed new x p)) (sym (hollow-outlines ps)) w) ∙ blank-at x
 
   -- at a piece's place
   inside : (x : ℕ) → Each (λ p. Placed new x p → getD m′ x 0 ≡ getD (transfer old new ps m m) x 0) ps
@@ -148,27 +150,24 @@ module _ (file : List ℕ) (form : ℕ) (ps : List Outline) (old new : Bases) (a
 
 -- ---- by the ruling
 
-module _ (form : ℕ) (old new : Bases) (file : List ℕ) (h : Allows (rulingOf form old new file)) (map : List ℕ)
-    (e : map ≡ mapBy (judgedAt form new file) (rulingOf form old new file)) where
+module _ (h : Source) (old new : Bases) (a : Allows (rulingOf h old new)) (map : List ℕ) (e : map ≡ mapBy (judgedAt h new) (rulingOf h old new)) where
   -- the pieces that move, and the handler at both bases
   abbrev ps : List Outline
-  ps = piecesOf (rulingOf form old new file)
+  ps = piecesOf (rulingOf h old new)
 
-  abbrev at-both : AcceptedAt file form ps old × AcceptedAt file form ps new
-  at-both = both form old new file ps (allows-is (rulingOf form old new file) h)
+  abbrev at-both : AcceptedAt h ps old × AcceptedAt h ps new
+  at-both = both h old new ps (allows-is (rulingOf h old new) a)
 
   -- the map is that of the pieces
-  map-is : map ≡ marks (events new (at-both .1 .pieces)) blank
-  map-is =
-      e ∙ ap (mapBy (judgedAt form new file)) (allows-is (rulingOf form old new file) h)
-      ∙ ap (λ (v : Verdict Outline). loadedMap v (load form new file .events)) (judged-as file form ps new (at-both .1))
-      ∙ ap (λ (es : List Event). marks es blank) (events-at file form ps new (at-both .1))
+  map-is : map ≡ marksFor new ps
+  map-is = e ∙ ap (mapBy (judgedAt h new)) (allows-is (rulingOf h old new) a) ∙ ap (λ (r : Report). r .map) (report-at h ps new (at-both .1))
 
   -- it is as long as memory
   pub length-map : length map ≡ 65536
-  length-map = ap length map-is ∙ length-marks (events new (at-both .1 .pieces)) blank ∙ length-blank
+  unfolding marksFor
+  length-map = ap length map-is ∙ length-marks (events new (mapped hollow ps)) blank ∙ length-blank
 
   -- memory is that of the move
   pub overlaid-moved : (m s t m′ : List ℕ) → length m ≡ 65536 → length s ≡ 65536 → t ≡ transfer old new ps m s → Overlaid map t m m′
       → m′ ≡ moved old new ps m
-  overlaid-moved m s t m′ n l et o = overlaid file form ps old new (at-both .0) (at-both .1) m s m′ n l (rw (map-is, et) at o)
+  overlaid-moved m s t m′ n l et o = overlaid h ps old new (at-both .0) (at-both .1) m s m′ n l (rw (map-is, et) at o)

@@ -11,7 +11,7 @@ use Rattle.fields.specs.Fields.{fieldsOf}
 use Rattle.records.specs.declared.Record.{Record}
 use Rattle.records.specs.declared.Record.the-variants.{Code, Fixups, End, Faulty}
 use Rattle.pieces.specs.Places.{Inside}
-use Rattle.pieces.specs.Pieces.{edited}
+use Rattle.pieces.specs.Pieces.{Outline, placeOf, edited}
 use Rattle.pieces.specs.declared.Bases.{Bases}
 use Rattle.acx.specs.declared.Cursor.{Cursor}
 use Rattle.moves.specs.Move.{shift}
@@ -30,6 +30,12 @@ Sound file size (Code kind address from n) = Unit {0}
 Sound file size (Fixups fixup from n) = (from + n ≤ length file) × Each (Inside size) (fieldsOf fixup (part file from n))
 Sound file size (End entry next) = Unit {0}
 Sound file size (Faulty fault offset) = Unit {0}
+
+-- an outline lies in memory at both pairs of bases, and its fields in its code
+pub record Movable (old new : Bases) (o : Outline) : Type 0 where
+  pub at-old : placeOf old o + o .size ≤ 65536
+  pub at-new : placeOf new o + o .size ≤ 65536
+  pub inside : Each (Inside (o .size)) (o .fields)
 
 -- a byte where the map has no mark, and where it has one
 abbrev pub chosen : ℕ → ℕ → ℕ → ℕ

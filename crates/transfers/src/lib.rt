@@ -2,10 +2,15 @@
 // overlap in any way. They are gathered from memory into the scratch, where they lie at their new places and have their fields adjusted, and
 // only then go into memory.
 use acx::Cursor;
+use entries::IndexEntry;
+use entries::Listed;
 use fields::Field;
 use fields::Fixup;
+use moves::Format;
 use pieces::Bases;
+use records::Kind;
 use records::Record;
+ghost use mathlib.Core.List.{[], _∷_};
 ghost use mathlib.Core.Path.{_≡_};
 ghost use Prim.Native.Nat.{_+_, _≤_};
 ghost use lib.ListN.{length};
@@ -14,26 +19,29 @@ ghost use Rattle.words.specs.Runs.{part, put};
 ghost use Rattle.events.specs.Lists.{Each};
 ghost use Rattle.events.specs.Events.{blank};
 ghost use Rattle.fields.specs.Fields.{fieldsOf};
+ghost use Rattle.entries.specs.Entries.{fieldsTo};
 ghost use Rattle.pieces.specs.Pieces.{width, edited};
 ghost use Rattle.pieces.specs.Places.{Inside};
 ghost use Rattle.moves.specs.Move.{shift, transfer, moved};
-ghost use Rattle.moves.specs.Call.{judgedAt, rulingOf, Allows, piecesOf, mapBy};
-ghost use Rattle.transfers.specs.Scratch.{scratchWith, Sound, Overlaid};
+ghost use Rattle.moves.specs.Sources.{sourceOf, fileIn, theIndex, judgedAt};
+ghost use Rattle.moves.specs.Call.{rulingOf, Allows, piecesOf, mapBy};
+ghost use Rattle.index.specs.Walk.{outlineOf};
+ghost use Rattle.transfers.specs.Scratch.{scratchWith, Sound, Movable, Overlaid};
 
 // Carries the handler's bytes by way of the scratch, over the map of a load at the new bases.
 pub fn carry(
-    form: u32,
-    file: &[u8],
+    format: Format,
+    bytes: &[u8],
     old: Bases,
     new: Bases,
     map: &[u8],
     memory: &mut [u8],
     scratch: &mut [u8],
 )
-    requires { ⌜ Allows (rulingOf form old new (now file)) × (now map ≡ mapBy (judgedAt form new (now file)) (rulingOf form old new (now file))) × (length (now memory) ≡ 65536) × (length (now scratch) ≡ 65536) ⌝ }
-    ensures { λ _. ⌜ (now (memory .exit) ≡ moved old new (piecesOf (rulingOf form old new (now (file .entry)))) (now (memory .entry))) × (now (scratch .exit) ≡ blank) ⌝ }
+    requires { ⌜ Allows (rulingOf (sourceOf format (now bytes)) old new) × (now map ≡ mapBy (judgedAt (sourceOf format (now bytes)) new) (rulingOf (sourceOf format (now bytes)) old new)) × (length (now memory) ≡ 65536) × (length (now scratch) ≡ 65536) ⌝ }
+    ensures { λ _. ⌜ (now (memory .exit) ≡ moved old new (piecesOf (rulingOf (sourceOf format (now (bytes .entry))) old new)) (now (memory .entry))) × (now (scratch .exit) ≡ blank) ⌝ }
 {
-    gather(form, file, old, new, memory, scratch);
+    gather(format, bytes, old, new, memory, scratch);
     commit(map, scratch, memory);
     words::fill(scratch, 0);
 }
@@ -52,11 +60,21 @@ fn commit(map: &[u8], scratch: &[u8], memory: &mut [u8])
     }
 }
 
-// Gathers the pieces from their old places in memory into the scratch, at their new places and adjusted: record by record, with a cursor
-// for each pair of bases.
-fn gather(form: u32, file: &[u8], old: Bases, new: Bases, memory: &[u8], scratch: &mut [u8])
-    requires { ⌜ Allows (rulingOf form old new (now file)) × (length (now memory) ≡ 65536) × (length (now scratch) ≡ 65536) ⌝ }
-    ensures { λ _. ⌜ now (scratch .exit) ≡ transfer old new (piecesOf (rulingOf form old new (now (file .entry)))) (now (memory .entry)) (now (scratch .entry)) ⌝ }
+// Gathers the pieces from their old places in memory into the scratch, at their new places and adjusted.
+fn gather(format: Format, bytes: &[u8], old: Bases, new: Bases, memory: &[u8], scratch: &mut [u8])
+    requires { ⌜ Allows (rulingOf (sourceOf format (now bytes)) old new) × (length (now memory) ≡ 65536) × (length (now scratch) ≡ 65536) ⌝ }
+    ensures { λ _. ⌜ now (scratch .exit) ≡ transfer old new (piecesOf (rulingOf (sourceOf format (now (bytes .entry))) old new)) (now (memory .entry)) (now (scratch .entry)) ⌝ }
+{
+    match format {
+        Format::File(form) => gather_file(form, bytes, old, new, memory, scratch),
+        Format::Index => gather_index(bytes, old, new, memory, scratch),
+    }
+}
+
+// Gathers the pieces of a file: record by record, with a cursor for each pair of bases.
+fn gather_file(form: u32, file: &[u8], old: Bases, new: Bases, memory: &[u8], scratch: &mut [u8])
+    requires { ⌜ Allows (rulingOf (fileIn form (now file)) old new) × (length (now memory) ≡ 65536) × (length (now scratch) ≡ 65536) ⌝ }
+    ensures { λ _. ⌜ now (scratch .exit) ≡ transfer old new (piecesOf (rulingOf (fileIn form (now (file .entry))) old new)) (now (memory .entry)) (now (scratch .entry)) ⌝ }
 {
     let at = acx::opening_size(acx::form_of(form));
     let mut source = acx::first_cursor(at);
@@ -105,6 +123,66 @@ fn gather_record(
     }
 }
 
+// Gathers the pieces of an index: entry by entry, up to the end entry. Where a move is allowed, no entry is at fault.
+fn gather_index(index: &[u8], old: Bases, new: Bases, memory: &[u8], scratch: &mut [u8])
+    requires { ⌜ Allows (rulingOf (theIndex (now index)) old new) × (length (now memory) ≡ 65536) × (length (now scratch) ≡ 65536) ⌝ }
+    ensures { λ _. ⌜ now (scratch .exit) ≡ transfer old new (piecesOf (rulingOf (theIndex (now (index .entry))) old new)) (now (memory .entry)) (now (scratch .entry)) ⌝ }
+{
+    let mut at = 1;
+    loop {
+        let found = entries::read(index, at);
+        match found {
+            IndexEntry::Code {
+                kind,
+                address,
+                size,
+                from,
+                length,
+            } => {
+                let next = from + length;
+                gather_entry(
+                    &index[from..next],
+                    kind,
+                    address,
+                    size,
+                    old,
+                    new,
+                    memory,
+                    scratch,
+                );
+                at = next;
+            }
+            IndexEntry::End { entry, next } => {
+                return;
+            }
+            IndexEntry::Faulty(fault) => {
+                return;
+            }
+        }
+    }
+}
+
+// Gathers in the scratch what a code entry brings: `size` code bytes of a kind from memory, with the fields changed that its items list.
+fn gather_entry(
+    items: &[u8],
+    kind: Kind,
+    address: u16,
+    size: usize,
+    old: Bases,
+    new: Bases,
+    memory: &[u8],
+    scratch: &mut [u8],
+)
+    requires { ⌜ Movable old new (outlineOf kind address size (now items)) × (length (now items) ≤ 65536) × (length (now memory) ≡ 65536) × (length (now scratch) ≡ 65536) ⌝ }
+    ensures { λ _. ⌜ now (scratch .exit) ≡ transfer old new (outlineOf kind address size (now (items .entry)) ∷ []) (now (memory .entry)) (now (scratch .entry)) ⌝ }
+{
+    let place = pieces::place_of(old, kind, address);
+    let begin = pieces::place_of(new, kind, address);
+    take_code(place, begin, size, memory, scratch);
+    let end = begin + size;
+    shift_listed(items, kind, old, new, &mut scratch[begin..end]);
+}
+
 // Copies `size` code bytes from `place` in memory to `to` in the scratch.
 fn take_code(place: usize, to: usize, size: usize, memory: &[u8], scratch: &mut [u8])
     requires { ⌜ (place + size ≤ length (now memory)) × (to + size ≤ length (now scratch)) ⌝ }
@@ -131,6 +209,31 @@ fn shift_fields(items: &[u8], fixup: Fixup, old: Bases, new: Bases, code: &mut [
             pieces::amount(new, field),
         );
         i += step;
+    }
+}
+
+// Shifts the fields that the fixups of an entry list, after code of a kind, one by one.
+fn shift_listed(items: &[u8], kind: Kind, old: Bases, new: Bases, code: &mut [u8])
+    requires { ⌜ (length (now items) ≤ 65536) × Each (Inside (length (now code))) (fieldsTo kind (now items)) ⌝ }
+    ensures { λ _. ⌜ now (code .exit) ≡ edited (shift old new) (fieldsTo kind (now (items .entry))) (now (code .entry)) ⌝ }
+{
+    let mut i = 0;
+    while i + 3 <= items.len() {
+        let listed = entries::listed_at(items, i, kind);
+        match listed {
+            Listed::Suited(field) => {
+                shift_field(
+                    code,
+                    field,
+                    pieces::amount(old, field),
+                    pieces::amount(new, field),
+                );
+            }
+            Listed::Unsuited => {
+                return;
+            }
+        }
+        i += 3;
     }
 }
 

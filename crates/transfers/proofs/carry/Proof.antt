@@ -2,7 +2,9 @@
 -- Assumes nothing.
 use mathlib.Core.Path.{_∙_}
 use borrow.Author.Needs.{needs}
+use denote.Ref.{now}
 use Rattle.events.proofs.Events.{cleared}
+use Rattle.moves.specs.Sources.{sourceOf}
 use Rattle.transfers.proofs.Overlay.{length-map, overlaid-moved}
 use Rattle.transfers.proofs.carry.Statement.{statement}
 use Rattle.transfers.proofs.carry.Tie as tie
@@ -13,7 +15,8 @@ gather-requires c κs = search needs
 commit-requires : tie.Need-commit-requires
 commit-requires c κs =
     let s = c .before .before .before .before .before .before .before .before .before .before .before in
-    (s .pre .2, length-map _ _ _ _ (s .pre .0) _ (s .pre .1), c .before .before .before .before .gather .kept .1 .1 .1 .1 .1 .0 ∙ s .pre .3)
+    let h = sourceOf (s .args .format) (now (s .args .bytes)) in
+    (s .pre .2, length-map h (s .args .old) (s .args .new) (s .pre .0) _ (s .pre .1), c .before .before .before .before .gather .kept .1 .1 .1 .1 .1 .0 ∙ s .pre .3)
 
 fill-requires : tie.Need-fill-requires
 fill-requires c κs = search needs
@@ -28,8 +31,9 @@ returns : tie.Need-returns
 returns c =
     let o = c .before .before .before .before .before .before in
     let g = o .before .before .before .before .before in
-    let s = g .before .before .before .before .before .before .before in (
-      overlaid-moved _ _ _ _ (s .pre .0) _ (s .pre .1) _ _ _ _ (s .pre .2) (s .pre .3) (g .gather .ensures) (o .commit .ensures),
+    let s = g .before .before .before .before .before .before .before in
+    let h = sourceOf (s .args .format) (now (s .args .bytes)) in (
+      overlaid-moved h (s .args .old) (s .args .new) (s .pre .0) _ (s .pre .1) _ _ _ _ (s .pre .2) (s .pre .3) (g .gather .ensures) (o .commit .ensures),
       cleared _ _ (g .gather .kept .1 .1 .1 .1 .1 .0 ∙ s .pre .3) (c .before .before .fill .ensures),
     )
 
