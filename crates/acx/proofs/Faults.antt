@@ -81,6 +81,11 @@ judged-faults : (form : Form) (file : List ℕ) (b : Bases) → Verdicts (length
 unfolding judged
 judged-faults form file b = opened-faults _ (opening form file) _ (opening-faults form file .faults) (records-faults file b _)
 
+-- so a fault of its is one that it may be refused with
+pub judged-decides : (form : Form) (file : List ℕ) (b : Bases) (fault : Fault) (at : ℕ) → judged form file b .answer ≡ refused fault at
+    → OfFile (length file) fault at
+judged-decides form file b fault at e = let h : Verdicts (length file) (refused fault at) = rw (← e) (judged-faults form file b) in h .faults
+
 report-faults : {len : ℕ} (b : Bases) (v : Verdict Piece) (es : List Event) → Verdicts len v → ByFile len (report b v es)
 report-faults b (accepted ps entry) es h = record { decided = tt }
 report-faults b (refused fault offset) es h = record { decided = h .faults }

@@ -1,7 +1,7 @@
 -- What a call of the builder comes to, in the wish's words: when it is accepted and what it then leaves, and when it is refused and with what. Proved in
 -- proofs/Outcomes.antt: `built-exactly : Claim` and `build-refusals : RefusalsClaim`.
 -- Assumes nothing.
-use mathlib.Core.Bool.{Bool, true, false, _&&_}
+use mathlib.Core.Bool.{Bool, true, _&&_}
 use mathlib.Core.List.{List}
 use mathlib.Core.Path.{_≡_}
 use Prim.Native.Nat.{ℕ, _≤_, _<_}

@@ -162,60 +162,67 @@ fixups-after file at last fixup from size e =
     let h : Follows last (Fixups fixup from size) = rw (← e) (read-follows file at last) in
     h .follows
 
--- ---- a code record is short
+-- ---- how long a code record is
 
--- the bytes of a code record are few, and nothing is said of others
-abbrev Few : Record → Type 0
-Few (Code kind address from size) = size ≤ 253
-Few (Fixups fixup from size) = Unit {0}
-Few (End entry next) = Unit {0}
-Few (Faulty fault offset) = Unit {0}
+-- a code record has its length byte, which counts the two bytes of its address too; nothing is said of others
+abbrev Measured : List ℕ → ℕ → Record → Type 0
+Measured file at (Code kind address from size) = (at + 2 ≤ length file) × (getD file (at + 1) 0 ≡ size + 2)
+Measured file at (Fixups fixup from size) = Unit {0}
+Measured file at (End entry next) = Unit {0}
+Measured file at (Faulty fault offset) = Unit {0}
 
 -- the same as a record
-record Short (r : Record) : Type 0 where
-  few : Few r
+record Long (file : List ℕ) (at : ℕ) (r : Record) : Type 0 where
+  long : Measured file at r
 
 -- a fault holds nothing
-none : {fault : Fault} {offset : ℕ} → Short (Faulty fault offset)
-none = record { few = tt }
+none : {file : List ℕ} {at : ℕ} {fault : Fault} {offset : ℕ} → Long file at (Faulty fault offset)
+none = record { long = tt }
 
--- what is left of a length byte after the address
-code-short : (file : List ℕ) (at : ℕ) (kind : Kind) → Bytes file → Short (readCode file at kind)
+-- what is left of the length byte after the address
+code-long : (file : List ℕ) (at : ℕ) (kind : Kind) → Long file at (readCode file at kind)
 unfolding readCode
-code-short file at kind b =
-    let n = b (at + 1) in
-    on-need Faulty Short _ _ _ _ none
-    (λ _. on-need Faulty Short _ _ _ _ none (λ _. on-need Faulty Short _ _ _ _ none (λ _. record { few = omega arith })))
+code-long file at kind =
+    let P = Long file at in
+    on-need Faulty P _ _ _ _ none
+    (λ h₁. on-need Faulty P _ _ _ _ none
+    (λ h₂. on-need Faulty P _ _ _ _ none (λ _. record { long = (leb-true _ _ h₁, omega (arith, leb-true 2 (getD file (at + 1) 0) h₂)) })))
 
 -- a fixup record is no code
-fixups-short : (file : List ℕ) (at : ℕ) (last : Last) (kind : Kind) (fixup : Fixup) → Short (readFixups file at last kind fixup)
+fixups-long : (file : List ℕ) (at : ℕ) (last : Last) (kind : Kind) (fixup : Fixup) → Long file at (readFixups file at last kind fixup)
 unfolding readFixups readItems
-fixups-short file at last kind fixup =
-    on-need Faulty Short _ _ _ _ none
-    (λ _. on-need Faulty Short _ _ _ _ none
-    (λ _. on-need Faulty Short _ _ _ _ none
-    (λ _. on-need Faulty Short _ _ _ _ none
-    (λ _. record { few = tt }))))
+fixups-long file at last kind fixup =
+    let P = Long file at in
+    on-need Faulty P _ _ _ _ none
+    (λ _. on-need Faulty P _ _ _ _ none
+    (λ _. on-need Faulty P _ _ _ _ none
+    (λ _. on-need Faulty P _ _ _ _ none
+    (λ _. record { long = tt }))))
 
 -- nor is the end record
-end-short : (file : List ℕ) (at : ℕ) → Short (readEnd file at)
+end-long : (file : List ℕ) (at : ℕ) → Long file at (readEnd file at)
 unfolding readEnd
-end-short file at = on-need Faulty Short _ _ _ _ none (λ _. on-need Faulty Short _ _ _ _ none (λ _. record { few = tt }))
+end-long file at = let P = Long file at in on-need Faulty P _ _ _ _ none (λ _. on-need Faulty P _ _ _ _ none (λ _. record { long = tt }))
 
 -- the record at an offset, whatever its type
-read-short : (file : List ℕ) (at : ℕ) (last : Last) → Bytes file → Short (read file at last)
+read-long : (file : List ℕ) (at : ℕ) (last : Last) → Long file at (read file at last)
 unfolding read
-read-short file at last b = on-need Faulty Short _ _ _ _ none (λ _. typed (typeOf (getD file at 0)))
+read-long file at last = on-need Faulty (Long file at) _ _ _ _ none (λ _. typed (typeOf (getD file at 0)))
   where
-    typed : (t : RecordType) → Short (readAs file at last t)
-    typed (code kind) = code-short file at kind b
-    typed (fixups kind fixup) = fixups-short file at last kind fixup
-    typed end = end-short file at
+    typed : (t : RecordType) → Long file at (readAs file at last t)
+    typed (code kind) = code-long file at kind
+    typed (fixups kind fixup) = fixups-long file at last kind fixup
+    typed end = end-long file at
     typed unknown = none
 
--- a code record of a file of bytes holds 253 bytes at most
+-- a code record is as long as its length byte says
+pub code-measured : (file : List ℕ) (at : ℕ) (last : Last) (kind : Kind) (address from size : ℕ) → read file at last ≡ Code kind address from size
+    → (at + 2 ≤ length file) × (getD file (at + 1) 0 ≡ size + 2)
+code-measured file at last kind address from size e =
+    let h : Long file at (Code kind address from size) = rw (← e) (read-long file at last) in
+    h .long
+
+-- in a file of bytes it holds 253 bytes at most
 pub code-few : (file : List ℕ) (at : ℕ) (last : Last) (kind : Kind) (address from size : ℕ) → Bytes file
     → read file at last ≡ Code kind address from size → size ≤ 253
-code-few file at last kind address from size b e =
-    let h : Short (Code kind address from size) = rw (← e) (read-short file at last b) in
-    h .few
+code-few file at last kind address from size b e = omega (arith, code-measured file at last kind address from size e .1, b (at + 1))

@@ -1,0 +1,70 @@
+-- `builder::write_code` meets its contract: its stores are those of the entry's bytes in turn.
+-- Assumes nothing.
+use mathlib.Core.Path.{ap, _∙_}
+use native.Mathlib.Omega.{arith}
+use borrow.Author.Needs.{needs}
+use lib.ListN.{length, length-set}
+use Rattle.words.proofs.Runs.{length-put}
+use Rattle.builder.proofs.Writing.{code-stored}
+use Rattle.builder.proofs.write_code.Statement.{statement}
+use Rattle.builder.proofs.write_code.Tie as tie
+
+put-big-word-requires : tie.Need-put-big-word-requires
+put-big-word-requires c κs = search needs
+
+code-type-requires : tie.Need-code-type-requires
+code-type-requires c κs = search needs
+
+add-index : tie.Need-add-index
+add-index c = search needs
+
+slice-write-index : tie.Need-slice-write-index
+slice-write-index c = search needs
+
+add-put-big-word : tie.Need-add-put-big-word
+add-put-big-word c = search needs
+
+put-big-word-requires-2 : tie.Need-put-big-word-requires-2
+put-big-word-requires-2 c κs =
+    let p = c .before .before .before .before in
+    let s = p .before .before .before in
+    simp length-set (omega (arith, p .put-big-word .kept .0, s .pre .0))
+
+add-index-2 : tie.Need-add-index-2
+add-index-2 c = search needs
+
+slice-write-index-2 : tie.Need-slice-write-index-2
+slice-write-index-2 c =
+    let p = c .before .before .before .before .before .before .before in
+    let s = p .before .before .before in
+    let k = rw length-set at (c .before .before .put-big-word2 .kept .0) in
+    omega (arith, k, p .put-big-word .kept .0, s .pre .0)
+
+same-length : tie.Need-same-length
+same-length c =
+    let d = c .before .before .before .before in
+    let p = d .before .before .before in
+    let s = p .before .before .before in
+    let e = code-stored _ _ _ _ _ _ _ (s .args .kind) (p .put-big-word .ensures .0) (d .code-type .ensures) (c .before .before .put-big-word2 .ensures .0) in
+    ap length e ∙ length-put _ _ _
+
+returns : tie.Need-returns
+returns c =
+    let d = c .before .before .before .before in
+    let p = d .before .before .before in
+    code-stored _ _ _ _ _ _ _ _ (p .put-big-word .ensures .0) (d .code-type .ensures) (c .before .before .put-big-word2 .ensures .0)
+
+pub write-code-spec : {M : Type 1} → statement M
+write-code-spec =
+    tie.close
+    (tie.spec
+    put-big-word-requires
+    code-type-requires
+    add-index
+    slice-write-index
+    add-put-big-word
+    put-big-word-requires-2
+    add-index-2
+    slice-write-index-2
+    same-length
+    returns)
