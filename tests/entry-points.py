@@ -50,7 +50,7 @@ EDITS = (
     ("an ensures in a comment", TKW, "tkw_acx_move", SIGNATURE + ENSURES, "\\1\n    // \\2\n", NO_ENSURES),
     ("an export that promises nothing", TKW, "tkw_acx_move", SIGNATURE + ENSURES, "\\1\n    ensures { λ r. ⊤ₛ }\n", PROMISES_LESS),
     ("an export that no call stands behind", CALLS, "tkw_acx_load_default", r"\bpub fn acx_load_default\b", "pub fn acx_load_short", NO_CALL),
-    ("an export whose words mean something else", TKW, "tkw_acx_move", r"^ghost use Rattle\.calls\.specs\.Move\b", "ghost use Rattle.tkw.specs.Move", OTHER_WORDS),
+    ("an export whose words mean something else", TKW, "tkw_index_build", r"^ghost use Rattle\.calls\.specs\.Build\b", "ghost use Rattle.tkw.specs.Build", OTHER_WORDS),
     ("a call that promises something at times", CALLS, "acx_move", SIGNATURE + r" *ensures \{ λ r\. ⌜ ", "\\1\n    ensures { λ r. ⌜ (r ≡ 0) → ", NOT_ALWAYS),
     ("a requires of a call", CALLS, "acx_load_default", SIGNATURE, "\\1\n    requires { ⌜ ⊥ ⌝ }\n", HAS_REQUIRES),
     ("a call without its ensures", CALLS, "sdx_load", SIGNATURE + ENSURES, "\\1\n", NO_ENSURES),

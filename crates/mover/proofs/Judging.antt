@@ -2,28 +2,28 @@
 -- Assumes nothing.
 use mathlib.Core.Bool.{true, false, false≢true}
 use mathlib.Core.List.{List}
-use mathlib.Core.Path.{_≡_, refl, sym, ap, _∙_}
+use mathlib.Core.Path.{_≡_, refl, sym, ap, _∙_, subst}
 use Prim.Native.Nat.{ℕ, _≤_}
-use native.Mathlib.Omega.{arith}
 use borrow.Author.Tests.{eq-eqb, ne-eqb}
 use lib.ListN.{length}
-use Rattle.acx.proofs.Calling.{load-few}
 use Rattle.acx.specs.Call.{load}
 use Rattle.pieces.specs.Pieces.{Outline}
 use Rattle.acx.specs.Walk.{Verdict, accepted, refused, report, reported}
 use Rattle.pieces.specs.declared.Bases.{Bases}
 use Rattle.answer.proofs.Outcomes.{isRefused}
 use Rattle.answer.specs.Checks.{need, pick}
-use Rattle.answer.specs.Report.{placedOf, adjustedOf}
 use Rattle.answer.specs.declared.Fault.{Fault}
 use Rattle.answer.specs.declared.Fault.the-variants.{WrongBuffer}
 use Rattle.answer.specs.declared.Outcome.{Outcome}
 use Rattle.answer.specs.declared.Outcome.the-variants.{Accepted, Refused}
 use Rattle.answer.specs.declared.Start.{Start}
-use Rattle.events.specs.Events.{blank, Ran, Did}
-use Rattle.moves.proofs.Rulings.{report-same, reported-accepted, both, accepted-allows, refused-leaves}
-use Rattle.moves.specs.Call.{Call, judgedAt, Ruling, allows, refuses, side, sides, rulingOf, sized, ruling, Allows, piecesOf, outcomeBy, memoryBy, outcomeOf, memoryAfter, mapAfter, scratchAfter, Moved}
+use Rattle.events.specs.Events.{blank, Ran, Noted, Did}
+use Rattle.index.specs.Walk.{indexed}
+use Rattle.moves.proofs.Rulings.{both, ranges, accepted-allows, refused-leaves}
+use Rattle.moves.proofs.Sources.{report-same, reports-accepted, counted, counted-refused}
+use Rattle.moves.specs.Call.{Call, Ruling, allows, refuses, side, sides, rulingOf, sized, ruling, Allows, piecesOf, outcomeBy, memoryBy, outcomeOf, memoryAfter, mapAfter, scratchAfter, Moved}
 use Rattle.moves.specs.Move.{moved}
+use Rattle.moves.specs.Sources.{Source, fileIn, theIndex, judgedAt, Counted}
 use Rattle.mover.specs.Parts.{Judged, Done}
 
 -- ---- one side
@@ -32,14 +32,22 @@ abbrev withSide : ℕ → Outcome → Outcome
 withSide n (Accepted start placed adjusted names low) = Accepted start placed adjusted names low
 withSide n (Refused fault at k) = Refused fault at n
 
-module _ (form : ℕ) (b : Bases) (file : List ℕ) (n : ℕ) {m : List ℕ} {r : Outcome} {m₁ p₁ : List ℕ}
-    (d : Did Outcome (reported b (load form b file)) false m blank r m₁ p₁) where
-  abbrev o : Ran (Verdict Outline)
-  o = judgedAt form b file
+-- a load that only checks reports what a move looks at
+pub walked-file : (form : ℕ) (b : Bases) (file : List ℕ) {m : List ℕ} {r : Outcome} {m₁ p₁ : List ℕ}
+    → Did Outcome (reported b (load form b file)) false m blank r m₁ p₁
+    → Did Outcome (reported b (judgedAt (fileIn form file) b)) false m blank r m₁ p₁
+walked-file form b file d =
+    record { answer = d .answer ∙ sym (report-same b (load form b file .answer) (load form b file .events)); reached = d .reached }
 
-  -- the load reports what a move looks at
+-- an index walked through leaves memory
+pub walked-index : (b : Bases) (index : List ℕ) {m : List ℕ} {r : Outcome} {p₁ : List ℕ} → Noted Outcome (reported b (indexed b index)) blank r p₁
+    → Did Outcome (reported b (judgedAt (theIndex index) b)) false m blank r m p₁
+walked-index b index d = record { answer = d .answer; reached = record { memory = refl; map = d .map } }
+
+module _ (b : Bases) (o : Ran (Verdict Outline)) (n : ℕ) {m : List ℕ} {r : Outcome} {m₁ p₁ : List ℕ}
+    (d : Did Outcome (reported b o) false m blank r m₁ p₁) where
   answer-is : (v : Verdict Outline) → o .answer ≡ v → r ≡ report b v (o .events)
-  answer-is v f = d .answer ∙ sym (report-same b (load form b file .answer) (o .events)) ∙ ap (λ (v : Verdict Outline). report b v (o .events)) f
+  answer-is v f = d .answer ∙ ap (λ (v : Verdict Outline). report b v (o .events)) f
 
   -- a walk that refused
   pub side-refused : {fault : Fault} {at k : ℕ} {p′ : List ℕ} → r ≡ Refused fault at k → p′ ≡ blank
@@ -94,55 +102,59 @@ module _ {b b′ : Bases} {o o′ : Ran (Verdict Outline)} {m : List ℕ} {r : O
 
 -- ---- the call
 
--- an accepted outcome is that of a move that is allowed
-pub judged-allows : (form : ℕ) (old new : Bases) (file : List ℕ) {m : List ℕ} {r : Outcome} {m₁ p₁ : List ℕ} {start : Start} {i j k l : ℕ}
-    → Judged new (judgedAt form new file) (rulingOf form old new file) m r m₁ p₁ → r ≡ Accepted start i j k l → Allows (rulingOf form old new file)
-judged-allows form old new file d e = accepted-allows new (judgedAt form new file) (rulingOf form old new file) (sym (d .outcome) ∙ e)
+module _ (h : Source) (old new : Bases) {m : List ℕ} {r : Outcome} {m₁ p₁ : List ℕ}
+    (d : Judged new (judgedAt h new) (rulingOf h old new) m r m₁ p₁) where
+  module _ {start : Start} {i j k l : ℕ} (e : r ≡ Accepted start i j k l) where
+    -- an accepted outcome is that of a move that is allowed
+    pub judged-allows : Allows (rulingOf h old new)
+    judged-allows = accepted-allows new (judgedAt h new) (rulingOf h old new) (sym (d .outcome) ∙ e)
 
-module _ (form : ℕ) (old new : Bases) (file : List ℕ) {m : List ℕ} {r : Outcome} {m₁ p₁ s′ : List ℕ}
-    (d : Judged new (judgedAt form new file) (rulingOf form old new file) m r m₁ p₁) (es : s′ ≡ blank) where
-  -- a refusal leaves memory as it was
-  pub done-refused : {fault : Fault} {at k : ℕ} → r ≡ Refused fault at k → Done form old new file m (Refused fault at k) m₁ p₁ s′
-  done-refused e =
-      record {
-        outcome = sym e ∙ d .outcome;
-        memory = d .memory
-            ∙ sym (refused-leaves (judgedAt form new file) old new m (rulingOf form old new file) allowed (ap isRefused (sym (d .outcome) ∙ e)) .0);
-        map = d .map;
-        scratch = es;
-      }
-    where
-      allowed : (ps : List Outline) → rulingOf form old new file ≡ allows ps → isRefused (reported new (judgedAt form new file) .answer) ≡ false
-      allowed ps f = reported-accepted file form ps new (both form old new file ps f .1)
+    -- and its bases are addresses
+    pub judged-ranges : ((old .main ≤ 65535) × (old .zero ≤ 65535)) × ((new .main ≤ 65535) × (new .zero ≤ 65535))
+    judged-ranges = ranges h old new judged-allows
 
-  -- where the move is allowed, memory is that of the move
-  pub done-moved : {m′ : List ℕ} → Allows (rulingOf form old new file) → m′ ≡ moved old new (piecesOf (rulingOf form old new file)) m₁
-      → Done form old new file m r m′ p₁ s′
-  done-moved h e =
-      record {
-        outcome = d .outcome;
-        memory = e ∙ ap (moved old new (piecesOf (rulingOf form old new file))) (d .memory) ∙ by (rulingOf form old new file) h;
-        map = d .map;
-        scratch = es;
-      }
-    where
-      by : (v : Ruling) → Allows v → moved old new (piecesOf v) m ≡ memoryBy old new v m
-      by (allows ps) h = refl
-      by (refuses fault at side) h = absurd h
+  module _ {s′ : List ℕ} (es : s′ ≡ blank) where
+    -- a refusal leaves memory as it was
+    pub done-refused : {fault : Fault} {at k : ℕ} → r ≡ Refused fault at k → Done h old new m (Refused fault at k) m₁ p₁ s′
+    done-refused e =
+        record {
+          outcome = sym e ∙ d .outcome;
+          memory =
+              d .memory
+              ∙ sym
+              (refused-leaves (judgedAt h new) old new m (rulingOf h old new) (λ ps f. reports-accepted h ps new (both h old new ps f .1))
+              (ap isRefused (sym (d .outcome) ∙ e))
+              .0);
+          map = d .map;
+          scratch = es;
+        }
 
--- neither count exceeds the file's length
-outcome-few : (form : ℕ) (b : Bases) (file : List ℕ) (v : Ruling) (r : Outcome) → r ≡ outcomeBy b (judgedAt form b file) v
-    → (placedOf r ≤ length file) × (adjustedOf r ≤ length file)
-outcome-few form b file (allows ps) r e =
-    let h = load-few form b file in
-    let same = e ∙ report-same b (load form b file .answer) (load form b file .events) in
-    (rw same (h .placed), rw same (h .adjusted))
-outcome-few form b file (refuses fault at side) r e = (rw e (omega arith), rw e (omega arith))
+    -- an acceptance leaves memory as the move does
+    pub done-moved : {m′ : List ℕ} {start : Start} {i j k l : ℕ} → r ≡ Accepted start i j k l
+        → m′ ≡ moved old new (piecesOf (rulingOf h old new)) m₁
+        → Done h old new m r m′ p₁ s′
+    done-moved a e =
+        record {
+          outcome = d .outcome;
+          memory = e ∙ ap (moved old new (piecesOf (rulingOf h old new))) (d .memory) ∙ by (rulingOf h old new) (judged-allows a);
+          map = d .map;
+          scratch = es;
+        }
+      where
+        by : (v : Ruling) → Allows v → moved old new (piecesOf v) m ≡ memoryBy old new v m
+        by (allows ps) h = refl
+        by (refuses fault at side) h = absurd h
+
+-- the counts are those of a handler that is accepted, or none
+outcome-counted : (h : Source) (b : Bases) (v : Ruling) {r : Outcome} → r ≡ outcomeBy b (judgedAt h b) v → Counted (h .format) (length (h .bytes)) r
+outcome-counted h b (allows ps) e = subst (Counted (h .format) (length (h .bytes))) (sym e) (counted h b)
+outcome-counted h b (refuses fault at side) e =
+    subst (Counted (h .format) (length (h .bytes))) (sym e) (counted-refused (h .format) (length (h .bytes)) fault at side)
 
 -- ---- whatever the buffers
 
-module _ {file : List ℕ} {c : Call} {m : List ℕ} where
-  other : {r : Outcome} → sized c m ≡ false → r ≡ Refused WrongBuffer 0 0 → Moved file c m r m (c .map) (c .scratch)
+module _ {c : Call} {m : List ℕ} where
+  other : {r : Outcome} → sized c m ≡ false → r ≡ Refused WrongBuffer 0 0 → Moved c m r m (c .map) (c .scratch)
   unfolding ruling need pick outcomeOf memoryAfter mapAfter scratchAfter
   other h e =
       record {
@@ -150,36 +162,33 @@ module _ {file : List ℕ} {c : Call} {m : List ℕ} where
         memory = rw h refl;
         map = rw h refl;
         scratch = rw h refl;
-        placed-fits = rw e (omega arith);
-        adjusted-fits = rw e (omega arith);
+        counts = outcome-counted (c .source) (c .new) (refuses WrongBuffer 0 0) e;
       }
 
   -- memory, map or scratch of another length: 1, and nothing is done
-  pub moved-memory : {r : Outcome} → (length m ≡ 65536 → ⊥) → r ≡ Refused WrongBuffer 0 0 → Moved file c m r m (c .map) (c .scratch)
+  pub moved-memory : {r : Outcome} → (length m ≡ 65536 → ⊥) → r ≡ Refused WrongBuffer 0 0 → Moved c m r m (c .map) (c .scratch)
   moved-memory h e = other (rw (ne-eqb _ _ h) refl) e
 
   pub moved-map : {r : Outcome} → length m ≡ 65536 → (length (c .map) ≡ 65536 → ⊥) → r ≡ Refused WrongBuffer 0 0
-      → Moved file c m r m (c .map) (c .scratch)
+      → Moved c m r m (c .map) (c .scratch)
   moved-map g h e = other (rw (eq-eqb _ _ g, ne-eqb _ _ h) refl) e
 
   pub moved-scratch : {r : Outcome} → length m ≡ 65536 → length (c .map) ≡ 65536 → (length (c .scratch) ≡ 65536 → ⊥)
-      → r ≡ Refused WrongBuffer 0 0 → Moved file c m r m (c .map) (c .scratch)
+      → r ≡ Refused WrongBuffer 0 0 → Moved c m r m (c .map) (c .scratch)
   moved-scratch g i h e = other (rw (eq-eqb _ _ g, eq-eqb _ _ i, ne-eqb _ _ h) refl) e
 
   -- with the right lengths it is the call that was done
   pub moved-sized : {r : Outcome} {m′ p′ s′ : List ℕ} → c .answerSized ≡ true → length m ≡ 65536 → length (c .map) ≡ 65536
       → length (c .scratch) ≡ 65536
-      → Done (c .form) (c .old) (c .new) file m r m′ p′ s′
-      → Moved file c m r m′ p′ s′
+      → Done (c .source) (c .old) (c .new) m r m′ p′ s′
+      → Moved c m r m′ p′ s′
   unfolding ruling need pick outcomeOf memoryAfter mapAfter scratchAfter
   moved-sized {r} {m′} {p′} {s′} a g i h d =
       let z : sized c m ≡ true = rw (eq-eqb _ _ g, eq-eqb _ _ i, eq-eqb _ _ h, a) refl in
-      let few = outcome-few (c .form) (c .new) file (rulingOf (c .form) (c .old) (c .new) file) r (d .outcome) in
       record {
         outcome = rw z (d .outcome);
         memory = rw z (d .memory);
         map = rw z (d .map);
         scratch = rw z (d .scratch);
-        placed-fits = few .0;
-        adjusted-fits = few .1;
+        counts = outcome-counted (c .source) (c .new) (rulingOf (c .source) (c .old) (c .new)) (d .outcome);
       }

@@ -36,14 +36,14 @@ use Rattle.transfers.specs.Scratch.{Movable}
 -- ---- the index
 
 -- an index that may move holds the pieces that do, and these lie in memory
-pub record Enterable (index : List ℕ) (old new : Bases) : Type 0 where
+pub record Walkable (index : List ℕ) (old new : Bases) : Type 0 where
   pub fits : length index ≤ 65536
   pub entry : Entry
   pub holds : Holds index (piecesOf (rulingOf (theIndex index) old new)) entry
   pub movable : Each (Movable old new) (piecesOf (rulingOf (theIndex index) old new))
 
-pub enterable : (index : List ℕ) (old new : Bases) → Allows (rulingOf (theIndex index) old new) → Enterable index old new
-enterable index old new a =
+pub walkable : (index : List ℕ) (old new : Bases) → Allows (rulingOf (theIndex index) old new) → Walkable index old new
+walkable index old new a =
     let v = rulingOf (theIndex index) old new in
     let ps = piecesOf v in
     let x = both (theIndex index) old new ps (allows-is v a) in
@@ -128,8 +128,8 @@ module _ (old new : Bases) (kind : Kind) (address n place begin : ℕ) (items m 
 -- ---- a turn of the loop
 
 -- the walk began with the scratch t₀, and stands at an offset with t
-pub record Entering (index : List ℕ) (old new : Bases) (m t₀ : List ℕ) (at : ℕ) (t : List ℕ) : Type 0 where
-  pub whole : Enterable index old new
+pub record Gathering (index : List ℕ) (old new : Bases) (m t₀ : List ℕ) (at : ℕ) (t : List ℕ) : Type 0 where
+  pub whole : Walkable index old new
   pub progress : Progress
   pub here : at ≡ progress .at
   pub in-index : at ≤ length index
@@ -144,10 +144,10 @@ pub record CodeThere (index : List ℕ) (old new : Bases) (at : ℕ) (kind : Kin
 
 module _ {index : List ℕ} {old new : Bases} {m t₀ : List ℕ} where
   -- before the first entry nothing is gathered
-  pub entering-first : Allows (rulingOf (theIndex index) old new) → Entering index old new m t₀ 1 t₀
+  pub gathering-first : Allows (rulingOf (theIndex index) old new) → Gathering index old new m t₀ 1 t₀
   unfolding transfer
-  entering-first a =
-      let w = enterable index old new a in
+  gathering-first a =
+      let w = walkable index old new a in
       record {
         whole = w;
         progress = begun;
@@ -157,7 +157,7 @@ module _ {index : List ℕ} {old new : Bases} {m t₀ : List ℕ} where
         gathered = refl;
       }
 
-  module _ {at : ℕ} {t : List ℕ} (x : Entering index old new m t₀ at t) {found : IndexEntry} (is : found ≡ read index at) where
+  module _ {at : ℕ} {t : List ℕ} (x : Gathering index old new m t₀ at t) {found : IndexEntry} (is : found ≡ read index at) where
     abbrev last : Progress
     last = x .whole .holds .last
 
@@ -168,23 +168,23 @@ module _ {index : List ℕ} {old new : Bases} {m t₀ : List ℕ} where
     found-there = subst (There index last (x .progress)) found-is (there index last (x .progress) (x .whole .holds .end) (x .onto))
 
     -- at the end entry all pieces are gathered
-    pub entering-end : {entry : Entry} {next : ℕ} → found ≡ End entry next → t ≡ transfer old new (piecesOf (rulingOf (theIndex index) old new)) m t₀
-    entering-end e =
+    pub gathering-end : {entry : Entry} {next : ℕ} → found ≡ End entry next → t ≡ transfer old new (piecesOf (rulingOf (theIndex index) old new)) m t₀
+    gathering-end e =
         x .gathered
         ∙ ap (λ (s : Progress). transfer old new (s .outlines) m t₀) (subst (There index last (x .progress)) e found-there)
         ∙ ap (λ (os : List Outline). transfer old new os m t₀) (sym (x .whole .holds .outlines))
 
     -- no entry is at fault
-    pub entering-fault : {fault : Fault} → found ≡ Faulty fault → t ≡ transfer old new (piecesOf (rulingOf (theIndex index) old new)) m t₀
-    entering-fault e = absurd (subst (There index last (x .progress)) e found-there)
+    pub gathering-fault : {fault : Fault} → found ≡ Faulty fault → t ≡ transfer old new (piecesOf (rulingOf (theIndex index) old new)) m t₀
+    gathering-fault e = absurd (subst (There index last (x .progress)) e found-there)
 
     module _ {kind : Kind} {address n from count : ℕ} (e : found ≡ Code kind address n from count) where
       onward : Onto index last (stepped index (x .progress) (Code kind address n from count))
       onward = subst (There index last (x .progress)) e found-there
 
       -- a code entry may be gathered
-      pub entering-code : CodeThere index old new at kind address n from count
-      entering-code =
+      pub gathering-code : CodeThere index old new at kind address n from count
+      gathering-code =
           let w = lies-as index (x .progress .at) _ (found-is ∙ e) in
           record {
             behind = omega (arith, w .0, x .here);
@@ -196,15 +196,15 @@ module _ {index : List ℕ} {old new : Bases} {m t₀ : List ℕ} where
           }
 
       -- and leads on with the scratch that holds it
-      pub entering-on : {t′ : List ℕ} → t′ ≡ transfer old new (outlineOf kind address n (midOf from (from + count - from) index) ∷ []) m t
-          → Entering index old new m t₀ (from + count) t′
+      pub gathering-on : {t′ : List ℕ} → t′ ≡ transfer old new (outlineOf kind address n (midOf from (from + count - from) index) ∷ []) m t
+          → Gathering index old new m t₀ (from + count) t′
       unfolding transfer
-      entering-on {t′} d =
+      gathering-on {t′} d =
           record {
             whole = x .whole;
             progress = stepped index (x .progress) (Code kind address n from count);
             here = refl;
-            in-index = entering-code .within;
+            in-index = gathering-code .within;
             onto = onward;
             gathered =
                 d
@@ -213,9 +213,9 @@ module _ {index : List ℕ} {old new : Bases} {m t₀ : List ℕ} where
           }
 
       -- what is lent of the index
-      pub entering-lent : Movable old new (outlineOf kind address n (midOf from (from + count - from) index))
+      pub gathering-lent : Movable old new (outlineOf kind address n (midOf from (from + count - from) index))
           × (length (midOf from (from + count - from) index) ≤ 65536)
-      entering-lent =
-          let c = entering-code in
+      gathering-lent =
+          let c = gathering-code in
           let l = ap length (lent-is from count index) ∙ length-part index from count (c .within) in
           (rw (lent-is from count index) (c .movable), omega (arith, l, c .within, x .whole .fits))

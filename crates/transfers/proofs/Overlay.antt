@@ -15,7 +15,7 @@ use Rattle.pieces.specs.Pieces.{Outline, outline, placeOf, events}
 use Rattle.pieces.specs.declared.Bases.{Bases}
 use Rattle.events.proofs.Events.{length-marks, length-blank, blank-at}
 use Rattle.events.proofs.Lists.{each-zip3}
-use Rattle.events.specs.Events.{marks, blank}
+use Rattle.events.specs.Events.{blank}
 use Rattle.events.specs.Lists.{Each}
 use Rattle.words.proofs.Runs.{within?, part-agree-at}
 use Rattle.index.proofs.Hollow.{hollow, hollow-outlines}

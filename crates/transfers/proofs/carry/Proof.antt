@@ -16,7 +16,8 @@ commit-requires : tie.Need-commit-requires
 commit-requires c κs =
     let s = c .before .before .before .before .before .before .before .before .before .before .before in
     let h = sourceOf (s .args .format) (now (s .args .bytes)) in
-    (s .pre .2, length-map h (s .args .old) (s .args .new) (s .pre .0) _ (s .pre .1), c .before .before .before .before .gather .kept .1 .1 .1 .1 .1 .0 ∙ s .pre .3)
+    let l = length-map h (s .args .old) (s .args .new) (s .pre .0) _ (s .pre .1) in
+    (s .pre .2, l, c .before .before .before .before .gather .kept .1 .1 .1 .1 .1 .0 ∙ s .pre .3)
 
 fill-requires : tie.Need-fill-requires
 fill-requires c κs = search needs

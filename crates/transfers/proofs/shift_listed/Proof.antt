@@ -1,6 +1,5 @@
 -- `transfers::shift_listed` meets its contract: the definition's list of fields has come to the fixup at hand (`Shifting`), or ends at a bad kind.
 -- Assumes nothing.
-use mathlib.Core.Path.{_≡_}
 use Prim.Native.Nat.{_≤_, _-_}
 use native.Mathlib.Omega.{arith}
 use borrow.Author.Needs.{needs}
