@@ -27,15 +27,15 @@ use Rattle.words.specs.Runs.{put}
 use Rattle.builder.specs.Build.{indexOf, fitted, sized, build, report, roomAfter, Built}
 use Rattle.builder.specs.Parts.{bytesOf, withLow}
 
--- ---- an index fits, or does not
-
-pub fitted-short : (ps : List Piece) (entry : Entry) → length (indexOf ps entry) ≤ 65536 → fitted (accepted ps entry) ≡ accepted ps entry
-unfolding need
-fitted-short ps entry h = rw (le-leb _ _ h) refl
+-- ---- an index does not fit, or does
 
 pub fitted-long : (ps : List Piece) (entry : Entry) → 65536 < length (indexOf ps entry) → fitted (accepted ps entry) ≡ refused IndexTooLong 0
 unfolding need
 fitted-long ps entry h = rw (lt-leb _ _ h) refl
+
+pub fitted-short : (ps : List Piece) (entry : Entry) → length (indexOf ps entry) ≤ 65536 → fitted (accepted ps entry) ≡ accepted ps entry
+unfolding need
+fitted-short ps entry h = rw (le-leb _ _ h) refl
 
 -- ---- the counts
 

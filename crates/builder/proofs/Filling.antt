@@ -39,6 +39,7 @@ abbrev pub frontOf : List Outline → Front
 frontOf [] = record { entry = 1; used = length (held []) }
 frontOf (o ∷ os) = record { entry = length (held os); used = length (held (o ∷ os)) }
 
+-- up to there the room is used
 used-is : (os : List Outline) → frontOf os .used ≡ length (held os)
 used-is [] = refl
 used-is (o ∷ os) = refl
@@ -48,9 +49,11 @@ entry-has : (ps : List Piece) → AfterCode (lastOf ps) → frontOf (map outline
 entry-has [] h = absurd h
 entry-has (p ∷ ps) h = omega (arith, length-held (outline p) (map outline ps))
 
+-- two fronts with the same numbers are one
 front-same : {i j m n : ℕ} → i ≡ j → m ≡ n → _≡_ {A = Front} (record { entry = i; used = m }) (record { entry = j; used = n })
 front-same e f = rw (e, f) refl
 
+-- fields more leave the last entry where it is
 fields-front : (fs : List Field) (n : ℕ) (ps : List Piece) → AfterCode (lastOf ps) → length fs ≡ n
     → record { entry = frontOf (map outline ps) .entry; used = frontOf (map outline ps) .used + 3 * n } ≡ frontOf (map outline (withFields fs ps))
 fields-front fs n [] h e = absurd h
@@ -67,6 +70,7 @@ front-on file s (Fixups fixup from n) e o =
 front-on file s (End entry next) e o = absurd o
 front-on file s (Faulty fault offset) e o = absurd o
 
+-- fields more are written to the last entry
 fields-filled : (l : List ℕ) (fixup : Fixup) (items : List ℕ) (ps : List Piece) → AfterCode (lastOf ps)
     → closed (kindOf (lastOf ps)) fixup items (frontOf (map outline ps)) (put l 0 (held (map outline ps)))
     ≡ put l 0 (held (map outline (withFields (fieldsOf fixup items) ps)))
@@ -116,10 +120,12 @@ module _ {file : List ℕ} {b : Bases} {first : ℕ} where
     pub filling-long : length room ≡ 65536
     filling-long = ap length (x .filled) ∙ length-put blank 0 _ ∙ length-blank
 
+    -- so much of it is used
     used-so-far : f .used ≡ length (held (outlines (x .progress)))
     used-so-far = ap (λ (g : Front). g .used) (x .front) ∙ used-is (outlines (x .progress))
 
     module _ {found : Record} (is : found ≡ read file (c .at) (c .last)) where
+      -- the record that is read is the definition's
       here : recordAt file (x .progress) ≡ found
       here = tracks-found (x .tracks) is
 
@@ -129,6 +135,7 @@ module _ {file : List ℕ} {b : Bases} {first : ℕ} where
 
       module _ {qs : List Piece} {entry : Entry} (yes : recordsOf file b first .answer ≡ accepted qs entry) where
         module _ {other : Entry} {next : ℕ} (e : found ≡ End other next) where
+          -- the pieces are all there
           all-there : x .progress .pieces ≡ qs
           all-there = tracks-to-end (x .tracks) yes here e
 

@@ -88,6 +88,7 @@ reports-refused b (refused f a) es fault at side e =
 -- ---- a call with the right buffers, and one without
 
 module _ {form : ℕ} {b : Bases} {file p q : List ℕ} {right : Bool} {r : Outcome} {p′ q′ : List ℕ} (d : Built form b file right p q r p′ q′) where
+  -- what it did where the lengths are right
   built-right : right ≡ true → (r ≡ report b (fitted (load form b file .answer)) (load form b file .events))
       × (p′ ≡ mapAfter (fitted (load form b file .answer)) (load form b file .events))
       × (q′ ≡ roomAfter (fitted (load form b file .answer)) q)
@@ -96,6 +97,7 @@ module _ {form : ℕ} {b : Bases} {file p q : List ℕ} {right : Bool} {r : Outc
       let c : Built form b file true p q r p′ q′ = subst (λ (t : Bool). Built form b file t p q r p′ q′) e d in
       (c .outcome, c .map, c .room)
 
+  -- and where one is wrong
   built-wrong : right ≡ false → (r ≡ Refused WrongBuffer 0 0) × (p′ ≡ p) × (q′ ≡ q)
   unfolding build need pick
   built-wrong e =
@@ -244,11 +246,13 @@ module _ {form : ℕ} {b : Bases} {file p q : List ℕ} {right : Bool} {r : Outc
   refused-verdict t fault at side e =
       reports-refused b (fitted (load form b file .answer)) (load form b file .events) fault at side (sym (built-right d t .0) ∙ e)
 
+  -- so it is refused only so
   refused-only : right ≡ true → (fault : Fault) (at side : ℕ) → r ≡ Refused fault at side → RefusesBuild form b file fault at × (side ≡ 0)
   refused-only t fault at side e =
       let v = refused-verdict t fault at side e in
       (fitted-refuses form b file (load form b file .answer) refl fault at (v .0), v .1)
 
+  -- every call, where the lengths are right or not
   build-refusals-of : Refusals form b file right p q r p′ q′
   build-refusals-of =
       record {

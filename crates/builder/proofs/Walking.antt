@@ -43,9 +43,9 @@ use Rattle.builder.proofs.Writing.{held, length-index, length-held, mor
 use Rattle.builder.specs.Build.{indexOf}
 use Rattle.builder.specs.Parts.{bytesOf, bare, brings}
 
--- ---- an accepted file walked through again
+-- ---- the file
 
--- it can be, from the offset `first` on
+-- an accepted file can be walked through again, from the offset `first` on
 pub record Walkable (form : ℕ) (b : Bases) (file : List ℕ) (first : ℕ) : Type 0 where
   pub fits : length file ≤ 65536
   pub opens : first ≤ length file
@@ -54,6 +54,7 @@ pub record Walkable (form : ℕ) (b : Bases) (file : List ℕ) (first : ℕ) : T
   pub bytes : bytesOf (load form b file .answer) ≡ indexOf pieces entry
   pub yes : recordsOf file b first .answer ≡ accepted pieces entry
 
+-- it can, from the offset behind the opening on
 pub walkable : (form : ℕ) (b : Bases) (file : List ℕ) (first : ℕ) → first ≡ openingSize (formOf form) → IsAccepted (reported b (load form b file) .answer)
     → Walkable form b file first
 walkable form b file first e h = by (load form b file .answer) refl h
@@ -98,10 +99,11 @@ module _ {file : List ℕ} {b : Bases} {first : ℕ} {c : Cursor} {s : Progress}
     read-onward h = tracks-onward x yes (tracks-found x is) h
 
     module _ (o : Onward found) where
+      -- the walk comes to the cursor behind it
       pub read-next : Tracks file b first (advanced b c found) (stepped file s found)
       read-next = tracks-on x (tracks-found x is) o (tracks-passes x yes)
 
-      -- and the cursor moves on, in the file
+      -- which moved on, in the file
       pub read-further : (c .at + 2 ≤ advanced b c found .at) × (advanced b c found .at ≤ length file)
       read-further = (tracks-further x (tracks-found x is) o, tracks-counts read-next .0)
 
@@ -139,15 +141,18 @@ brings-few file s (Faulty fault offset) e o = absurd o
 
 -- the index of the pieces so far is no longer than that of all pieces
 module _ (file : List ℕ) (b : Bases) (s : Progress) (es : List Event) where
+  -- (of where the walk from s has come to)
   record Grown (z : Progress) (fs : List Event) : Type 0 where
     grown : length (held (outlines s)) ≤ length (held (outlines z))
 
+  -- every record keeps that
   grown-on : (y z : Progress) (fs : List Event) → Grown y fs → turn file b y (marks fs (marks es blank)) .answer ≡ leads z
       → Grown z (fs ++ turn file b y (marks fs (marks es blank)) .events)
   grown-on y z fs h e =
       let l = turn-led file b y (marks fs (marks es blank)) z e in
       record { grown = rw (← l .to) (omega (arith, h .grown, longer file y (l .found) (l .is) (l .on))) }
 
+  -- so it holds at the end
   pub grows : (qs : List Piece) (entry : Entry) → recordsFrom file b s (marks es blank) .answer ≡ accepted qs entry
       → length (held (outlines s)) ≤ length (held (map outline qs))
   unfolding recordsFrom

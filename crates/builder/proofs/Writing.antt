@@ -8,6 +8,7 @@ use native.Mathlib.Omega.{arith}
 use borrow.Rule.Slice.PartMut.{midOf}
 use lib.ListN.{length, getD, length-append, set, replicate}
 use Rattle.answer.specs.declared.Fault.{Fault}
+use Rattle.entries.proofs.ReadBack.{length-fixup-bytes, length-code-bytes, length-entry}
 use Rattle.entries.specs.Bytes.{version, fixupBytes, codeBytes, endBytes, entryOf, codeEntries, indexBytes, flagOf, addressIn, endType}
 use Rattle.events.proofs.Events.{cleared}
 use Rattle.events.specs.Events.{blank}
@@ -35,21 +36,6 @@ held os = version ∷ codeEntries os
 
 -- ---- lengths
 
--- a fixup has three bytes
-length-fixups : (kind : Kind) (fs : List Field) → length (fixupBytes kind fs) ≡ 3 * length fs
-unfolding fixupBytes
-length-fixups kind [] = refl
-length-fixups kind (f ∷ fs) = omega (arith, length-fixups kind fs)
-
--- a code record's entry has four bytes before them, behind two for its length
-length-code : (o : Outline) → length (codeBytes o) ≡ 4 + 3 * length (o .fields)
-unfolding codeBytes bigDigits digits
-length-code o = omega (arith, length-fixups (o .kind) (o .fields))
-
-length-entry : (o : Outline) → length (entryOf (codeBytes o)) ≡ 6 + 3 * length (o .fields)
-unfolding entryOf bigDigits digits
-length-entry o = omega (arith, length-code o)
-
 -- with the end record there are six bytes more
 pub length-index : (os : List Outline) (entry : Entry) → length (indexBytes os entry) ≡ length (held os) + 6
 unfolding indexBytes entryOf endBytes bigDigits digits
@@ -58,7 +44,7 @@ length-index os entry = length-append (held os) (entryOf (endBytes entry))
 -- an outline brings its entry
 pub length-held : (o : Outline) (os : List Outline) → length (held (o ∷ os)) ≡ length (held os) + 6 + 3 * length (o .fields)
 unfolding codeEntries
-length-held o os = omega (arith, length-append (codeEntries os) (entryOf (codeBytes o)), length-entry o)
+length-held o os = omega (arith, length-append (codeEntries os) (entryOf (codeBytes o)), length-entry (codeBytes o), length-code-bytes o)
 
 -- the fixups of some fields after those of others
 fixups-append : (kind : Kind) (fs gs : List Field) → fixupBytes kind (fs ++ gs) ≡ fixupBytes kind fs ++ fixupBytes kind gs
@@ -156,7 +142,7 @@ fields-closed l o os fixup items =
     let line : held (o ∷ os) ++ ts ≡ held os ++ (bigDigits 2 n ++ (cs ++ ts)) =
     append-assoc (held os) (bigDigits 2 n ++ cs) ts ∙ ap (λ (r : List ℕ). held os ++ r) (append-assoc (bigDigits 2 n) cs ts) in
     let long : k ≡ length (codeBytes (more fs o)) =
-    omega (arith, length-held o os, length-fields fixup items, length-code (more fs o), length-append (o .fields) fs) in
+    omega (arith, length-held o os, length-fields fixup items, length-code-bytes (more fs o), length-append (o .fields) fs) in
     ap (λ (r : List ℕ). bigStore 2 r (length (held os)) k) (appended l (held (o ∷ os)) ts ∙ ap (put l 0) line)
     ∙ relength l (held os) n k (cs ++ ts)
     ∙ ap (λ (r : List ℕ). put l 0 (held os ++ (bigDigits 2 k ++ r))) (code-more fs o)
@@ -199,7 +185,7 @@ module _ {kind : Kind} {all : List Field} {at : ℕ} {l : List ℕ} where
           written =
               w
               ∙ ap (λ (s : List ℕ). put s used (fixupBytes kind (f ∷ []))) (x .written)
-              ∙ behind l at (fixupBytes kind (x .done)) used (fixupBytes kind (f ∷ [])) (omega (arith, x .used-is, length-fixups kind (x .done)))
+              ∙ behind l at (fixupBytes kind (x .done)) used (fixupBytes kind (f ∷ [])) (omega (arith, x .used-is, length-fixup-bytes kind (x .done)))
               ∙ ap (put l at) (sym (fixups-append kind (x .done) (f ∷ [])));
           used-is = omega (arith, x .used-is, n);
         }

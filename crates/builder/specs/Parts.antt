@@ -36,7 +36,7 @@ withLow low (Refused fault offset side) = Refused fault offset side
 abbrev pub bare : Kind → ℕ → ℕ → Outline
 bare kind address n = record { kind = kind; address = address; size = n; fields = [] }
 
--- the kind of the last code record
+-- the kind of the last code record (where there is none, no fixups stand)
 abbrev pub kindOf : Last → Kind
 kindOf Nothing = Main
 kindOf (Of kind) = kind

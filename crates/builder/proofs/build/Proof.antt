@@ -1,5 +1,6 @@
 -- `builder::build` meets its contract: the lengths decide, then the rest.
 -- Assumes nothing.
+use native.Mathlib.Omega.{arith}
 use borrow.Author.Needs.{needs}
 use Rattle.builder.proofs.Building.{wrong-map, wrong-room, right-sizes}
 use Rattle.builder.proofs.build.Statement.{statement}
@@ -15,7 +16,9 @@ refused-requires-2 : tie.Need-refused-requires-2
 refused-requires-2 c κs = search needs
 
 returns-2 : tie.Need-returns-2
-returns-2 c = wrong-room (c .before .before .if1 .left) (c .before .if2 .taken) (c .refused2 .ensures)
+returns-2 c =
+    let l = c .before .before .if1 .left in
+    wrong-room l (λ e. omega (arith, e, l, c .before .if2 .taken)) (c .refused2 .ensures)
 
 build-sized-requires : tie.Need-build-sized-requires
 build-sized-requires c κs = search needs

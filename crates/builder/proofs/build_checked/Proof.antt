@@ -1,5 +1,6 @@
 -- `builder::build_checked` meets its contract: an index that does not fit is refused before the room is touched, and one that fits is written.
 -- Assumes nothing.
+use native.Mathlib.Omega.{arith}
 use borrow.Author.Needs.{needs}
 use Rattle.events.proofs.Events.{cleared}
 use Rattle.builder.proofs.Building.{built-long, built-short}
@@ -24,7 +25,8 @@ returns c =
     let i = f .before .before in
     let d = i .before in
     let s = d .before .before .before .before in
-    built-long (s .pre .0) (d .index-length .ensures .0) (i .if1 .taken) (c .refused .ensures) (cleared _ _ (s .pre .3) (f .fill .ensures))
+    built-long (s .pre .0) (d .index-length .ensures .0) (omega (arith, i .if1 .taken)) (c .refused .ensures)
+    (cleared _ _ (s .pre .3) (f .fill .ensures))
 
 write-index-requires : tie.Need-write-index-requires
 write-index-requires c κs = search needs
