@@ -12,8 +12,7 @@ use Rattle.answer.specs.declared.Fault.the-variants.{CutShort, NotKnown, Length
 use Rattle.fields.specs.declared.Field.{Field}
 use Rattle.fields.specs.declared.Fixup.{Fixup}
 use Rattle.fields.specs.declared.Fixup.the-variants.{LowByte, ZeroPageByte, Word, HighByte}
-use Rattle.records.specs.Records.{typeOf, suits, entries}
-use Rattle.records.specs.declared.Entry.the-variants.{Nowhere}
+use Rattle.records.specs.Records.{typeOf, suits, entryOf}
 use Rattle.records.specs.declared.Kind.{Kind}
 use Rattle.records.specs.declared.Last.the-variants.{Of}
 use Rattle.records.specs.declared.RecordType.{RecordType}
@@ -43,7 +42,7 @@ readEnd index at n =
     let flag = getD index (at + 3) 0 in
     need faulty (eqb n 4) LengthNotAllowed at
     (need faulty (leb flag 2) NotKnown at
-    (End (getD (entries (bigValue 2 index (at + 4))) flag Nowhere) (at + 6)))
+    (End (entryOf flag (bigValue 2 index (at + 4))) (at + 6)))
 
 -- an entry as its type says: code records and the end record have entries, nothing else (6)
 abbrev pub readAs : List ℕ → ℕ → ℕ → RecordType → IndexEntry

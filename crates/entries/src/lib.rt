@@ -92,22 +92,13 @@ fn read_end(index: &[u8], at: usize, count: usize) -> IndexEntry
         return IndexEntry::Faulty(Fault::LengthNotAllowed);
     }
     let flag = index[at + 3];
+    if 2 < flag {
+        return IndexEntry::Faulty(Fault::NotKnown);
+    }
     let address = words::big_word_at(index, at + 4);
-    let next = at + 6;
-    match flag {
-        0 => IndexEntry::End {
-            entry: Entry::Nowhere,
-            next,
-        },
-        1 => IndexEntry::End {
-            entry: Entry::Fixed(address),
-            next,
-        },
-        2 => IndexEntry::End {
-            entry: Entry::Relative(address),
-            next,
-        },
-        _ => IndexEntry::Faulty(Fault::NotKnown),
+    IndexEntry::End {
+        entry: records::entry_of(flag, address),
+        next: at + 6,
     }
 }
 

@@ -94,13 +94,16 @@ readFixups file at last kind fixup =
 abbrev pub entries : ℕ → List Entry
 entries address = Nowhere ∷ Fixed address ∷ Relative address ∷ []
 
+abbrev pub entryOf : ℕ → ℕ → Entry
+entryOf flag address = getD (entries address) flag Nowhere
+
 -- "0B: flag and address present (5); flag .. (6)"
 unfoldable pub readEnd : List ℕ → ℕ → Record
 readEnd file at =
     let flag = getD file (at + 1) 0 in
     need Faulty (leb (at + 4) (length file)) CutShort (length file)
     (need Faulty (leb flag 2) NotKnown (at + 1)
-    (End (getD (entries (value 2 file (at + 2))) flag Nowhere) (at + 4)))
+    (End (entryOf flag (value 2 file (at + 2))) (at + 4)))
 
 -- a record as its type says
 abbrev pub readAs : List ℕ → ℕ → Last → RecordType → Record

@@ -6,7 +6,7 @@ ghost use mathlib.Core.Path.{_≡_};
 ghost use Prim.Native.Nat.{_+_, _<_, _≤_};
 ghost use lib.ListN.{length};
 ghost use Rattle.records.specs.Types.{codeType, mainFixupType, fixupType};
-ghost use Rattle.records.specs.Records.{typeOf, suits as suitsOf, lengthAllowed, readCode, readItems, readFixups, readEnd, read as readOf};
+ghost use Rattle.records.specs.Records.{typeOf, entryOf, suits as suitsOf, lengthAllowed, readCode, readItems, readFixups, readEnd, read as readOf};
 
 // What a code record's address counts from: the main base, the zero-page base, or nothing.
 pub enum Kind {
@@ -231,21 +231,23 @@ fn read_end(file: &[u8], at: usize) -> Record
         return Record::Faulty(Fault::CutShort, file.len());
     }
     let flag = file[at + 1];
+    if 2 < flag {
+        return Record::Faulty(Fault::NotKnown, at + 1);
+    }
     let address = words::word_at(file, at + 2);
-    let next = at + 4;
+    Record::End {
+        entry: entry_of(flag, address),
+        next: at + 4,
+    }
+}
+
+// The entry that a flag says, of an address.
+pub fn entry_of(flag: u8, address: u16) -> Entry
+    ensures { λ r. ⌜ r ≡ entryOf flag address ⌝ }
+{
     match flag {
-        0 => Record::End {
-            entry: Entry::Nowhere,
-            next,
-        },
-        1 => Record::End {
-            entry: Entry::Fixed(address),
-            next,
-        },
-        2 => Record::End {
-            entry: Entry::Relative(address),
-            next,
-        },
-        _ => Record::Faulty(Fault::NotKnown, at + 1),
+        1 => Entry::Fixed(address),
+        2 => Entry::Relative(address),
+        _ => Entry::Nowhere,
     }
 }

@@ -1,14 +1,27 @@
--- `entries::read_end` meets its contract: each arm is the entry of its flag, and a flag past 2 is none.
+-- `entries::read_end` meets its contract: a flag past 2 is not known, and any other says what the entry is.
 -- Assumes nothing.
-use Prim.Native.Nat.{_+_, _<_}
-use native.Mathlib.Omega.{arith}
-use borrow.Author.Needs.{needs}
-use borrow.Author.Tests.{lt-leb, eq-eqb, ne-eqb}
+use mathlib.Core.List.{List}
+use mathlib.Core.Path.{_≡_, ap, _∙_}
+use Prim.Native.Nat.{ℕ, _+_, _≤_}
+use borrow.Author.Tests.{le-leb, lt-leb, eq-eqb, ne-eqb}
 use lib.ListN.{getD}
 use Rattle.answer.specs.Checks.{need}
+use Rattle.records.specs.Records.{entryOf}
+use Rattle.records.specs.declared.Entry.{Entry}
+use Rattle.words.specs.Numbers.{bigValue}
+use Rattle.entries.specs.Entries.{readEnd}
+use Rattle.entries.specs.declared.IndexEntry.the-variants.{End}
+use borrow.Author.Needs.{needs}
 use Rattle.entries.proofs.read_end.Statement.{statement}
 use Rattle.entries.proofs.read_end.Tie as tie
-use Rattle.entries.specs.Entries.{readEnd}
+
+-- an end entry of four bytes whose flag is known
+end-read : (index : List ℕ) (at n address : ℕ) (entry : Entry) → n ≡ 4 → getD index (at + 3) 0 ≤ 2 → address ≡ bigValue 2 index (at + 4)
+    → entry ≡ entryOf (getD index (at + 3) 0) address
+    → End entry (at + 6) ≡ readEnd index at n
+unfolding readEnd need
+end-read index at n address entry h k ea ee =
+    simp (eq-eqb _ _ h, le-leb _ _ k) (ap (λ (e : Entry). End e (at + 6)) (ee ∙ ap (entryOf (getD index (at + 3) 0)) ea))
 
 returns : tie.Need-returns
 unfolding readEnd need
@@ -20,40 +33,26 @@ add-flag c = search needs
 shared-slice-read-flag : tie.Need-shared-slice-read-flag
 shared-slice-read-flag c = search needs
 
+returns-2 : tie.Need-returns-2
+unfolding readEnd need
+returns-2 c = simp (eq-eqb _ _ (c .before .before .if1 .left), lt-leb _ _ (c .if2 .taken))
+
 add-big-word-at : tie.Need-add-big-word-at
 add-big-word-at c = search needs
 
 big-word-at-requires : tie.Need-big-word-at-requires
 big-word-at-requires c κs = search needs
 
-add-next : tie.Need-add-next
-add-next c = search needs
+entry-of-requires : tie.Need-entry-of-requires
+entry-of-requires c κs = search needs
 
-returns-2 : tie.Need-returns-2
-unfolding readEnd need
-returns-2 c =
-    let w = c .before in
-    simp (eq-eqb _ _ (w .before .before .if1 .left), c .match .keys1)
+add-t8 : tie.Need-add-t8
+add-t8 c = search needs
 
 returns-3 : tie.Need-returns-3
-unfolding readEnd need
 returns-3 c =
     let w = c .before in
-    simp (eq-eqb _ _ (w .before .before .if1 .left), c .match .keys2, ← w .big-word-at .ensures)
-
-returns-4 : tie.Need-returns-4
-unfolding readEnd need
-returns-4 c =
-    let w = c .before in
-    simp (eq-eqb _ _ (w .before .before .if1 .left), c .match .keys3, ← w .big-word-at .ensures)
-
-returns-5 : tie.Need-returns-5
-unfolding readEnd need
-returns-5 c =
-    let w = c .before in
-    let s = w .before .before .before .before in
-    let high : 2 < getD (s .args .index .now) (s .args .at + 3) 0 = omega (arith, c .match .rest) in
-    simp (eq-eqb _ _ (w .before .before .if1 .left), lt-leb _ _ high)
+    end-read _ _ _ _ _ (w .before .before .before .if1 .left) (w .before .if2 .left) (w .big-word-at .ensures) (c .entry-of .ensures)
 
 pub read-end-spec : {M : Type 1} → statement M
 read-end-spec =
@@ -62,10 +61,9 @@ read-end-spec =
     returns
     add-flag
     shared-slice-read-flag
+    returns-2
     add-big-word-at
     big-word-at-requires
-    add-next
-    returns-2
-    returns-3
-    returns-4
-    returns-5)
+    entry-of-requires
+    add-t8
+    returns-3)
