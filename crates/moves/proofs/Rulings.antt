@@ -21,7 +21,7 @@ use Rattle.words.specs.Runs.{Bytes}
 use Rattle.moves.proofs.Sources.{found, accepted-as, same-at, report-at, reportFor, reports-accepted, range-at}
 use Rattle.moves.proofs.Standing.{stands-back}
 use Rattle.moves.specs.Call.{Call, Ruling, allows, refuses, sides, rulingOf, sized, beforehand, ruling, Allows, piecesOf, outcomeBy, mapBy, memoryBy, outcomeOf, memoryAfter, mapAfter}
-use Rattle.moves.specs.Demand3.{Report, reportOf, OneMove}
+use Rattle.moves.specs.Demand3.{reportOf, OneMove}
 use Rattle.moves.specs.Move.{moved}
 use Rattle.moves.specs.Sources.{Source, judgedAt, AcceptedAt}
 

@@ -19,7 +19,7 @@ use Rattle.moves.proofs.Refusals.{outcome-refused}
 use Rattle.moves.proofs.Rulings.{Allowed, refused-call, memory-moved, report-is}
 use Rattle.moves.proofs.Sources.{accepted-as, same-at, refused-as, reportFor}
 use Rattle.moves.proofs.Standing.{stands-back}
-use Rattle.moves.specs.Call.{Call, sized, mapBy, ruling, outcomeOf, memoryAfter, mapAfter, scratchAfter, Moved}
+use Rattle.moves.specs.Call.{Call, sized, mapBy, ruling, outcomeOf, mapAfter, scratchAfter, Moved}
 use Rattle.moves.specs.Demand3.{Report}
 use Rattle.moves.specs.Move.{moved}
 use Rattle.moves.specs.Outcomes.{RefusesMove, at-old, at-new}

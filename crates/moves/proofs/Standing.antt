@@ -2,7 +2,6 @@
 -- Assumes nothing.
 use mathlib.Core.List.{List}
 use mathlib.Core.Path.{_≡_, refl, sym, subst}
-use Prim.Native.Nat.{ℕ}
 use Rattle.index.proofs.Built.{agrees}
 use Rattle.index.specs.Rules.{Accepts}
 use Rattle.pieces.specs.Pieces.{Outline}

@@ -4,7 +4,6 @@ use mathlib.Core.Bool.{Bool}
 use mathlib.Core.List.{List, map}
 use mathlib.Core.Path.{_≡_}
 use Prim.Native.Nat.{ℕ, _≤_}
-use lib.ListN.{length}
 use Rattle.acx.specs.Call.{load, inRange}
 use Rattle.acx.specs.Rules.{Accepts, Refuses}
 use Rattle.acx.specs.Walk.{Verdict, accepted, refused}

@@ -1,6 +1,6 @@
 -- `records::fixup_type` meets its contract: after zero-page code the type is the next one.
 -- Assumes nothing.
-use mathlib.Core.Path.{_≡_, sym, ap, _∙_}
+use mathlib.Core.Path.{sym, ap, _∙_}
 use Prim.Native.Nat.{ℕ, _+_}
 use borrow.Author.Needs.{needs}
 use Rattle.records.proofs.fixup_type.Statement.{statement}
