@@ -4,12 +4,14 @@
  * Every function takes whatever comes and ends with a number: 0 for an acceptance, else the first fault (enum tkw_number). A buffer is a
  * pointer and its length in bytes. A length may be wrong, and the call is then refused with 1, but the pointer must be good for that many
  * bytes; an empty buffer may be NULL. No alignment is asked for. No two buffers of one call may overlap: nothing checks that, and every
- * promise rests on it. Nothing is kept between calls, and what map, scratch, index and the new-name buffers held before decides nothing.
+ * promise rests on it. Nothing is kept between calls, and what map, scratch, the room for an index and the new-name
+ * buffers held before decides nothing.
  *
  * What a call leaves:
- *   accepted     memory, map, the index and the new-name buffers as the file says, every other byte of memory as before; the scratch all zero
+ *   accepted     memory, map, the room for an index and the new-name buffers as the file or the index says, every other byte of memory as
+ *                before; the scratch all zero
  *   refused, 1   every buffer but the answer as before
- *   refused, 2+  memory, the index and the new-name buffers as before; map and scratch all zero
+ *   refused, 2+  memory, the room for an index and the new-name buffers as before; map and scratch all zero
  * The answer is written each time, unless its own length is wrong: then it too is as before.
  *
  * The code behind these functions is proved to keep these promises, and says them in full: crates/calls.
@@ -46,8 +48,9 @@ enum { TKW_UNTOUCHED = 0, TKW_PLACED = 1, TKW_RESERVED = 2, TKW_ADJUSTED = 3 };
  * only number, offset and side. */
 enum tkw_answer {
     TKW_AT_NUMBER = 0,        /* 0, or the fault: what the call returns */
-    TKW_AT_OFFSET = 1,        /* of a refusal: the offset of the first byte at fault; the file's length for 5, 0 for 1 to 4, 24 and 25; by an
-                               * index the offset of the entry at fault, which begins with its length */
+    TKW_AT_OFFSET = 1,        /* of a refusal: the offset of the first byte at fault; 0 for 1 to 4, 24 and 25; of a file its length for 5. By an
+                               * index that of the entry at fault, which begins with its length, for 5 too; the index's length where an entry
+                               * is missing, 0 where it is empty */
     TKW_AT_SIDE = 2,          /* of a refused move: 0 for the old bases, 1 for the new */
     TKW_AT_START_PRESENT = 3, /* 1 if the file names a start, else 0 */
     TKW_AT_START = 4,         /* the start address */
@@ -98,7 +101,7 @@ static inline const char *tkw_number_text(uint32_t number)
     case TKW_ACCEPTED:
         return "accepted";
     case TKW_WRONG_BUFFER:
-        return "memory, map, scratch, index, new-name buffers or C answer of another length; "
+        return "memory, map, scratch, room for an index, new-name buffers or C answer of another length; "
                "known names not eight bytes per address, or over 256";
     case TKW_SETTING_OUT_OF_RANGE:
         return "a setting outside its range";
@@ -196,8 +199,10 @@ uint32_t tkw_acx_move(uint32_t form, const uint8_t *file, size_t file_length, ui
 uint32_t tkw_index_build(uint32_t form, const uint8_t *file, size_t file_length, uint32_t main_base, uint32_t zero_base,
                          uint8_t *map, size_t map_length, uint8_t *index, size_t index_length, uint8_t *answer, size_t answer_length);
 
-/* Moves a handler by an index, of just the bytes that were used: it leaves what tkw_acx_move leaves by the file that the index was built from,
- * and gives the same answer but for the offset of a refusal, which is that of an entry of the index. */
+/* Moves a handler by its index in place of its file. Give just the bytes that were used (TKW_AT_LOW of the builder's answer); bytes after the
+ * end entry are refused with 19. By an index that tkw_index_build built it leaves what tkw_acx_move leaves by that file, and gives the same answer
+ * (low is 0) but for the offset of a refusal. Any other index is itself the handler: places, fields and amounts are those of its entries. Refused
+ * at the old bases (side 0), then at the new (side 1): 5 for an empty index, 24 for a first byte other than 1, then entry after entry. */
 uint32_t tkw_index_move(const uint8_t *index, size_t index_length, uint32_t old_main, uint32_t old_zero,
                         uint32_t new_main, uint32_t new_zero,
                         uint8_t *memory, size_t memory_length, uint8_t *map, size_t map_length,

@@ -22,7 +22,7 @@ COMMANDS = ("sdx", "acx", "index", "move")
 
 # Document 01, "Numbers a bench can show"; document 02, wish 5.
 MEANINGS = {
-    1: "memory, map, scratch, index, new-name buffers or C answer of another length; known names not eight bytes per address, or over 256",
+    1: "memory, map, scratch, room for an index, new-name buffers or C answer of another length; known names not eight bytes per address, or over 256",
     2: "a setting outside its range",
     3: "file longer than 65,536",
     4: "wrong opening",

@@ -23,7 +23,7 @@ use Rattle.index.proofs.Encoding.{accepted-encodable}
 use Rattle.index.proofs.Holding.{Holds}
 use Rattle.index.proofs.Where.{holds-where}
 use Rattle.index.proofs.Written.{written-holds}
-use Rattle.index.specs.Built.{BuiltFrom, GivesBackClaim, Agrees, AgreesClaim}
+use Rattle.index.specs.Built.{BuiltFrom, OneIndexClaim, GivesBackClaim, Agrees, AgreesClaim}
 use Rattle.index.specs.Rules.{Accepts, Refuses, out-of-range, too-long, by-index}
 use Rattle.index.specs.Walk.{formless}
 
@@ -65,6 +65,10 @@ module _ {form : ℕ} {file index : List ℕ} (built : BuiltFrom form file index
       ap (λ (t : Bool). t && leb (b .main) 65535 && leb (b .zero) 255) (y .0)
 
 -- ---- the claims
+
+-- a file has one index
+pub one-index : OneIndexClaim
+one-index form file index other x y = built-of x (y .bases) (y .pieces) (y .entry) (y .accepts) ∙ sym (y .is)
 
 -- it gives back the file's outlines and entry
 pub gives-back : GivesBackClaim

@@ -1,5 +1,5 @@
 -- Which index is built from which file, and what that comes to: "an index built from a file stands for that file and its loads" (document 02, wish 5).
--- Proved in proofs/Built.antt: `gives-back : GivesBackClaim` and `agrees : AgreesClaim`.
+-- Proved in proofs/Built.antt: `one-index : OneIndexClaim`, `gives-back : GivesBackClaim` and `agrees : AgreesClaim`.
 -- Assumes nothing.
 use mathlib.Core.Bool.{true}
 use mathlib.Core.List.{List, map}
@@ -19,7 +19,7 @@ use Rattle.words.specs.Runs.{Bytes}
 use Rattle.index.specs.Rules.{Accepts, Refuses}
 use Rattle.index.specs.Walk.{formless}
 
--- "Build it from a file at given bases": the index of the pieces and the entry that a load there accepts (they are the same at all bases that accept the file)
+-- "Build it from a file at given bases": the index of the pieces and the entry that a load there accepts
 pub record BuiltFrom (form : ℕ) (file index : List ℕ) : Type 0 where
   pub bases : Bases
   pub pieces : List Piece
@@ -28,6 +28,10 @@ pub record BuiltFrom (form : ℕ) (file index : List ℕ) : Type 0 where
   pub is : index ≡ indexBytes (map outline pieces) entry
   -- "the bench lends 65,536 bytes"
   pub fits : length index ≤ memorySize
+
+-- A file has one index, from whatever bases it is built.
+abbrev pub OneIndexClaim : Type 0
+OneIndexClaim = (form : ℕ) (file index other : List ℕ) → BuiltFrom form file index → BuiltFrom form file other → index ≡ other
 
 -- It gives back the file's outlines and entry: it is accepted with them exactly where they fit, at every pair of bases in their ranges.
 abbrev pub GivesBackClaim : Type 0
