@@ -11,8 +11,8 @@ use Rattle.answer.specs.Checks.{need}
 use Rattle.answer.specs.declared.Fault.{Fault}
 use Rattle.answer.specs.declared.Fault.the-variants.{SettingOutOfRange, FileTooLong, CutShort}
 use Rattle.records.specs.declared.Entry.{Entry}
-use Rattle.events.proofs.Checks.{passed-is, failed-passed}
-use Rattle.events.proofs.Traces.{trace-ends, walk-traced}
+use Rattle.events.proofs.Checks.{failed-passed}
+use Rattle.events.proofs.Steps.{steps-traced, trace-answers}
 use Rattle.events.proofs.Walks.{ends-leads, ends-same, EndsAt}
 use Rattle.events.specs.Events.{Event, marks, blank, Ran}
 use Rattle.events.specs.Trace.{Trace}
@@ -25,53 +25,26 @@ use Rattle.pieces.specs.AtBases.{applied}
 use Rattle.pieces.specs.Pieces.{Piece}
 use Rattle.pieces.specs.declared.Bases.{Bases}
 use Rattle.acx.proofs.Calling.{load-admitted}
-use Rattle.acx.proofs.Turning.{refused-accepted, turn-events, turn-is, turn-on, turn-led, turn-accepted, turn-accepts, turn-falls}
+use Rattle.acx.proofs.Turning.{refused-accepted, turn-is, turn-accepted, turn-accepts, by-steps, turn-falls}
 use Rattle.acx.proofs.Walking.{judged-opens}
 use Rattle.acx.specs.Call.{formOf, inRange, load}
 use Rattle.acx.specs.Rules.{Onward, NextRecord, Follows, Fails, in-opening, in-record, Refuses, out-of-range, too-long, by-file, RulesClaim}
 use Rattle.acx.specs.Walk.{Verdict, accepted, refused, atOnce, Progress, begun, recordAt, checked, stepped, judge, turn, recordsFrom, recordsOf, opening, openingSize, opened, judged}
 use Rattle.acx.specs.declared.Form.{Form}
 
--- ---- the steps are the turns
+-- ---- the records
 
-module _ (file : List ℕ) (b : Bases) where
-  -- a record that leads on is a turn that does
-  step-turn : (y z : Progress) (es fs : List Event) → NextRecord file b y es z fs → turn file b y (marks es blank) ≡ record { answer = leads z; events = fs }
-  step-turn y z es fs x =
-      let p = marks es blank in
-      let answer : turn file b y p .answer ≡ leads z =
-      turn-on file b y p _ refl (x .onward) (ap (λ (o : Ran Check). o .answer) (x .passes)) ∙ ap leads (sym (x .leads-to)) in
-      ap (λ (t : Turn Progress (Verdict Piece)). record { answer = t; events = turn file b y p .events }) answer
-      ∙ ap (λ (gs : List Event). record { answer = leads z; events = gs })
-      (turn-events file b y p ∙ ap (λ (o : Ran Check). o .events) (x .passes))
-
-  -- and the other way round
-  turn-step : (y z : Progress) (es : List Event) → turn file b y (marks es blank) .answer ≡ leads z
-      → NextRecord file b y es z (turn file b y (marks es blank) .events)
-  turn-step y z es e =
-      let p = marks es blank in
-      let l = turn-led file b y p z e in
-      record {
-        onward = subst Onward (sym (l .is)) (l .on);
-        passes = passed-is (checked file b y p) (l .passed) (sym (turn-events file b y p));
-        leads-to = sym (l .to) ∙ ap (stepped file y) (sym (l .is));
-      }
-
-  -- the records from an offset on end where their trace does
-  records-traced : (at : ℕ) → EndsAt (turn file b) (Trace (NextRecord file b) (begun at)) blank (recordsOf file b at)
+module _ (file : List ℕ) (b : Bases) (at : ℕ) where
+  -- from an offset on they end where their trace does, and the other way round
+  records-traced : EndsAt (turn file b) (Trace (NextRecord file b) (begun at)) blank (recordsOf file b at)
   unfolding recordsFrom
-  records-traced at =
-      walk-traced (turn file b) (λ z. refused CutShort (length file)) (λ z. bytesLeft file (z .at)) (turn-falls file b) blank (NextRecord file b) turn-step
-      (begun at)
+  records-traced = steps-traced (by-steps file b) _ _ (turn-falls file b) (begun at)
 
-  trace-records : (at : ℕ) (s : Progress) (es : List Event) (v : Verdict Piece) → Trace (NextRecord file b) (begun at) s es
+  trace-records : (s : Progress) (es : List Event) (v : Verdict Piece) → Trace (NextRecord file b) (begun at) s es
       → turn file b s (marks es blank) .answer ≡ ends v
       → recordsOf file b at .answer ≡ v
   unfolding recordsFrom
-  trace-records at s es v t e =
-      ap (λ (o : Ran (Verdict Piece)). o .answer)
-      (trace-ends (turn file b) (λ z. refused CutShort (length file)) (λ z. bytesLeft file (z .at)) (turn-falls file b) blank (NextRecord file b) step-turn
-      t v e)
+  trace-records = trace-answers (by-steps file b) _ _ (turn-falls file b) (begun at)
 
 -- ---- the file
 

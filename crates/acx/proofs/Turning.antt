@@ -7,6 +7,7 @@ use native.Mathlib.Omega.{arith}
 use lib.ListN.{length}
 use Rattle.answer.specs.declared.Fault.{Fault}
 use Rattle.events.proofs.Checks.{passed-is}
+use Rattle.events.proofs.Steps.{Led, BySteps}
 use Rattle.events.proofs.Walks.{ends-leads, leads-same, ends-same}
 use Rattle.events.specs.Events.{Event, place, marks, blank, Ran, passed}
 use Rattle.events.specs.Walk.{ends, leads, bytesLeft}
@@ -50,14 +51,6 @@ further file s (Fixups fixup from n) e o = let w = lies-as file (s .at) (lastOf 
 further file s (End entry next) e o = absurd o
 further file s (Faulty fault offset) e o = absurd o
 
--- a turn that leads on is a record that passed
-pub record Led (file : List ℕ) (b : Bases) (s : Progress) (map : List ℕ) (z : Progress) : Type 0 where
-  pub found : Record
-  pub is : recordAt file s ≡ found
-  pub on : Onward found
-  pub passed : checked file b s map .answer ≡ Passed
-  pub to : stepped file s found ≡ z
-
 module _ (file : List ℕ) (b : Bases) (s : Progress) (map : List ℕ) where
   -- what a record of each kind comes to
   checked-code : (kind : Kind) (address from n : ℕ) → recordAt file s ≡ Code kind address from n
@@ -98,10 +91,11 @@ module _ (file : List ℕ) (b : Bases) (s : Progress) (map : List ℕ) where
       goes (Faulty fault offset) o = absurd o
 
   -- and nothing else does
-  pub turn-led : (z : Progress) → turn file b s map .answer ≡ leads z → Led file b s map z
+  pub turn-led : (z : Progress) → turn file b s map .answer ≡ leads z → Led Onward (recordAt file) (checked file b) (stepped file) s map z
   turn-led z e = by (checked file b s map .answer) (recordAt file s) refl refl (sym (turn-is _ _ refl refl) ∙ e)
     where
-      by : (c : Check) (r : Record) → checked file b s map .answer ≡ c → recordAt file s ≡ r → judge file b s c r ≡ leads z → Led file b s map z
+      by : (c : Check) (r : Record) → checked file b s map .answer ≡ c → recordAt file s ≡ r → judge file b s c r ≡ leads z
+          → Led Onward (recordAt file) (checked file b) (stepped file) s map z
       by (Failed fault offset) r c i e = absurd (ends-leads e)
       by Passed (Code kind address from n) c i e = record { found = _; is = i; on = tt; passed = c; to = leads-same e }
       by Passed (Fixups fixup from n) c i e = record { found = _; is = i; on = tt; passed = c; to = leads-same e }
@@ -150,6 +144,10 @@ module _ (file : List ℕ) (b : Bases) (s : Progress) (es : List Event) where
   turn-accepts ps entry h =
       turn-is file b s map Passed _ (ap (λ (o : Ran Check). o .answer) (h .passes)) (h .is)
       ∙ ap (λ (qs : List Piece). ends (accepted qs entry)) (sym (h .pieces))
+
+-- so the turns go by steps
+pub by-steps : (file : List ℕ) (b : Bases) → BySteps Onward (recordAt file) (checked file b) (stepped file) (turn file b)
+by-steps file b = record { does = turn-events file b; on = turn-on file b; led = turn-led file b }
 
 -- each turn that leads on leaves fewer bytes
 pub turn-falls : (file : List ℕ) (b : Bases) (s z : Progress) (map : List ℕ) → turn file b s map .answer ≡ leads z

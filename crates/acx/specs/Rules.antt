@@ -11,7 +11,7 @@ use Rattle.answer.specs.declared.Fault.{Fault}
 use Rattle.answer.specs.declared.Fault.the-variants.{SettingOutOfRange, FileTooLong}
 use Rattle.events.specs.Events.{Event, marks, blank, passed}
 use Rattle.events.specs.Sizes.{fileLimit}
-use Rattle.events.specs.Trace.{Trace}
+use Rattle.events.specs.Trace.{Trace, NextStep}
 use Rattle.events.specs.declared.Check.the-variants.{Passed, Failed}
 use Rattle.records.specs.declared.Entry.{Entry}
 use Rattle.records.specs.declared.Record.{Record}
@@ -32,10 +32,8 @@ Onward (End entry next) = ⊥
 Onward (Faulty fault offset) = ⊥
 
 -- The record at which a load stands at s passes, over the map as the events es left it, and leads on to z by the events fs.
-pub record NextRecord (file : List ℕ) (b : Bases) (s : Progress) (es : List Event) (z : Progress) (fs : List Event) : Type 0 where
-  pub onward : Onward (recordAt file s)
-  pub passes : checked file b s (marks es blank) ≡ passed fs
-  pub leads-to : z ≡ stepped file s (recordAt file s)
+abbrev pub NextRecord : List ℕ → Bases → Progress → List Event → Progress → List Event → Type 0
+NextRecord file b s es z fs = NextStep Onward (recordAt file) (checked file b) (stepped file) s es z fs
 
 -- It is an end record, passes, and ends the file: the pieces so far are the handler, and its entry says where that starts.
 pub record EndRecord (file : List ℕ) (b : Bases) (s : Progress) (es : List Event) (ps : List Piece) (entry : Entry) : Type 0 where

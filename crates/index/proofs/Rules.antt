@@ -17,8 +17,8 @@ use Rattle.answer.specs.declared.Fault.the-variants.{SettingOutOfRange, FileToo
 use Rattle.entries.specs.Bytes.{version}
 use Rattle.entries.specs.declared.IndexEntry.{IndexEntry}
 use Rattle.entries.specs.declared.IndexEntry.the-variants.{Code, End, Faulty}
-use Rattle.events.proofs.Checks.{passed-is, failed-passed}
-use Rattle.events.proofs.Traces.{trace-ends, walk-traced}
+use Rattle.events.proofs.Checks.{failed-passed}
+use Rattle.events.proofs.Steps.{steps-traced, trace-answers}
 use Rattle.events.proofs.Walks.{ends-leads, ends-same, EndsAt}
 use Rattle.events.specs.Events.{Event, marks, blank, Ran}
 use Rattle.events.specs.Trace.{Trace}
@@ -28,7 +28,7 @@ use Rattle.events.specs.declared.Check.the-variants.{Passed, Failed}
 use Rattle.pieces.specs.Pieces.{Outline}
 use Rattle.pieces.specs.declared.Bases.{Bases}
 use Rattle.records.specs.declared.Entry.{Entry}
-use Rattle.index.proofs.Turning.{turn-events, turn-is, turn-on, turn-led, turn-accepted, turn-accepts, turn-falls}
+use Rattle.index.proofs.Turning.{turn-is, turn-accepted, turn-accepts, by-steps, turn-falls}
 use Rattle.index.proofs.Walking.{judged-opens, index-admitted}
 use Rattle.index.specs.Rules.{Onward, NextEntry, Follows, Fails, empty, of-version, in-entry, Refuses, out-of-range, too-long, by-index, RulesClaim}
 use Rattle.index.specs.Walk.{applied, Progress, begun, entryAt, checked, stepped, judge, turn, entriesFrom, atOnce, judged, formless, indexed}
@@ -40,45 +40,19 @@ as-refused P {f} {g} {i} {j} h e =
     let l : i ≡ j = cc in
     subst (P g) l (subst (λ (x : Fault). P x i) k h)
 
--- ---- the steps are the turns
+-- ---- the entries
 
 module _ (index : List ℕ) (b : Bases) where
-  -- an entry that leads on is a turn that does
-  step-turn : (y z : Progress) (es fs : List Event) → NextEntry index b y es z fs → turn index b y (marks es blank) ≡ record { answer = leads z; events = fs }
-  step-turn y z es fs x =
-      let p = marks es blank in
-      let answer : turn index b y p .answer ≡ leads z =
-      turn-on index b y p _ refl (x .onward) (ap (λ (o : Ran Check). o .answer) (x .passes)) ∙ ap leads (sym (x .leads-to)) in
-      ap (λ (t : Turn Progress (Verdict Outline)). record { answer = t; events = turn index b y p .events }) answer
-      ∙ ap (λ (gs : List Event). record { answer = leads z; events = gs })
-      (turn-events index b y p ∙ ap (λ (o : Ran Check). o .events) (x .passes))
-
-  -- and the other way round
-  turn-step : (y z : Progress) (es : List Event) → turn index b y (marks es blank) .answer ≡ leads z
-      → NextEntry index b y es z (turn index b y (marks es blank) .events)
-  turn-step y z es e =
-      let p = marks es blank in
-      let l = turn-led index b y p z e in
-      record {
-        onward = subst Onward (sym (l .is)) (l .on);
-        passes = passed-is (checked index b y p) (l .passed) (sym (turn-events index b y p));
-        leads-to = sym (l .to) ∙ ap (stepped index y) (sym (l .is));
-      }
-
-  -- the entries end where their trace does, and the other way round
+  -- they end where their trace does, and the other way round
   entries-traced : EndsAt (turn index b) (Trace (NextEntry index b) begun) blank (entriesFrom index b begun blank)
   unfolding entriesFrom
-  entries-traced =
-      walk-traced (turn index b) (λ z. refused CutShort (z .at)) (λ z. bytesLeft index (z .at)) (turn-falls index b) blank (NextEntry index b) turn-step begun
+  entries-traced = steps-traced (by-steps index b) _ _ (turn-falls index b) begun
 
   pub trace-entries : (s : Progress) (es : List Event) (v : Verdict Outline) → Trace (NextEntry index b) begun s es
       → turn index b s (marks es blank) .answer ≡ ends v
       → entriesFrom index b begun blank .answer ≡ v
   unfolding entriesFrom
-  trace-entries s es v t e =
-      ap (λ (o : Ran (Verdict Outline)). o .answer)
-      (trace-ends (turn index b) (λ z. refused CutShort (z .at)) (λ z. bytesLeft index (z .at)) (turn-falls index b) blank (NextEntry index b) step-turn
-      t v e)
+  trace-entries = trace-answers (by-steps index b) _ _ (turn-falls index b) begun
 
 -- ---- the index
 

@@ -11,6 +11,7 @@ use Rattle.entries.proofs.Reading.{Where, lies-as}
 use Rattle.entries.specs.declared.IndexEntry.{IndexEntry}
 use Rattle.entries.specs.declared.IndexEntry.the-variants.{Code, End, Faulty}
 use Rattle.events.proofs.Checks.{passed-is}
+use Rattle.events.proofs.Steps.{Led, BySteps}
 use Rattle.events.proofs.Walks.{ends-leads, leads-same, ends-same}
 use Rattle.events.specs.Events.{Event, marks, blank, Ran}
 use Rattle.events.specs.Walk.{ends, leads, bytesLeft}
@@ -44,14 +45,6 @@ entry-lies index at limit (Code kind address n from count) w l = (omega (arith, 
 entry-lies index at limit (End entry next) w l = omega (arith, w .1, l)
 entry-lies index at limit (Faulty fault) w l = tt
 
--- a turn that leads on is an entry that passed
-pub record Led (index : List ℕ) (b : Bases) (s : Progress) (map : List ℕ) (z : Progress) : Type 0 where
-  pub found : IndexEntry
-  pub is : entryAt index s ≡ found
-  pub on : Onward found
-  pub passed : checked index b s map .answer ≡ Passed
-  pub to : stepped index s found ≡ z
-
 module _ (index : List ℕ) (b : Bases) (s : Progress) (map : List ℕ) where
   -- what an entry of each kind comes to
   pub checked-code : (kind : Kind) (address n from count : ℕ) → entryAt index s ≡ Code kind address n from count
@@ -84,10 +77,11 @@ module _ (index : List ℕ) (b : Bases) (s : Progress) (map : List ℕ) where
       goes (Faulty fault) o = absurd o
 
   -- and nothing else does
-  pub turn-led : (z : Progress) → turn index b s map .answer ≡ leads z → Led index b s map z
+  pub turn-led : (z : Progress) → turn index b s map .answer ≡ leads z → Led Onward (entryAt index) (checked index b) (stepped index) s map z
   turn-led z e = by (checked index b s map .answer) (entryAt index s) refl refl (sym (turn-is _ _ refl refl) ∙ e)
     where
-      by : (c : Check) (e : IndexEntry) → checked index b s map .answer ≡ c → entryAt index s ≡ e → judge index s c e ≡ leads z → Led index b s map z
+      by : (c : Check) (e : IndexEntry) → checked index b s map .answer ≡ c → entryAt index s ≡ e → judge index s c e ≡ leads z
+          → Led Onward (entryAt index) (checked index b) (stepped index) s map z
       by (Failed fault offset) e c i l = absurd (ends-leads l)
       by Passed (Code kind address n from count) c i l = record { found = _; is = i; on = tt; passed = c; to = leads-same l }
       by Passed (End entry next) c i l = absurd (ends-leads l)
@@ -141,6 +135,10 @@ module _ (index : List ℕ) (b : Bases) (s : Progress) (es : List Event) where
   turn-accepts os entry h =
       turn-is index b s left Passed _ (ap (λ (o : Ran Check). o .answer) (h .passes)) (h .is)
       ∙ ap (λ (qs : List Outline). ends (accepted qs entry)) (sym (h .outlines))
+
+-- so the turns go by steps
+pub by-steps : (index : List ℕ) (b : Bases) → BySteps Onward (entryAt index) (checked index b) (stepped index) (turn index b)
+by-steps index b = record { does = turn-events index b; on = turn-on index b; led = turn-led index b }
 
 -- each turn that leads on leaves fewer bytes
 pub turn-falls : (index : List ℕ) (b : Bases) (s z : Progress) (map : List ℕ) → turn index b s map .answer ≡ leads z

@@ -14,15 +14,15 @@ use Rattle.answer.specs.declared.Fault.{Fault}
 use Rattle.answer.specs.declared.Fault.the-variants.{CutShort}
 use Rattle.entries.specs.Bytes.{version}
 use Rattle.entries.specs.declared.IndexEntry.{IndexEntry}
-use Rattle.events.proofs.Walks.{walk-keeps}
+use Rattle.events.proofs.Steps.{steps-keep}
 use Rattle.events.specs.Events.{Event, marks, blank, Ran}
-use Rattle.events.specs.Walk.{ends, leads, bytesLeft}
+use Rattle.events.specs.Walk.{ends, bytesLeft}
 use Rattle.events.specs.declared.Check.the-variants.{Passed}
 use Rattle.pieces.specs.Pieces.{Outline, events}
 use Rattle.pieces.specs.declared.Bases.{Bases}
 use Rattle.records.specs.declared.Entry.{Entry}
 use Rattle.index.proofs.Hollow.{hollow}
-use Rattle.index.proofs.Turning.{further, turn-events, turn-led, end-none, turn-accepted, turn-falls, events-after}
+use Rattle.index.proofs.Turning.{further, turn-events, end-none, turn-accepted, by-steps, turn-falls, events-after}
 use Rattle.index.specs.Rules.{Onward, EndEntry}
 use Rattle.index.specs.Walk.{Progress, begun, entryAt, checked, stepped, turn, entriesFrom, atOnce, judged, formless, indexed}
 
@@ -79,44 +79,23 @@ pub record EndedAt (P : Progress → Type 0) (index : List ℕ) (b : Bases) (os 
 
 module _ (index : List ℕ) (b : Bases) (P : Progress → Type 0)
     (keeps : (s : Progress) (e : IndexEntry) → P s → entryAt index s ≡ e → Onward e → Passes index b s → P (stepped index s e)) where
-  -- where a turn leads after some events
-  record Held (s : Progress) (es : List Event) : Type 0 where
-    inside : s .at ≤ length index
-    held : P s
-    same : es ≡ events b (map hollow (s .outlines))
-
-  held-on : (s z : Progress) (es : List Event) → Held s es → turn index b s (marks es blank) .answer ≡ leads z
-      → Held z (es ++ turn index b s (marks es blank) .events)
-  held-on s z es h e =
-      let p = marks es blank in
-      let l = turn-led index b s p z e in
-      let passes : Passes index b s = ap (λ (fs : List Event). checked index b s (marks fs blank) .answer) (sym (h .same)) ∙ l .passed in
-      rw (← l .to)
-      (record {
-        inside = further index s (l .found) (l .is) (l .on) .1;
-        held = keeps s (l .found) (h .held) (l .is) (l .on) passes;
-        same =
-            ap (λ (fs : List Event). es ++ fs) (turn-events index b s p)
-            ∙ ap (λ (fs : List Event). fs ++ checked index b s p .events) (h .same)
-            ∙ sym (events-after index b s p (l .found) (l .is) (l .on) (l .passed));
-      })
-
   -- the whole index: what holds before its entries holds at its end
   pub accepted-keeps : (os : List Outline) (entry : Entry) → P begun → judged index b .answer ≡ accepted os entry
       → EndedAt P index b os entry (judged index b .events)
   unfolding entriesFrom events
   accepted-keeps os entry h e =
       let o = judged-opens index b os entry e in
-      let x = walk-keeps (turn index b) (λ z. refused CutShort (z .at)) (λ z. bytesLeft index (z .at)) (turn-falls index b) Held blank held-on
-      begun (record { inside = o .there; held = h; same = refl }) in
+      let x = steps-keep (by-steps index b) (λ z. refused CutShort (z .at)) (λ z. bytesLeft index (z .at)) (turn-falls index b) begun
+      (λ s. events b (map hollow (s .outlines))) (events-after index b) (λ s. (s .at ≤ length index) × P s)
+      (λ s r k is on ok. (further index s r is on .1, keeps s r (k .1) is on ok)) refl (o .there, h) in
       let p = marks (x .before) blank in
       let t = turn-accepted index b (x .state) (x .before) os entry (x .answer ∙ ap (λ q. ends (q .answer)) (sym (o .by-entries)) ∙ ap ends e) in
       let none : turn index b (x .state) p .events ≡ [] = turn-events index b (x .state) p ∙ end-none index b (x .state) p _ _ (t .is) in
       let same = x .held .same in
       record {
         last = x .state;
-        inside = x .held .inside;
-        held = x .held .held;
+        inside = x .held .held .0;
+        held = x .held .held .1;
         end = rw same at t;
         events =
             ap (λ (q : Ran (Verdict Outline)). q .events) (o .by-entries)

@@ -17,7 +17,7 @@ use Rattle.entries.specs.declared.IndexEntry.{IndexEntry}
 use Rattle.entries.specs.declared.IndexEntry.the-variants.{Code, End, Faulty}
 use Rattle.events.specs.Events.{Event, marks, blank, passed}
 use Rattle.events.specs.Sizes.{fileLimit}
-use Rattle.events.specs.Trace.{Trace}
+use Rattle.events.specs.Trace.{Trace, NextStep}
 use Rattle.events.specs.declared.Check.the-variants.{Failed}
 use Rattle.pieces.specs.Pieces.{Outline}
 use Rattle.pieces.specs.declared.Bases.{Bases}
@@ -33,10 +33,8 @@ Onward (End entry next) = ⊥
 Onward (Faulty fault) = ⊥
 
 -- The entry at s passes, over the map as the events es left it, and leads on to z by the events fs.
-pub record NextEntry (index : List ℕ) (b : Bases) (s : Progress) (es : List Event) (z : Progress) (fs : List Event) : Type 0 where
-  pub onward : Onward (entryAt index s)
-  pub passes : checked index b s (marks es blank) ≡ passed fs
-  pub leads-to : z ≡ stepped index s (entryAt index s)
+abbrev pub NextEntry : List ℕ → Bases → Progress → List Event → Progress → List Event → Type 0
+NextEntry index b s es z fs = NextStep Onward (entryAt index) (checked index b) (stepped index) s es z fs
 
 -- It is the end entry, passes, and ends the index: the outlines so far are those of the handler.
 pub record EndEntry (index : List ℕ) (b : Bases) (s : Progress) (es : List Event) (os : List Outline) (entry : Entry) : Type 0 where
