@@ -9,14 +9,14 @@ use lib.Dec.{leb}
 use lib.ListN.{length}
 use Rattle.answer.specs.Checks.{need}
 use Rattle.answer.specs.declared.Fault.{Fault}
-use Rattle.answer.specs.declared.Fault.the-variants.{SettingOutOfRange, FileTooLong, CutShort}
+use Rattle.answer.specs.declared.Fault.the-variants.{SettingOutOfRange, FileTooLong}
 use Rattle.records.specs.declared.Entry.{Entry}
 use Rattle.events.proofs.Checks.{failed-passed}
-use Rattle.events.proofs.Steps.{steps-traced, trace-answers}
+use Rattle.events.proofs.Traces.{steps-traced, trace-answers}
 use Rattle.events.proofs.Walks.{ends-leads, ends-same, EndsAt}
 use Rattle.events.specs.Events.{Event, marks, blank, Ran}
 use Rattle.events.specs.Trace.{Trace}
-use Rattle.events.specs.Walk.{Turn, ends, leads, bytesLeft}
+use Rattle.events.specs.Walk.{ends}
 use Rattle.events.specs.declared.Check.{Check}
 use Rattle.events.specs.declared.Check.the-variants.{Passed, Failed}
 use Rattle.records.specs.declared.Record.{Record}
@@ -28,8 +28,8 @@ use Rattle.acx.proofs.Calling.{load-admitted}
 use Rattle.acx.proofs.Turning.{refused-accepted, turn-is, turn-accepted, turn-accepts, by-steps, turn-falls}
 use Rattle.acx.proofs.Walking.{judged-opens}
 use Rattle.acx.specs.Call.{formOf, inRange, load}
-use Rattle.acx.specs.Rules.{Onward, NextRecord, Follows, Fails, in-opening, in-record, Refuses, out-of-range, too-long, by-file, RulesClaim}
-use Rattle.acx.specs.Walk.{Verdict, accepted, refused, atOnce, Progress, begun, recordAt, checked, stepped, judge, turn, recordsFrom, recordsOf, opening, openingSize, opened, judged}
+use Rattle.acx.specs.Rules.{NextRecord, Follows, Fails, in-opening, in-record, Refuses, out-of-range, too-long, by-file, RulesClaim}
+use Rattle.acx.specs.Walk.{Verdict, accepted, refused, atOnce, Progress, begun, recordAt, checked, judge, turn, recordsFrom, recordsOf, opening, openingSize, opened, judged}
 use Rattle.acx.specs.declared.Form.{Form}
 
 -- ---- the records

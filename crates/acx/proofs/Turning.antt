@@ -7,7 +7,7 @@ use native.Mathlib.Omega.{arith}
 use lib.ListN.{length}
 use Rattle.answer.specs.declared.Fault.{Fault}
 use Rattle.events.proofs.Checks.{passed-is}
-use Rattle.events.proofs.Steps.{Led, BySteps}
+use Rattle.events.proofs.Traces.{Led, BySteps}
 use Rattle.events.proofs.Walks.{ends-leads, leads-same, ends-same}
 use Rattle.events.specs.Events.{Event, place, marks, blank, Ran, passed}
 use Rattle.events.specs.Walk.{ends, leads, bytesLeft}

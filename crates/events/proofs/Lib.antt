@@ -3,6 +3,5 @@ pub mod Events
 pub mod Checks
 pub mod Walks
 pub mod Traces
-pub mod Steps
 pub mod Lists
 pub mod Faults

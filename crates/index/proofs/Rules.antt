@@ -18,11 +18,11 @@ use Rattle.entries.specs.Bytes.{version}
 use Rattle.entries.specs.declared.IndexEntry.{IndexEntry}
 use Rattle.entries.specs.declared.IndexEntry.the-variants.{Code, End, Faulty}
 use Rattle.events.proofs.Checks.{failed-passed}
-use Rattle.events.proofs.Steps.{steps-traced, trace-answers}
+use Rattle.events.proofs.Traces.{steps-traced, trace-answers}
 use Rattle.events.proofs.Walks.{ends-leads, ends-same, EndsAt}
 use Rattle.events.specs.Events.{Event, marks, blank, Ran}
 use Rattle.events.specs.Trace.{Trace}
-use Rattle.events.specs.Walk.{Turn, ends, leads, bytesLeft}
+use Rattle.events.specs.Walk.{ends}
 use Rattle.events.specs.declared.Check.{Check}
 use Rattle.events.specs.declared.Check.the-variants.{Passed, Failed}
 use Rattle.pieces.specs.Pieces.{Outline}
@@ -30,8 +30,8 @@ use Rattle.pieces.specs.declared.Bases.{Bases}
 use Rattle.records.specs.declared.Entry.{Entry}
 use Rattle.index.proofs.Turning.{turn-is, turn-accepted, turn-accepts, by-steps, turn-falls}
 use Rattle.index.proofs.Walking.{judged-opens, index-admitted}
-use Rattle.index.specs.Rules.{Onward, NextEntry, Follows, Fails, empty, of-version, in-entry, Refuses, out-of-range, too-long, by-index, RulesClaim}
-use Rattle.index.specs.Walk.{applied, Progress, begun, entryAt, checked, stepped, judge, turn, entriesFrom, atOnce, judged, formless, indexed}
+use Rattle.index.specs.Rules.{NextEntry, Follows, Fails, empty, of-version, in-entry, Refuses, out-of-range, too-long, by-index, RulesClaim}
+use Rattle.index.specs.Walk.{applied, Progress, begun, entryAt, checked, judge, turn, entriesFrom, atOnce, judged, formless, indexed}
 
 -- what is said of one refusal is said of the same
 as-refused : (P : Fault → ℕ → Type 0) {f g : Fault} {i j : ℕ} → P f i → _≡_ {A = Verdict Outline} (refused f i) (refused g j) → P g j

@@ -11,7 +11,7 @@ use Rattle.entries.proofs.Reading.{Where, lies-as}
 use Rattle.entries.specs.declared.IndexEntry.{IndexEntry}
 use Rattle.entries.specs.declared.IndexEntry.the-variants.{Code, End, Faulty}
 use Rattle.events.proofs.Checks.{passed-is}
-use Rattle.events.proofs.Steps.{Led, BySteps}
+use Rattle.events.proofs.Traces.{Led, BySteps}
 use Rattle.events.proofs.Walks.{ends-leads, leads-same, ends-same}
 use Rattle.events.specs.Events.{Event, marks, blank, Ran}
 use Rattle.events.specs.Walk.{ends, leads, bytesLeft}

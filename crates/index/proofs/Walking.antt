@@ -14,7 +14,7 @@ use Rattle.answer.specs.declared.Fault.{Fault}
 use Rattle.answer.specs.declared.Fault.the-variants.{CutShort}
 use Rattle.entries.specs.Bytes.{version}
 use Rattle.entries.specs.declared.IndexEntry.{IndexEntry}
-use Rattle.events.proofs.Steps.{steps-keep}
+use Rattle.events.proofs.Traces.{steps-keep}
 use Rattle.events.specs.Events.{Event, marks, blank, Ran}
 use Rattle.events.specs.Walk.{ends, bytesLeft}
 use Rattle.events.specs.declared.Check.the-variants.{Passed}
