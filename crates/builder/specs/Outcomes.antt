@@ -9,12 +9,11 @@ use lib.Dec.{leb}
 use lib.ListN.{length, getD}
 use Rattle.acx.specs.Call.{inRange, Loaded}
 use Rattle.acx.specs.Rules.{Accepts, Refuses}
-use Rattle.answer.specs.Causes.{Causes}
-use Rattle.answer.specs.Report.{Located}
+use Rattle.answer.specs.Causes.{RefusedExactly}
 use Rattle.answer.specs.declared.Fault.{Fault}
 use Rattle.answer.specs.declared.Fault.the-variants.{WrongBuffer, IndexTooLong}
 use Rattle.answer.specs.declared.Outcome.{Outcome}
-use Rattle.answer.specs.declared.Outcome.the-variants.{Accepted, Refused}
+use Rattle.answer.specs.declared.Outcome.the-variants.{Accepted}
 use Rattle.answer.specs.declared.Start.{Start}
 use Rattle.events.specs.Events.{blank}
 use Rattle.events.specs.Sizes.{memorySize, fileLimit}
@@ -78,15 +77,9 @@ pub data RefusesBuild (form : ℕ) (b : Bases) (file : List ℕ) : Fault → ℕ
       → RefusesBuild form b file IndexTooLong 0
 
 -- A call that answered r, where the lengths of all that is lent are right or not.
-pub record Refusals (form : ℕ) (b : Bases) (file : List ℕ) (right : Bool) (p q : List ℕ) (r : Outcome) (p′ q′ : List ℕ) : Type 0 where
-  -- "1, 2, 3 come in that order": each exactly for its cause
-  pub causes : Causes right (inRange form b) (leb (length file) fileLimit) r
-  -- with the right lengths it is refused exactly so, with the first fault and its offset (a build has no side: 0)
-  pub only : right ≡ true → (fault : Fault) (offset side : ℕ) → r ≡ Refused fault offset side → RefusesBuild form b file fault offset × (side ≡ 0)
-  pub all : right ≡ true → (fault : Fault) (offset : ℕ) → RefusesBuild form b file fault offset → r ≡ Refused fault offset 0
-  -- its offset is that of a byte of the file; of 5 the file's length, of 1 to 4 zero
-  pub located : (fault : Fault) (offset side : ℕ) → r ≡ Refused fault offset side → Located (length file) fault offset
-  pub leaves : (fault : Fault) (offset side : ℕ) → r ≡ Refused fault offset side → RefusedBuild fault p q p′ q′
+abbrev pub Refusals : ℕ → Bases → List ℕ → Bool → List ℕ → List ℕ → Outcome → List ℕ → List ℕ → Type 0
+Refusals form b file right p q r p′ q′ =
+    RefusedExactly right (inRange form b) (leb (length file) fileLimit) (length file) (RefusesBuild form b file) (λ fault. RefusedBuild fault p q p′ q′) r
 
 -- The claim: of every call that keeps the builder's contract.
 abbrev pub RefusalsClaim : Type 0

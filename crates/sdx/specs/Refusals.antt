@@ -1,18 +1,16 @@
 -- Demand 1 for SDX files: which calls are refused, with which fault, and what a refused call leaves. Proved in proofs/Refusals.antt
 -- (`call-refusals : RefusalsClaim`).
 -- Assumes nothing.
-use mathlib.Core.Bool.{Bool, true, _&&_}
+use mathlib.Core.Bool.{Bool, _&&_}
 use mathlib.Core.List.{List}
 use mathlib.Core.Path.{_≡_}
 use Prim.Native.Nat.{ℕ}
 use lib.Dec.{leb}
 use lib.ListN.{length}
-use Rattle.answer.specs.Causes.{Causes}
-use Rattle.answer.specs.Report.{Located}
+use Rattle.answer.specs.Causes.{RefusedExactly}
 use Rattle.answer.specs.declared.Fault.{Fault}
 use Rattle.answer.specs.declared.Fault.the-variants.{WrongBuffer}
 use Rattle.answer.specs.declared.Outcome.{Outcome}
-use Rattle.answer.specs.declared.Outcome.the-variants.{Refused}
 use Rattle.events.specs.Events.{blank}
 use Rattle.events.specs.Sizes.{fileLimit}
 use Rattle.passes.specs.Buffers.{Buffers}
@@ -36,15 +34,9 @@ abbrev pub RefusesAt : List ℕ → Inputs → Fault → ℕ → Type 0
 RefusesAt file g fault offset = (y : Progress) × Refuses file g fault offset y
 
 -- A call that answered r, where the lengths of all that is lent are right or not.
-pub record Refusals (file : List ℕ) (g : Inputs) (right : Bool) (b : Buffers) (r : Outcome) (b′ : Buffers) : Type 0 where
-  -- "1, 2, 3 come in that order": each exactly for its cause
-  pub causes : Causes right (inRange g) (leb (length file) fileLimit) r
-  -- with the right lengths it is refused exactly as the rules say, with the first fault and its offset (a load has no side: 0)
-  pub only : right ≡ true → (fault : Fault) (offset side : ℕ) → r ≡ Refused fault offset side → RefusesAt file g fault offset × (side ≡ 0)
-  pub all : right ≡ true → (fault : Fault) (offset : ℕ) → RefusesAt file g fault offset → r ≡ Refused fault offset 0
-  -- its offset is that of a byte of the file; of 5 the file's length, of 1 to 4 zero
-  pub located : (fault : Fault) (offset side : ℕ) → r ≡ Refused fault offset side → Located (length file) fault offset
-  pub leaves : (fault : Fault) (offset side : ℕ) → r ≡ Refused fault offset side → RefusedCall fault b b′
+abbrev pub Refusals : List ℕ → Inputs → Bool → Buffers → Outcome → Buffers → Type 0
+Refusals file g right b r b′ =
+    RefusedExactly right (inRange g) (leb (length file) fileLimit) (length file) (RefusesAt file g) (λ fault. RefusedCall fault b b′) r
 
 -- The claim: of every file, whatever the inputs and the buffers, and of every call that keeps the loader's contract.
 abbrev pub RefusalsClaim : Type 0
