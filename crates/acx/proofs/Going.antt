@@ -11,6 +11,7 @@ use Rattle.answer.specs.Report.{address}
 use Rattle.answer.specs.declared.Fault.{Fault}
 use Rattle.answer.specs.declared.Outcome.{Outcome}
 use Rattle.answer.specs.declared.Outcome.the-variants.{Accepted, Refused}
+use Rattle.answer.specs.declared.Start.{Start}
 use Rattle.events.proofs.Checks.{failed-passed}
 use Rattle.events.proofs.Events.{reached-none, reached-more}
 use Rattle.events.proofs.Faults.{check-within}
@@ -34,6 +35,11 @@ use Rattle.pieces.specs.Pieces.{events}
 use Rattle.acx.specs.Walk.{Progress, begun, recordAt, checked, stepped, recordsOf, reported}
 use Rattle.pieces.specs.declared.Bases.{Bases}
 use Rattle.acx.specs.declared.Cursor.{Cursor}
+
+-- what does nothing leaves the counts as they are
+pub counts-stay : (start : Start) (es : List Event) {fs : List Event} → fs ≡ []
+    → Accepted start (placedIn es) (adjustedIn es) 0 0 ≡ Accepted start (placedIn (es ++ fs)) (adjustedIn (es ++ fs)) 0 0
+counts-stay start es e = rw (e, append-nil es) refl
 
 -- ---- a turn of the loop
 
@@ -103,13 +109,8 @@ module _ {file : List ℕ} {b : Bases} {first : ℕ} {write : Bool} {m₀ : List
           → Did Outcome (reported b (recordsOf file b first)) write m₀ blank (Accepted (startOf b entry) (c .placed) (c .adjusted) 0 0) m′ p′
       going-ends {entry} {next} e f =
           let o = tracks-ends (x .came) _ (turn-is file b here there Passed (End entry next) (answer-is ∙ e) (found-is ∙ f)) in
-          let z : before ++ checked file b here there .events ≡ before =
-          ap (λ (l : List Event). before ++ l) (end-none file b here there entry next (found-is ∙ f)) ∙ append-nil before in
-          let es = before ++ checked file b here there .events in
-          let counts : Accepted (startOf b entry) (c .placed) (c .adjusted) 0 0 ≡ Accepted (startOf b entry) (placedIn es) (adjustedIn es) 0 0 =
-          ap (λ (k : Cursor). Accepted (startOf b entry) (k .placed) (k .adjusted) 0 0) (x .came .here)
-          ∙ ap (λ (l : List Event). Accepted (startOf b entry) (placedIn l) (adjustedIn l) 0 0) (sym z) in
-          rw o (record { answer = counts; reached = now })
+          let counts = ap (λ (k : Cursor). Accepted (startOf b entry) (k .placed) (k .adjusted) 0 0) (x .came .here) in
+          rw o (record { answer = counts ∙ counts-stay _ before (end-none file b here there entry next (found-is ∙ f)); reached = now })
 
       -- any other leads on
       pub going-on : r ≡ Passed → Onward found → Going file b first write m₀ (advanced b c found) m′ p′

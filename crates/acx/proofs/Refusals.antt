@@ -70,7 +70,7 @@ module _ (form : ℕ) (b : Bases) (file : List ℕ) (at : ℕ) where
       (c .1, c .2)
 
 -- an outcome that is a refusal is of a verdict that is one
-reported-refused : (b : Bases) (v : Verdict Piece) (es : List Event) (fault : Fault) (at side : ℕ) → report b v es ≡ Refused fault at side
+pub reported-refused : (b : Bases) (v : Verdict Piece) (es : List Event) (fault : Fault) (at side : ℕ) → report b v es ≡ Refused fault at side
     → (v ≡ refused fault at) × (side ≡ 0)
 reported-refused b (accepted ps entry) es fault at side e = absurd (false≢true (ap isRefused e))
 reported-refused b (refused f a) es fault at side e =

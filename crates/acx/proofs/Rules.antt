@@ -2,7 +2,7 @@
 -- Assumes nothing.
 use mathlib.Core.Bool.{Bool, true, false}
 use mathlib.Core.List.{List}
-use mathlib.Core.Path.{_≡_, refl, sym, ap, _∙_, subst}
+use mathlib.Core.Path.{_≡_, refl, sym, ap, _∙_}
 use Prim.Native.Nat.{ℕ, _≤_}
 use borrow.Author.Tests.{leb-true, leb-false, le-leb, lt-leb}
 use lib.Dec.{leb}
@@ -25,7 +25,7 @@ use Rattle.pieces.specs.AtBases.{applied}
 use Rattle.pieces.specs.Pieces.{Piece}
 use Rattle.pieces.specs.declared.Bases.{Bases}
 use Rattle.acx.proofs.Calling.{load-admitted}
-use Rattle.acx.proofs.Turning.{refused-accepted, turn-is, turn-accepted, turn-accepts, by-steps, turn-falls}
+use Rattle.acx.proofs.Turning.{refused-accepted, as-refused, turn-is, turn-accepted, turn-accepts, by-steps, turn-falls}
 use Rattle.acx.proofs.Walking.{judged-opens}
 use Rattle.acx.specs.Call.{formOf, inRange, load}
 use Rattle.acx.specs.Rules.{NextRecord, Follows, Fails, in-opening, in-record, Refuses, out-of-range, too-long, by-file, RulesClaim}
@@ -127,18 +127,12 @@ module _ (form : ℕ) (b : Bases) (file : List ℕ) where
   unfolding load need
   load-refused fault at e = by (inRange form b) (leb (length file) 65536) refl refl e
     where
-      at-once : {f : Fault} → Refuses form b file f 0 → _≡_ {A = Verdict Piece} (refused f 0) (refused fault at) → Refuses form b file fault at
-      at-once {f} h e =
-          let k : f ≡ fault = cc in
-          let l : 0 ≡ at = cc in
-          subst (Refuses form b file fault) l (subst (λ (g : Fault). Refuses form b file g 0) k h)
-
       by : (c d : Bool) → inRange form b ≡ c → leb (length file) 65536 ≡ d
           → need atOnce c SettingOutOfRange 0 (need atOnce d FileTooLong 0 (judged (formOf form) file b)) .answer ≡ refused fault at
           → Refuses form b file fault at
       by true true h k e = by-file h (leb-true _ _ k) (failed (formOf form) file b fault at e)
-      by true false h k e = at-once (too-long h (leb-false _ _ k)) e
-      by false d h k e = at-once (out-of-range h) e
+      by true false h k e = as-refused (Refuses form b file) (too-long h (leb-false _ _ k)) e
+      by false d h k e = as-refused (Refuses form b file) (out-of-range h) e
 
 -- "accepted exactly if it follows the .. ACX rules of document 01 and fits", and else refused where it breaks them first
 pub by-rules : RulesClaim

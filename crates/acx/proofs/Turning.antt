@@ -28,7 +28,7 @@ use Rattle.pieces.proofs.PieceEvents.{adjustments-append, events-code}
 use Rattle.pieces.specs.AtBases.{placing, adjusting, ending, applied}
 use Rattle.pieces.specs.Pieces.{Piece, outline, placeAt, placeOf, limitOf, adjustments, events}
 use Rattle.acx.specs.Rules.{Onward, EndRecord}
-use Rattle.acx.specs.Walk.{accepted, refused, Progress, lastOf, lastPlace, lastSize, recordAt, checked, withFields, stepped, judge, turn}
+use Rattle.acx.specs.Walk.{Verdict, accepted, refused, Progress, lastOf, lastPlace, lastSize, recordAt, checked, withFields, stepped, judge, turn}
 use Rattle.pieces.specs.declared.Bases.{Bases}
 
 -- ---- verdicts told apart
@@ -40,6 +40,13 @@ refused-accepted e = let n : _≡_ {A = ℕ} 0 1 = cc in omega arith
 -- a verdict has one list of pieces, and one entry
 pub accepted-same : {P : Type 0} {ps qs : List P} {entry other : Entry} → accepted ps entry ≡ accepted qs other → (ps ≡ qs) × (entry ≡ other)
 accepted-same e = (cc, cc)
+
+-- what is said of one refusal is said of the same
+pub as-refused : {P : Type 0} (Q : Fault → ℕ → Type 0) {f g : Fault} {i j : ℕ} → Q f i → _≡_ {A = Verdict P} (refused f i) (refused g j) → Q g j
+as-refused Q {f} {g} {i} {j} h e =
+    let k : f ≡ g = cc in
+    let l : i ≡ j = cc in
+    rw (← k, ← l) h
 
 -- ---- where a record leads
 

@@ -10,14 +10,14 @@ use lib.Dec.{leb}
 use lib.ListN.{length, getD}
 use Rattle.acx.proofs.Calling.{loaded-right}
 use Rattle.acx.proofs.Faults.{judged-decides}
-use Rattle.acx.proofs.Refusals.{refuses-located, refuses-sized}
+use Rattle.acx.proofs.Refusals.{reported-refused, refuses-located, refuses-sized}
 use Rattle.acx.proofs.Rules.{by-rules, load-judged}
-use Rattle.acx.proofs.Turning.{refused-accepted, accepted-same}
+use Rattle.acx.proofs.Turning.{refused-accepted, accepted-same, as-refused}
 use Rattle.acx.specs.Call.{formOf, inRange, load, mapAfter}
 use Rattle.acx.specs.Rules.{Accepts, Refuses, out-of-range, too-long as file-too-long}
 use Rattle.acx.specs.Walk.{Verdict, accepted, refused, lastOf, judged, report as loadReport}
 use Rattle.answer.proofs.Causes.{causes-of}
-use Rattle.answer.proofs.Faults.{OfFile, of-file-located, early-located, ByFile}
+use Rattle.answer.proofs.Faults.{OfFile, of-file-located, early-located, ByFile, located-as}
 use Rattle.answer.proofs.Outcomes.{isRefused, faultIn}
 use Rattle.answer.specs.Causes.{Causes}
 use Rattle.answer.specs.Checks.{need, pick}
@@ -79,11 +79,7 @@ reports b (accepted ps entry) es start placed adjusted names low e =
 reports-refused : (b : Bases) (v : Verdict Piece) (es : List Event) (fault : Fault) (at side : ℕ) → report b v es ≡ Refused fault at side
     → (v ≡ refused fault at) × (side ≡ 0)
 reports-refused b (accepted ps entry) es fault at side e = absurd (false≢true (ap isRefused e))
-reports-refused b (refused f a) es fault at side e =
-    let k : f ≡ fault = cc in
-    let l : a ≡ at = cc in
-    let s : 0 ≡ side = cc in
-    (ap (λ (g : Fault). refused g a) k ∙ ap (refused fault) l, sym s)
+reports-refused b (refused f a) es fault at side e = reported-refused b (refused f a) es fault at side e
 
 -- ---- a call with the right buffers, and one without
 
@@ -193,10 +189,7 @@ module _ (form : ℕ) (b : Bases) (file : List ℕ) where
       by : (c : Bool) → leb (length (indexOf ps entry)) 65536 ≡ c → need refused c IndexTooLong 0 (accepted ps entry) ≡ refused fault at
           → RefusesBuild form b file fault at
       by true h g = absurd (refused-accepted (sym g))
-      by false h g =
-          let f : IndexTooLong ≡ fault = cc in
-          let a : 0 ≡ at = cc in
-          rw (← f, ← a) (too-long (by-rules form b file .accepts-only ps entry e) (leb-false _ _ h))
+      by false h g = as-refused (RefusesBuild form b file) (too-long (by-rules form b file .accepts-only ps entry e) (leb-false _ _ h)) g
 
   -- and whatever so refuses, is the refusal
   refuses-fitted : (fault : Fault) (at : ℕ) → RefusesBuild form b file fault at → fitted (load form b file .answer) ≡ refused fault at
@@ -265,11 +258,7 @@ module _ {form : ℕ} {b : Bases} {file p q : List ℕ} {right : Bool} {r : Outc
     where
       located : (t : Bool) → right ≡ t → (fault : Fault) (at side : ℕ) → r ≡ Refused fault at side → Located (length file) fault at
       located true h fault at side e = refused-located form b file fault at (refused-only h fault at side e .0)
-      located false h fault at side e =
-          let w = sym (built-wrong d h .0) ∙ e in
-          let f : WrongBuffer ≡ fault = cc in
-          let a : 0 ≡ at = cc in
-          rw (← f, ← a) (early-located (length file) WrongBuffer refl)
+      located false h fault at side e = located-as (record { lies = early-located (length file) WrongBuffer refl }) (sym (built-wrong d h .0) ∙ e)
 
       leaves : (t : Bool) → right ≡ t → (fault : Fault) (at side : ℕ) → r ≡ Refused fault at side → RefusedBuild fault p q p′ q′
       leaves true h fault at side e =

@@ -1,11 +1,12 @@
 -- The program's walk: its cursor and its map at each turn are those of the definition's walk, which has come to the same place.
 -- Assumes nothing.
-use mathlib.Core.List.{List, [], _∷_, _++_, append-nil}
+use mathlib.Core.List.{List, [], _∷_, _++_}
 use mathlib.Core.Path.{_≡_, refl, sym, ap, _∙_}
 use Prim.Native.Nat.{ℕ, _+_, _≤_}
 use types.Run.{OneOf}
 use denote.Enum.Declared.{tagOf}
 use lib.ListN.{length}
+use Rattle.acx.proofs.Going.{counts-stay}
 use Rattle.acx.specs.Walk.{reported}
 use Rattle.answer.specs.Report.{address}
 use Rattle.answer.specs.declared.Fault.{Fault}
@@ -17,7 +18,7 @@ use Rattle.entries.specs.declared.IndexEntry.{IndexEntry}
 use Rattle.entries.specs.declared.IndexEntry.the-variants.{End}
 use Rattle.events.proofs.Checks.{failed-passed}
 use Rattle.events.proofs.Events.{marks-append}
-use Rattle.events.specs.Events.{Event, marks, blank, placedIn, adjustedIn, Ran, Noted}
+use Rattle.events.specs.Events.{Event, marks, blank, Ran, Noted}
 use Rattle.events.specs.declared.Check.{Check}
 use Rattle.events.specs.declared.Check.the-variants.{Passed, Failed}
 use Rattle.pieces.proofs.Applying.{ending-passed}
@@ -100,13 +101,8 @@ module _ {index : List ℕ} {b : Bases} where
           → Noted Outcome (reported b (entriesFrom index b begun blank)) blank (Accepted (startOf b entry) (c .placed) (c .adjusted) 0 0) p′
       going-ends {entry} {next} e f =
           let o = tracks-ends (x .came) _ (turn-is index b here there Passed (End entry next) (answer-is ∙ e) (found-is ∙ f)) in
-          let z : before ++ checked index b here there .events ≡ before =
-          ap (λ (l : List Event). before ++ l) (end-none index b here there entry next (found-is ∙ f)) ∙ append-nil before in
-          let es = before ++ checked index b here there .events in
-          let counts : Accepted (startOf b entry) (c .placed) (c .adjusted) 0 0 ≡ Accepted (startOf b entry) (placedIn es) (adjustedIn es) 0 0 =
-          ap (λ (k : Cursor). Accepted (startOf b entry) (k .placed) (k .adjusted) 0 0) (x .came .here)
-          ∙ ap (λ (l : List Event). Accepted (startOf b entry) (placedIn l) (adjustedIn l) 0 0) (sym z) in
-          rw o (record { answer = counts; map = now })
+          let counts = ap (λ (k : Cursor). Accepted (startOf b entry) (k .placed) (k .adjusted) 0 0) (x .came .here) in
+          rw o (record { answer = counts ∙ counts-stay _ before (end-none index b here there entry next (found-is ∙ f)); map = now })
 
       -- an entry that passed and is not the end is code
       pub going-onward : r ≡ Passed → OneOf (0 ∷ 2 ∷ []) (tagOf the-type found) → Onward found

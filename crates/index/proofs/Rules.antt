@@ -8,7 +8,7 @@ use native.Mathlib.Omega.{arith}
 use borrow.Author.Tests.{leb-true, leb-false, le-leb, lt-leb, eqb-true, eqb-false, eq-eqb, ne-eqb}
 use lib.Dec.{leb, eqb}
 use lib.ListN.{length, getD}
-use Rattle.acx.proofs.Turning.{refused-accepted}
+use Rattle.acx.proofs.Turning.{refused-accepted, as-refused}
 use Rattle.acx.specs.Call.{inRange}
 use Rattle.acx.specs.Walk.{Verdict, accepted, refused}
 use Rattle.answer.specs.Checks.{need}
@@ -32,13 +32,6 @@ use Rattle.index.proofs.Turning.{turn-is, turn-accepted, turn-accepts, 
 use Rattle.index.proofs.Walking.{judged-opens, index-admitted}
 use Rattle.index.specs.Rules.{NextEntry, Follows, Fails, empty, of-version, in-entry, Refuses, out-of-range, too-long, by-index, RulesClaim}
 use Rattle.index.specs.Walk.{applied, Progress, begun, entryAt, checked, judge, turn, entriesFrom, atOnce, judged, formless, indexed}
-
--- what is said of one refusal is said of the same
-as-refused : (P : Fault → ℕ → Type 0) {f g : Fault} {i j : ℕ} → P f i → _≡_ {A = Verdict Outline} (refused f i) (refused g j) → P g j
-as-refused P {f} {g} {i} {j} h e =
-    let k : f ≡ g = cc in
-    let l : i ≡ j = cc in
-    subst (P g) l (subst (λ (x : Fault). P x i) k h)
 
 -- ---- the entries
 
