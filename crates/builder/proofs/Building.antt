@@ -150,7 +150,7 @@ module _ {form : ℕ} {b : Bases} {file p q : List ℕ} where
   -- ---- whatever the buffers
 
   -- "Refusal 1 changes nothing"
-  built-wrong : {right : Bool} {r : Outcome} → right ≡ false → r ≡ Refused WrongBuffer 0 0 → Built form b file right p q r p q
+  pub built-wrong : {right : Bool} {r : Outcome} → right ≡ false → r ≡ Refused WrongBuffer 0 0 → Built form b file right p q r p q
   unfolding build need pick
   built-wrong h e =
       record {

@@ -4,18 +4,19 @@ use mathlib.Core.Bool.{true, false, _&&_, false≢true}
 use mathlib.Core.List.{List}
 use mathlib.Core.Path.{_≡_, refl, sym, _∙_}
 use Prim.Native.Nat.{ℕ}
-use native.Mathlib.Omega.{arith}
 use borrow.Author.Tests.{eq-eqb, ne-eqb}
 use lib.Dec.{eqb}
 use lib.ListN.{length}
-use Rattle.acx.specs.Call.{sized, call as acxCall, Loaded}
+use Rattle.acx.proofs.Calling.{loaded-wrong}
+use Rattle.acx.specs.Call.{sized, Loaded}
 use Rattle.answer.proofs.Checks.{and-false}
 use Rattle.answer.specs.Checks.{need, pick}
 use Rattle.answer.specs.Report.{numberOf, numberReturned, Written}
 use Rattle.answer.specs.declared.Fault.the-variants.{WrongBuffer}
 use Rattle.answer.specs.declared.Outcome.{Outcome}
 use Rattle.answer.specs.declared.Outcome.the-variants.{Refused}
-use Rattle.builder.specs.Build.{sized as buildSized, build, Built}
+use Rattle.builder.proofs.Building.{built-wrong}
+use Rattle.builder.specs.Build.{sized as buildSized, Built}
 use Rattle.moves.proofs.Sources.{counted-refused}
 use Rattle.moves.specs.Call.{callOf, sized as moveSized, ruling, outcomeOf, memoryAfter, mapAfter, scratchAfter, Moved}
 use Rattle.moves.specs.Sources.{Source}
@@ -46,14 +47,7 @@ unanswered a r h er =
 module _ {form : ℕ} {b : Bases} {file m p a : List ℕ} {r : ℕ} where
   -- an answer of another length: 1, and nothing is done
   pub acx-unanswered : (length a ≡ 36 → ⊥) → r ≡ numberOf WrongBuffer → AcxCalled form b file m p a r m p a
-  unfolding acxCall need pick
-  acx-unanswered h e =
-      record {
-        outcome = Refused WrongBuffer 0 0;
-        loaded = rw (ne-eqb _ _ h)
-            (record { outcome = refl; memory = refl; map = refl; placed-fits = omega arith; adjusted-fits = omega arith });
-        answered = unanswered a r h e;
-      }
+  acx-unanswered h e = record { outcome = Refused WrongBuffer 0 0; loaded = loaded-wrong (rw (ne-eqb _ _ h) refl) refl; answered = unanswered a r h e }
 
   -- else what the loader did is answered
   pub acx-answered : {o : Outcome} {m′ p′ a′ : List ℕ} → length a ≡ 36 → Loaded form b file (sized m p) m p o m′ p′ → Answered o a r a′
@@ -88,13 +82,7 @@ module _ {h : Source} {old new : Bases} {m p s a : List ℕ} {r : ℕ} where
 
 module _ {form : ℕ} {b : Bases} {file p q a : List ℕ} {r : ℕ} where
   pub build-unanswered : (length a ≡ 36 → ⊥) → r ≡ numberOf WrongBuffer → BuildCalled form b file p q a r p q a
-  unfolding build need pick
-  build-unanswered h e =
-      record {
-        outcome = Refused WrongBuffer 0 0;
-        built = rw (ne-eqb _ _ h) (record { outcome = refl; map = refl; room = refl; placed-fits = omega arith; adjusted-fits = omega arith });
-        answered = unanswered a r h e;
-      }
+  build-unanswered h e = record { outcome = Refused WrongBuffer 0 0; built = built-wrong (rw (ne-eqb _ _ h) refl) refl; answered = unanswered a r h e }
 
   pub build-answered : {o : Outcome} {p′ q′ a′ : List ℕ} → length a ≡ 36 → Built form b file (buildSized p q) p q o p′ q′ → Answered o a r a′
       → BuildCalled form b file p q a r p′ q′ a′
