@@ -124,7 +124,7 @@ abbrev pub recordsOf : List ℕ → Bases → ℕ → Ran (Verdict Piece)
 recordsOf file b at = recordsFrom file b (begun at) blank
 
 -- a refusal before the first record
-abbrev pub atOnce : Fault → ℕ → Ran (Verdict Piece)
+abbrev pub atOnce : {P : Type 0} → Fault → ℕ → Ran (Verdict P)
 atOnce fault offset = record { answer = refused fault offset; events = [] }
 
 -- the records, where the opening passed

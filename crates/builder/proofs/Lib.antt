@@ -4,3 +4,4 @@ pub mod Walking
 pub mod Filling
 pub mod Building
 pub mod Outcomes
+pub mod Use

@@ -9,11 +9,13 @@ use borrow.Author.Tests.{leb-true, leb-false}
 use lib.Dec.{leb}
 use lib.ListN.{length, getD}
 use Rattle.acx.proofs.Calling.{loaded-right}
+use Rattle.acx.proofs.Demand2.{load-reports}
 use Rattle.acx.proofs.Faults.{judged-decides}
 use Rattle.acx.proofs.Refusals.{reported-refused, refuses-located, refuses-sized}
 use Rattle.acx.proofs.Rules.{by-rules, load-judged}
 use Rattle.acx.proofs.Turning.{refused-accepted, accepted-same, as-refused}
 use Rattle.acx.specs.Call.{formOf, inRange, load, mapAfter}
+use Rattle.acx.specs.Demand2.{total}
 use Rattle.acx.specs.Rules.{Accepts, Refuses, out-of-range, too-long as file-too-long}
 use Rattle.acx.specs.Walk.{Verdict, accepted, refused, lastOf, judged, report as loadReport}
 use Rattle.answer.proofs.Causes.{causes-of}
@@ -21,7 +23,7 @@ use Rattle.answer.proofs.Faults.{OfFile, of-file-located, early-located, ByFile
 use Rattle.answer.proofs.Outcomes.{isRefused, faultIn}
 use Rattle.answer.specs.Causes.{Causes}
 use Rattle.answer.specs.Checks.{need, pick}
-use Rattle.answer.specs.Report.{numberOf, Located}
+use Rattle.answer.specs.Report.{numberOf, Located, IsAccepted}
 use Rattle.answer.specs.declared.Fault.{Fault}
 use Rattle.answer.specs.declared.Fault.the-variants.{WrongBuffer, IndexTooLong}
 use Rattle.answer.specs.declared.Outcome.{Outcome}
@@ -31,7 +33,7 @@ use Rattle.events.proofs.Events.{length-blank, blank-at}
 use Rattle.events.specs.Events.{Event, blank, placedIn, adjustedIn, Ran}
 use Rattle.events.specs.Sizes.{fileLimit}
 use Rattle.pieces.specs.AtBases.{startOf}
-use Rattle.pieces.specs.Pieces.{Piece}
+use Rattle.pieces.specs.Pieces.{Piece, size}
 use Rattle.pieces.specs.declared.Bases.{Bases}
 use Rattle.records.proofs.Reading.{lies-as}
 use Rattle.records.specs.declared.Entry.{Entry}
@@ -39,7 +41,8 @@ use Rattle.words.proofs.Runs.{length-put, put-outside, front-holds}
 use Rattle.words.specs.Runs.{part, put}
 use Rattle.builder.proofs.Building.{fitted-short, fitted-long}
 use Rattle.builder.specs.Build.{indexOf, fitted, build, report, roomAfter, Built}
-use Rattle.builder.specs.Outcomes.{AcceptedBuild, Claim, RefusedBuild, RefusesBuild, by-load, too-long, Refusals, RefusalsClaim}
+use Rattle.builder.specs.Parts.{withLow}
+use Rattle.builder.specs.Outcomes.{AcceptedBuild, Claim, RefusedBuild, RefusesBuild, by-load, too-long, Refusals, RefusalsClaim, SameClaim}
 
 -- ---- verdicts
 
@@ -144,16 +147,14 @@ module _ {form : ℕ} {b : Bases} {file p q : List ℕ} {right : Bool} {r : Outc
 
   -- a file that a load accepts is accepted, if its index fits
   accepts-all : right ≡ true → (ps : List Piece) (entry : Entry) → Accepts form b file ps entry → length (indexOf ps entry) ≤ 65536
-      → (start : Start) × (placed : ℕ) × (adjusted : ℕ) × (r ≡ Accepted start placed adjusted 0 (length (indexOf ps entry)))
+      → r ≡ Accepted (startOf b entry) (total size ps) (total (λ p. length (p .fields)) ps) 0 (length (indexOf ps entry))
   accepts-all t ps entry h k =
-      let es = load form b file .events in (
-        startOf b entry,
-        placedIn es,
-        adjustedIn es,
-        built-right t .0
-            ∙ ap (λ (w : Verdict Piece). report b (fitted w) es) (by-rules form b file .accepts ps entry h)
-            ∙ ap (λ (w : Verdict Piece). report b w es) (fitted-short ps entry k),
-      )
+      let es = load form b file .events in
+      let e = by-rules form b file .accepts ps entry h in
+      built-right t .0
+      ∙ ap (λ (w : Verdict Piece). report b (fitted w) es) e
+      ∙ ap (λ (w : Verdict Piece). report b w es) (fitted-short ps entry k)
+      ∙ ap (withLow (length (indexOf ps entry))) (sym (ap (λ (w : Verdict Piece). loadReport b w es) e) ∙ load-reports form b file ps entry h)
 
 -- "Build it from a file at given bases"
 pub built-exactly : Claim
@@ -276,3 +277,20 @@ module _ {form : ℕ} {b : Bases} {file p q : List ℕ} {right : Bool} {r : Outc
 -- "with its load's .. refusals", and 25
 pub build-refusals : RefusalsClaim
 build-refusals form b file answerSized p q r p′ q′ d = build-refusals-of d
+
+-- ---- one file, one index
+
+same-room : (b : Bases) (v : Verdict Piece) (es : List Event) (q l : List ℕ) → IsAccepted (report b v es) → roomAfter v q ≡ roomAfter v l
+same-room b (accepted ps entry) es q l h = refl
+same-room b (refused fault at) es q l h = absurd h
+
+pub same-index : SameClaim
+same-index form b file p q r p′ q′ k l t k′ l′ d e =
+    let x = built-right d refl in
+    let y = built-right e refl in
+    let v = fitted (load form b file .answer) in
+    record {
+      outcome = x .0 ∙ sym (y .0);
+      map = x .1 ∙ sym (y .1);
+      room = λ h. x .2 ∙ same-room b v (load form b file .events) q l (subst IsAccepted (x .0) h) ∙ sym (y .2);
+    }

@@ -8,8 +8,10 @@ use Prim.Native.Nat.{ℕ, _≤_, _<_}
 use lib.Dec.{leb}
 use lib.ListN.{length, getD}
 use Rattle.acx.specs.Call.{inRange, Loaded}
+use Rattle.acx.specs.Demand2.{total}
 use Rattle.acx.specs.Rules.{Accepts, Refuses}
 use Rattle.answer.specs.Causes.{RefusedExactly}
+use Rattle.answer.specs.Report.{IsAccepted}
 use Rattle.answer.specs.declared.Fault.{Fault}
 use Rattle.answer.specs.declared.Fault.the-variants.{WrongBuffer, IndexTooLong}
 use Rattle.answer.specs.declared.Outcome.{Outcome}
@@ -18,7 +20,8 @@ use Rattle.answer.specs.declared.Start.{Start}
 use Rattle.events.specs.Events.{blank}
 use Rattle.events.specs.Sizes.{memorySize, fileLimit}
 use Rattle.index.specs.Built.{BuiltFrom}
-use Rattle.pieces.specs.Pieces.{Piece}
+use Rattle.pieces.specs.AtBases.{startOf}
+use Rattle.pieces.specs.Pieces.{Piece, size}
 use Rattle.pieces.specs.declared.Bases.{Bases}
 use Rattle.records.specs.declared.Entry.{Entry}
 use Rattle.words.specs.Runs.{part}
@@ -50,7 +53,7 @@ pub record Exactly (form : ℕ) (b : Bases) (file : List ℕ) (right : Bool) (r 
       → (right ≡ true) × (names ≡ 0) × AcceptedBuild form b file start placed adjusted low p′ q′
   -- and always then, if the index fits, with its length
   pub all : right ≡ true → (ps : List Piece) (entry : Entry) → Accepts form b file ps entry → length (indexOf ps entry) ≤ memorySize
-      → (start : Start) × (placed : ℕ) × (adjusted : ℕ) × (r ≡ Accepted start placed adjusted 0 (length (indexOf ps entry)))
+      → r ≡ Accepted (startOf b entry) (total size ps) (total (λ p. length (p .fields)) ps) 0 (length (indexOf ps entry))
 
 -- The claim: of every call that keeps the builder's contract. (answerSized: a C answer, if one is lent, has its length.)
 abbrev pub Claim : Type 0
@@ -87,3 +90,20 @@ RefusalsClaim =
     (form : ℕ) (b : Bases) (file : List ℕ) (answerSized : Bool) (p q : List ℕ) (r : Outcome) (p′ q′ : List ℕ)
     → Built form b file (answerSized && sized p q) p q r p′ q′
     → Refusals form b file (answerSized && sized p q) p q r p′ q′
+
+-- ---- one file, one index
+
+-- "Two benches with the same settings must never hold two different programs from one file": nor two indexes. Two calls, whatever their maps and rooms held
+-- before, answer r and t, and leave the maps p and k and the rooms q and l.
+pub record SameIndex (r t : Outcome) (p k q l : List ℕ) : Type 0 where
+  pub outcome : r ≡ t
+  pub map : p ≡ k
+  pub room : IsAccepted r → q ≡ l
+
+-- The claim: of every two calls that keep the builder's contract and are lent buffers of the right lengths.
+abbrev pub SameClaim : Type 0
+SameClaim =
+    (form : ℕ) (b : Bases) (file p q : List ℕ) (r : Outcome) (p′ q′ k l : List ℕ) (t : Outcome) (k′ l′ : List ℕ)
+    → Built form b file true p q r p′ q′
+    → Built form b file true k l t k′ l′
+    → SameIndex r t p′ k′ q′ l′

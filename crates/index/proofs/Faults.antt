@@ -8,6 +8,7 @@ use lib.ListN.{length, replicate}
 use Rattle.answer.proofs.Checks.{on-need}
 use Rattle.answer.specs.Report.{numberOf}
 use Rattle.answer.specs.declared.Fault.{Fault}
+use Rattle.answer.specs.declared.Fault.the-variants.{WrongVersion}
 use Rattle.entries.proofs.Reading.{EntryFault, Where, lies-as, word-there}
 use Rattle.entries.specs.Entries.{fieldsTo}
 use Rattle.entries.specs.declared.IndexEntry.{IndexEntry}
@@ -124,8 +125,8 @@ trace-inside index b s es h (after-step {y = y} t x) =
     omega (arith, k, ap (λ (z : Progress). z .at) (x .leads-to))
 
 -- a fault at the front
-front : (len : ℕ) (fault : Fault) → (5 < numberOf fault → 0 < len) → LocatedEntry len fault 0
-front len fault h = record { at-front = λ _. refl; of-version = λ _. refl; within = omega arith; at-entry = h }
+front : (len : ℕ) (fault : Fault) → (5 < numberOf fault → fault ≡ WrongVersion) → LocatedEntry len fault 0
+front len fault h = record { at-front = λ _. refl; of-version = λ _. refl; within = omega arith; at-entry = λ k n. absurd (n (h k)) }
 
 -- a fault of an entry
 at-entry : (len at : ℕ) (fault : Fault) → at ≤ len → EntryFault len at fault → LocatedEntry len fault at
@@ -134,12 +135,12 @@ at-entry len at fault l h =
       at-front = λ k. absurd (omega (arith, k, h .late));
       of-version = λ e. absurd (omega (arith, ap numberOf e, h .known));
       within = l;
-      at-entry = λ k. let t = h .there k in omega (arith, t);
+      at-entry = λ k _. h .there k;
     }
 
 fails-located : (index : List ℕ) (b : Bases) (fault : Fault) (offset : ℕ) → Fails index b fault offset → LocatedEntry (length index) fault offset
 fails-located index b fault offset (empty h) = front _ _ (λ k. absurd (omega arith))
-fails-located index b fault offset (of-version h k) = front _ _ (λ _. omega (arith, h))
+fails-located index b fault offset (of-version h k) = front _ _ (λ _. refl)
 fails-located index b fault at (in-entry {offset = offset} {s = s} {es = es} h k t c) =
     at-entry _ (s .at) fault (trace-inside index b s es h t) (checked-fault index b s (marks es blank) fault offset c)
 

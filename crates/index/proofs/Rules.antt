@@ -10,7 +10,7 @@ use lib.Dec.{leb, eqb}
 use lib.ListN.{length, getD}
 use Rattle.acx.proofs.Turning.{refused-accepted, as-refused}
 use Rattle.acx.specs.Call.{inRange}
-use Rattle.acx.specs.Walk.{Verdict, accepted, refused}
+use Rattle.acx.specs.Walk.{Verdict, accepted, refused, atOnce}
 use Rattle.answer.specs.Checks.{need}
 use Rattle.answer.specs.declared.Fault.{Fault}
 use Rattle.answer.specs.declared.Fault.the-variants.{SettingOutOfRange, FileTooLong, CutShort, WrongVersion}
@@ -31,7 +31,7 @@ use Rattle.records.specs.declared.Entry.{Entry}
 use Rattle.index.proofs.Turning.{turn-is, turn-accepted, turn-accepts, by-steps, turn-falls}
 use Rattle.index.proofs.Walking.{judged-opens, index-admitted}
 use Rattle.index.specs.Rules.{NextEntry, Follows, Fails, empty, of-version, in-entry, Refuses, out-of-range, too-long, by-index, RulesClaim}
-use Rattle.index.specs.Walk.{applied, Progress, begun, entryAt, checked, judge, turn, entriesFrom, atOnce, judged, formless, indexed}
+use Rattle.index.specs.Walk.{applied, Progress, begun, entryAt, checked, judge, turn, entriesFrom, judged, formless, indexed}
 
 -- ---- the entries
 

@@ -8,7 +8,7 @@ use borrow.Author.Tests.{leb-true, eqb-true}
 use lib.ListN.{length, getD}
 use Rattle.acx.proofs.Turning.{refused-accepted}
 use Rattle.acx.specs.Call.{inRange}
-use Rattle.acx.specs.Walk.{Verdict, accepted, refused}
+use Rattle.acx.specs.Walk.{Verdict, accepted, refused, atOnce}
 use Rattle.answer.specs.Checks.{need}
 use Rattle.answer.specs.declared.Fault.{Fault}
 use Rattle.answer.specs.declared.Fault.the-variants.{CutShort}
@@ -24,7 +24,7 @@ use Rattle.records.specs.declared.Entry.{Entry}
 use Rattle.index.proofs.Hollow.{hollow}
 use Rattle.index.proofs.Turning.{further, turn-events, end-none, turn-accepted, by-steps, turn-falls, events-after}
 use Rattle.index.specs.Rules.{Onward, EndEntry}
-use Rattle.index.specs.Walk.{Progress, begun, entryAt, checked, stepped, turn, entriesFrom, atOnce, judged, formless, indexed}
+use Rattle.index.specs.Walk.{Progress, begun, entryAt, checked, stepped, turn, entriesFrom, judged, formless, indexed}
 
 -- ---- before the entries
 

@@ -5,7 +5,7 @@
 use mathlib.Core.Bool.{true, false}
 use mathlib.Core.List.{List, []}
 use mathlib.Core.Path.{_≡_}
-use Prim.Native.Nat.{ℕ, _≤_, _<_}
+use Prim.Native.Nat.{ℕ, _+_, _≤_, _<_}
 use lib.ListN.{length, getD}
 use Rattle.acx.specs.Call.{inRange}
 use Rattle.acx.specs.Walk.{accepted, refused}
@@ -89,7 +89,7 @@ pub record LocatedEntry (len : ℕ) (fault : Fault) (offset : ℕ) : Type 0 wher
   -- an entry that is cut begins in the index, or would begin at its end
   pub within : offset ≤ len
   -- any other has its length word there
-  pub at-entry : 5 < numberOf fault → offset < len
+  pub at-entry : 5 < numberOf fault → ¬ (fault ≡ WrongVersion) → offset + 2 ≤ len
 
 -- of every index that is refused
 abbrev pub LocatedClaim : Type 0

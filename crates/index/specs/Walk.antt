@@ -6,7 +6,7 @@ use Prim.Native.Nat.{ℕ, _+_}
 use lib.Dec.{leb, eqb}
 use lib.ListN.{length, getD, replicate}
 use Rattle.acx.specs.Call.{inRange}
-use Rattle.acx.specs.Walk.{Verdict, accepted, refused}
+use Rattle.acx.specs.Walk.{Verdict, accepted, refused, atOnce}
 use Rattle.answer.specs.Checks.{need}
 use Rattle.answer.specs.declared.Fault.{Fault}
 use Rattle.answer.specs.declared.Fault.the-variants.{SettingOutOfRange, FileTooLong, CutShort, FixupUnsuited, WrongVersion}
@@ -97,10 +97,6 @@ turn index b s map =
 -- the entries from some progress on, over a map
 unfoldable pub entriesFrom : List ℕ → Bases → Progress → List ℕ → Ran (Verdict Outline)
 entriesFrom index b s map = from (turn index b) (λ z. refused CutShort (z .at)) (λ z. bytesLeft index (z .at)) s map
-
--- a refusal before the first entry
-abbrev pub atOnce : Fault → ℕ → Ran (Verdict Outline)
-atOnce fault offset = record { answer = refused fault offset; events = [] }
 
 -- the whole index: "an empty index is 5, then 24, at offset 0, for another version"
 unfoldable pub judged : List ℕ → Bases → Ran (Verdict Outline)
