@@ -10,15 +10,14 @@ use lib.ListN.{length}
 use Rattle.acx.proofs.Calling.{loaded-wrong}
 use Rattle.acx.specs.Call.{sized, Loaded}
 use Rattle.answer.proofs.Checks.{and-false}
-use Rattle.answer.specs.Checks.{need, pick}
 use Rattle.answer.specs.Report.{numberOf, numberReturned, Written}
 use Rattle.answer.specs.declared.Fault.the-variants.{WrongBuffer}
 use Rattle.answer.specs.declared.Outcome.{Outcome}
 use Rattle.answer.specs.declared.Outcome.the-variants.{Refused}
 use Rattle.builder.proofs.Building.{built-wrong}
 use Rattle.builder.specs.Build.{sized as buildSized, Built}
-use Rattle.moves.proofs.Sources.{counted-refused}
-use Rattle.moves.specs.Call.{callOf, sized as moveSized, ruling, outcomeOf, memoryAfter, mapAfter, scratchAfter, Moved}
+use Rattle.mover.proofs.Judging.{moved-wrong}
+use Rattle.moves.specs.Call.{callOf, sized as moveSized, Moved}
 use Rattle.moves.specs.Sources.{Source}
 use Rattle.pairs.proofs.Pairs.{loads-wrong}
 use Rattle.pairs.specs.Pairs.{Loads}
@@ -58,21 +57,10 @@ module _ {form : ℕ} {b : Bases} {file m p a : List ℕ} {r : ℕ} where
 
 module _ {h : Source} {old new : Bases} {m p s a : List ℕ} {r : ℕ} where
   pub move-unanswered : (length a ≡ 36 → ⊥) → r ≡ numberOf WrongBuffer → MoveCalled (callOf h old new p s (answerSized a)) m a r m p s a
-  unfolding ruling outcomeOf memoryAfter mapAfter scratchAfter need pick
   move-unanswered n e =
       let z : moveSized (callOf h old new p s (answerSized a)) m ≡ false =
       and-false (eqb (length m) 65536 && eqb (length p) 65536 && eqb (length s) 65536) (answerSized a) (ne-eqb _ _ n) in
-      record {
-        outcome = Refused WrongBuffer 0 0;
-        moved = record {
-          outcome = rw z refl;
-          memory = rw z refl;
-          map = rw z refl;
-          scratch = rw z refl;
-          counts = counted-refused (h .format) (length (h .bytes)) WrongBuffer 0 0;
-        };
-        answered = unanswered a r n e;
-      }
+      record { outcome = Refused WrongBuffer 0 0; moved = moved-wrong z refl; answered = unanswered a r n e }
 
   pub move-answered : {o : Outcome} {m′ p′ s′ a′ : List ℕ} → length a ≡ 36 → Moved (callOf h old new p s true) m o m′ p′ s′ → Answered o a r a′
       → MoveCalled (callOf h old new p s (answerSized a)) m a r m′ p′ s′ a′

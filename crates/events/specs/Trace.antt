@@ -12,10 +12,10 @@ pub data Trace {S : Type 0} (Step : S → List Event → S → List Event → Ty
   at-start : Trace Step first first []
   after-step : {y z : S} {es fs : List Event} → Trace Step first y es → Step y es z fs → Trace Step first z (es ++ fs)
 
--- A step of a format with this to find at a state, these checks of it and this way on: what stands at s is neither the last nor a fault, passes, over the
--- map as the events es left it, and leads on to z by the events fs.
-pub record NextStep {S R : Type 0} (Onward : R → Type 0) (there : S → R) (checked : S → List ℕ → Ran Check) (stepped : S → R → S) (s : S) (es : List Event) (z : S)
-    (fs : List Event) : Type 0 where
+-- One step of a format, by what stands at a state (`there`), whether that is neither the last nor a fault (`Onward`), its check over a map (`checked`) and
+-- where it leads (`stepped`): what stands at s passes, over the map as the events es left it, and leads on to z by the events fs.
+pub record NextStep {S R : Type 0} (Onward : R → Type 0) (there : S → R) (checked : S → List ℕ → Ran Check) (stepped : S → R → S)
+    (s : S) (es : List Event) (z : S) (fs : List Event) : Type 0 where
   pub onward : Onward (there s)
   pub passes : checked s (marks es blank) ≡ passed fs
   pub leads-to : z ≡ stepped s (there s)

@@ -154,9 +154,10 @@ outcome-counted h b (refuses fault at side) e =
 -- ---- whatever the buffers
 
 module _ {c : Call} {m : List ℕ} where
-  other : {r : Outcome} → sized c m ≡ false → r ≡ Refused WrongBuffer 0 0 → Moved c m r m (c .map) (c .scratch)
+  -- "Refusal 1 changes nothing"
+  pub moved-wrong : {r : Outcome} → sized c m ≡ false → r ≡ Refused WrongBuffer 0 0 → Moved c m r m (c .map) (c .scratch)
   unfolding ruling need pick outcomeOf memoryAfter mapAfter scratchAfter
-  other h e =
+  moved-wrong h e =
       record {
         outcome = rw (h, e) refl;
         memory = rw h refl;
@@ -165,17 +166,17 @@ module _ {c : Call} {m : List ℕ} where
         counts = outcome-counted (c .source) (c .new) (refuses WrongBuffer 0 0) e;
       }
 
-  -- memory, map or scratch of another length: 1, and nothing is done
+  -- so do a memory, a map and a scratch of another length
   pub moved-memory : {r : Outcome} → (length m ≡ 65536 → ⊥) → r ≡ Refused WrongBuffer 0 0 → Moved c m r m (c .map) (c .scratch)
-  moved-memory h e = other (rw (ne-eqb _ _ h) refl) e
+  moved-memory h e = moved-wrong (rw (ne-eqb _ _ h) refl) e
 
   pub moved-map : {r : Outcome} → length m ≡ 65536 → (length (c .map) ≡ 65536 → ⊥) → r ≡ Refused WrongBuffer 0 0
       → Moved c m r m (c .map) (c .scratch)
-  moved-map g h e = other (rw (eq-eqb _ _ g, ne-eqb _ _ h) refl) e
+  moved-map g h e = moved-wrong (rw (eq-eqb _ _ g, ne-eqb _ _ h) refl) e
 
   pub moved-scratch : {r : Outcome} → length m ≡ 65536 → length (c .map) ≡ 65536 → (length (c .scratch) ≡ 65536 → ⊥)
       → r ≡ Refused WrongBuffer 0 0 → Moved c m r m (c .map) (c .scratch)
-  moved-scratch g i h e = other (rw (eq-eqb _ _ g, eq-eqb _ _ i, ne-eqb _ _ h) refl) e
+  moved-scratch g i h e = moved-wrong (rw (eq-eqb _ _ g, eq-eqb _ _ i, ne-eqb _ _ h) refl) e
 
   -- with the right lengths it is the call that was done
   pub moved-sized : {r : Outcome} {m′ p′ s′ : List ℕ} → c .answerSized ≡ true → length m ≡ 65536 → length (c .map) ≡ 65536
