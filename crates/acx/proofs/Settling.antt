@@ -9,6 +9,7 @@ use Rattle.pieces.specs.declared.Bases.{Bases}
 use Rattle.records.specs.declared.Entry.{Entry}
 use Rattle.acx.proofs.Turning.{refused-accepted, accepted-same}
 use Rattle.acx.proofs.Unfit.{fits-not-unfit, unfit-same}
+use Rattle.acx.specs.Rules.{ByRules}
 use Rattle.acx.specs.Walk.{Verdict, accepted, refused}
 use Rattle.acx.specs.Where.{HandlerFits, HandlerUnfit, AcceptedWhere}
 
@@ -39,15 +40,12 @@ module _ {P : Type 0} {b : Bases} {os : List Outline} {ps : List P} {entry : Ent
 
   -- where rules say what the verdict is, both ways, they accept where the handler fits
   pub settled-where : {Accepts : List P → Entry → Type 0} {Refuses : Fault → ℕ → Type 0} {v : Verdict P} → Settles b os ps entry v
-      → ((qs : List P) (other : Entry) → Accepts qs other → v ≡ accepted qs other)
-      → ((qs : List P) (other : Entry) → v ≡ accepted qs other → Accepts qs other)
-      → ((fault : Fault) (at : ℕ) → Refuses fault at → v ≡ refused fault at)
-      → ((fault : Fault) (at : ℕ) → v ≡ refused fault at → Refuses fault at)
+      → ByRules Accepts Refuses v
       → AcceptedWhere Accepts Refuses os ps entry b
-  settled-where s accepts accepts-only refuses refuses-only =
+  settled-where s rules =
       record {
-        accepts = λ f. accepts-only ps entry (settled-accepts s f);
-        accepts-only = λ qs other k. settled-accepted s (accepts qs other k);
-        refuses = λ fault l. let x = settled-refuses s l in (x .0, refuses-only fault (x .0) (x .1));
-        refuses-only = λ fault offset k. settled-refused s (refuses fault offset k);
+        accepts = λ f. rules .accepts-only ps entry (settled-accepts s f);
+        accepts-only = λ qs other k. settled-accepted s (rules .accepts qs other k);
+        refuses = λ fault l. let x = settled-refuses s l in (x .0, rules .refuses-only fault (x .0) (x .1));
+        refuses-only = λ fault offset k. settled-refused s (rules .refuses fault offset k);
       }

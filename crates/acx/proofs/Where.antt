@@ -35,13 +35,13 @@ use Rattle.acx.proofs.Demand2.{well-placed-of}
 use Rattle.acx.proofs.Settling.{Settles, fits, unfit, settled-where}
 use Rattle.acx.proofs.Unfit.{unfit-fields}
 use Rattle.acx.proofs.Rules.{judged-records, load-judged, by-rules}
-use Rattle.acx.proofs.Turning.{refused-accepted, accepted-same, turn-is, checked-fixups, end-answers, code-answers}
+use Rattle.acx.proofs.Turning.{turn-is, checked-fixups, end-answers, code-answers}
 use Rattle.acx.proofs.Walking.{opening-fits, Passes}
 use Rattle.acx.proofs.WellPlaced.{fits-map, code-fits, fields-fit}
 use Rattle.acx.specs.Call.{formOf, load}
 use Rattle.acx.specs.Rules.{Onward, NextRecord, Follows}
-use Rattle.acx.specs.Walk.{Verdict, accepted, refused, Progress, begun, lastOf, lastPlace, lastSize, recordAt, checked, withFields, stepped, recordsOf, opening, openingSize, judged}
-use Rattle.acx.specs.Where.{HandlerFits, PiecesUnfit, earlier, too-high, overlaps, HandlerUnfit, of-pieces, of-start, WhereClaim}
+use Rattle.acx.specs.Walk.{Verdict, refused, Progress, begun, lastOf, lastPlace, lastSize, recordAt, checked, withFields, stepped, recordsOf, opening, openingSize, judged}
+use Rattle.acx.specs.Where.{PiecesUnfit, earlier, too-high, overlaps, HandlerUnfit, of-pieces, of-start, WhereClaim}
 use Rattle.acx.specs.declared.Cursor.{Cursor}
 use Rattle.acx.specs.declared.Form.{Form}
 
@@ -213,5 +213,4 @@ accepted-where-fits form file a ps entry h b r =
     let s : Settles b (map outline ps) ps entry (load form b file .answer) =
     subst (Settles b (map outline ps) ps entry) (sym judged-here)
     (settles (formOf form) file b ps entry (follows-holds (formOf form) file a ps entry (h .follows)) sound) in
-    let rules = by-rules form b file in
-    settled-where s (rules .accepts) (rules .accepts-only) (rules .refuses) (rules .refuses-only)
+    settled-where s (by-rules form b file)

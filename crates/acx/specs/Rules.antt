@@ -19,7 +19,7 @@ use Rattle.records.specs.declared.Record.the-variants.{Code, Fixups, End, Fault
 use Rattle.pieces.specs.Pieces.{Piece}
 use Rattle.pieces.specs.declared.Bases.{Bases}
 use Rattle.acx.specs.Call.{formOf, inRange, load}
-use Rattle.acx.specs.Walk.{accepted, refused, Progress, begun, recordAt, checked, stepped, opening, openingSize}
+use Rattle.acx.specs.Walk.{Verdict, accepted, refused, Progress, begun, recordAt, checked, stepped, opening, openingSize}
 use Rattle.acx.specs.declared.Form.{Form}
 
 -- ---- the file
@@ -76,13 +76,13 @@ pub data Refuses (form : ℕ) (b : Bases) (file : List ℕ) : Fault → ℕ → 
 
 -- ---- the claim
 
--- The loader's definition accepts and refuses exactly so.
-pub record ByRules (form : ℕ) (b : Bases) (file : List ℕ) : Type 0 where
-  pub accepts : (ps : List Piece) (entry : Entry) → Accepts form b file ps entry → load form b file .answer ≡ accepted ps entry
-  pub accepts-only : (ps : List Piece) (entry : Entry) → load form b file .answer ≡ accepted ps entry → Accepts form b file ps entry
-  pub refuses : (fault : Fault) (at : ℕ) → Refuses form b file fault at → load form b file .answer ≡ refused fault at
-  pub refuses-only : (fault : Fault) (at : ℕ) → load form b file .answer ≡ refused fault at → Refuses form b file fault at
+-- A verdict is what rules say: accepted and refused exactly so. (Of a load by pieces; crates/index says it of an index, by outlines.)
+pub record ByRules {P : Type 0} (Accepts : List P → Entry → Type 0) (Refuses : Fault → ℕ → Type 0) (v : Verdict P) : Type 0 where
+  pub accepts : (ps : List P) (entry : Entry) → Accepts ps entry → v ≡ accepted ps entry
+  pub accepts-only : (ps : List P) (entry : Entry) → v ≡ accepted ps entry → Accepts ps entry
+  pub refuses : (fault : Fault) (at : ℕ) → Refuses fault at → v ≡ refused fault at
+  pub refuses-only : (fault : Fault) (at : ℕ) → v ≡ refused fault at → Refuses fault at
 
--- of every file, at all settings
+-- of every file, at all settings: the loader's definition
 abbrev pub RulesClaim : Type 0
-RulesClaim = (form : ℕ) (b : Bases) (file : List ℕ) → ByRules form b file
+RulesClaim = (form : ℕ) (b : Bases) (file : List ℕ) → ByRules (Accepts form b file) (Refuses form b file) (load form b file .answer)

@@ -14,9 +14,9 @@ use Rattle.answer.specs.declared.Outcome.the-variants.{Accepted, Refused
 
 -- the table "Numbers a bench can show"; 24 and 25 by document 02, wish 5
 abbrev pub numberOf : Fault → ℕ
-numberOf WrongBuffer = 1  -- memory, map, scratch, new-name buffers or C answer of another length; known names not eight bytes per address, or over 256
+numberOf WrongBuffer = 1  -- memory, map, scratch, room for an index, new-name buffers or C answer of another length; known names not eight bytes per address, or over 256
 numberOf SettingOutOfRange = 2  -- a setting outside its range
-numberOf FileTooLong = 3  -- file longer than 65,536
+numberOf FileTooLong = 3  -- file longer than 65,536, and an index
 numberOf WrongOpening = 4  -- wrong opening
 numberOf CutShort = 5  -- cut short
 numberOf NotKnown = 6  -- unknown type, flag, block number or memory kind

@@ -11,7 +11,7 @@ use Rattle.acx.specs.Cursor.{firstCursor, advanced}
 use Rattle.acx.specs.Rules.{Onward}
 use Rattle.acx.specs.Walk.{Verdict, accepted, Progress, begun, lastOf, recordAt, withFields, stepped, recordsOf}
 use Rattle.acx.specs.declared.Cursor.{Cursor}
-use Rattle.entries.specs.Bytes.{version, codeBytes, endBytes, entryOf, codeEntries, indexBytes}
+use Rattle.entries.specs.Bytes.{version, codeBytes, endBytes, withLength, codeEntries, indexBytes}
 use Rattle.events.proofs.Events.{length-blank}
 use Rattle.events.specs.Events.{blank, Ran}
 use Rattle.fields.specs.Fields.{itemSize, fieldsOf}
@@ -84,8 +84,8 @@ unfolding roomWith codeEntries
 room-on file l s (Code kind address from n) e o =
     let h = lies-as file (s .at) (lastOf (s .pieces)) _ e .1 in
     rw (length-part file from n h)
-    (ap (λ (i : ℕ). put (put l 0 (held (outlines s))) i (entryOf (codeBytes (bare kind address n)))) (used-is (outlines s))
-    ∙ appended l (held (outlines s)) (entryOf (codeBytes (bare kind address n))))
+    (ap (λ (i : ℕ). put (put l 0 (held (outlines s))) i (withLength (codeBytes (bare kind address n)))) (used-is (outlines s))
+    ∙ appended l (held (outlines s)) (withLength (codeBytes (bare kind address n))))
 room-on file l s (Fixups fixup from n) e o =
     fields-filled l fixup (part file from n) (s .pieces) (fixups-after file (s .at) (lastOf (s .pieces)) fixup from n e)
 room-on file l s (End entry next) e o = absurd o
@@ -146,15 +146,15 @@ module _ {file : List ℕ} {b : Bases} {first : ℕ} where
               omega (arith, used-so-far, all, length-index (map outline qs) entry, fits, filling-long)
 
           -- with which it holds the index
-          pub filling-end : {room′ bs : List ℕ} → room′ ≡ put room (f .used) (entryOf (endBytes other)) → bs ≡ indexOf qs entry → room′ ≡ put blank 0 bs
+          pub filling-end : {room′ bs : List ℕ} → room′ ≡ put room (f .used) (withLength (endBytes other)) → bs ≡ indexOf qs entry → room′ ≡ put blank 0 bs
           unfolding indexBytes
           filling-end {room′} {bs} w k =
               w
-              ∙ ap (λ (r : List ℕ). put r (f .used) (entryOf (endBytes other))) (x .filled)
-              ∙ ap (λ (i : ℕ). put (put blank 0 (held (outlines (x .progress)))) i (entryOf (endBytes other))) used-so-far
-              ∙ appended blank (held (outlines (x .progress))) (entryOf (endBytes other))
-              ∙ ap (λ (ps : List Piece). put blank 0 (held (map outline ps) ++ entryOf (endBytes other))) all-there
-              ∙ ap (λ (t : Entry). put blank 0 (held (map outline qs) ++ entryOf (endBytes t))) (tracks-to-entry (x .tracks) yes here e)
+              ∙ ap (λ (r : List ℕ). put r (f .used) (withLength (endBytes other))) (x .filled)
+              ∙ ap (λ (i : ℕ). put (put blank 0 (held (outlines (x .progress)))) i (withLength (endBytes other))) used-so-far
+              ∙ appended blank (held (outlines (x .progress))) (withLength (endBytes other))
+              ∙ ap (λ (ps : List Piece). put blank 0 (held (map outline ps) ++ withLength (endBytes other))) all-there
+              ∙ ap (λ (t : Entry). put blank 0 (held (map outline qs) ++ withLength (endBytes t))) (tracks-to-entry (x .tracks) yes here e)
               ∙ ap (put blank 0) (sym k)
 
         module _ (o : Onward found) where

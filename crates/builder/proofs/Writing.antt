@@ -9,7 +9,8 @@ use borrow.Rule.Slice.PartMut.{midOf}
 use lib.ListN.{length, getD, length-append, set, replicate}
 use Rattle.answer.specs.declared.Fault.{Fault}
 use Rattle.entries.proofs.ReadBack.{length-fixup-bytes, length-code-bytes, length-entry}
-use Rattle.entries.specs.Bytes.{version, fixupBytes, codeBytes, endBytes, entryOf, codeEntries, indexBytes, flagOf, addressIn, endType}
+use Rattle.entries.specs.Bytes.{version, fixupBytes, codeBytes, endBytes, withLength, codeEntries, indexBytes}
+use Rattle.records.specs.Types.{codeType, fixupType, flagOf, addressIn, endType}
 use Rattle.events.proofs.Events.{cleared}
 use Rattle.events.specs.Events.{blank}
 use Rattle.fields.proofs.Listing.{length-fields}
@@ -17,7 +18,6 @@ use Rattle.fields.specs.Fields.{itemSize, fieldsOf}
 use Rattle.fields.specs.declared.Field.{Field}
 use Rattle.fields.specs.declared.Fixup.{Fixup}
 use Rattle.pieces.specs.Pieces.{Outline}
-use Rattle.records.specs.Types.{codeType, fixupType}
 use Rattle.records.specs.declared.Entry.{Entry}
 use Rattle.records.specs.declared.Kind.{Kind}
 use Rattle.records.specs.declared.Last.{Last}
@@ -38,13 +38,13 @@ held os = version ∷ codeEntries os
 
 -- with the end record there are six bytes more
 pub length-index : (os : List Outline) (entry : Entry) → length (indexBytes os entry) ≡ length (held os) + 6
-unfolding indexBytes entryOf endBytes bigDigits digits
-length-index os entry = length-append (held os) (entryOf (endBytes entry))
+unfolding indexBytes withLength endBytes bigDigits digits
+length-index os entry = length-append (held os) (withLength (endBytes entry))
 
 -- an outline brings its entry
 pub length-held : (o : Outline) (os : List Outline) → length (held (o ∷ os)) ≡ length (held os) + 6 + 3 * length (o .fields)
 unfolding codeEntries
-length-held o os = omega (arith, length-append (codeEntries os) (entryOf (codeBytes o)), length-entry (codeBytes o), length-code-bytes o)
+length-held o os = omega (arith, length-append (codeEntries os) (withLength (codeBytes o)), length-entry (codeBytes o), length-code-bytes o)
 
 -- the fixups of some fields after those of others
 fixups-append : (kind : Kind) (fs gs : List Field) → fixupBytes kind (fs ++ gs) ≡ fixupBytes kind fs ++ fixupBytes kind gs
@@ -66,15 +66,15 @@ opened e h = ap (λ (r : List ℕ). set r 0 version) (cleared _ _ h e)
 -- the entry of a code record: its length, its type, its address and its size
 pub code-stored : (l l₁ l₃ : List ℕ) (at address n t : ℕ) (kind : Kind) → l₁ ≡ bigStore 2 l at 4 → t ≡ codeType kind
     → l₃ ≡ bigStore 2 (set l₁ (at + 2) t) (at + 3) address
-    → set l₃ (at + 5) n ≡ put l at (entryOf (codeBytes (bare kind address n)))
-unfolding bigStore bigDigits digits put entryOf codeBytes fixupBytes
+    → set l₃ (at + 5) n ≡ put l at (withLength (codeBytes (bare kind address n)))
+unfolding bigStore bigDigits digits put withLength codeBytes fixupBytes
 code-stored l l₁ l₃ at address n t kind e et f = rw (f, e, et, add-two, add-three, add-five) refl
 
 -- the entry of the end record: its length, its type, its flag and its address
 pub end-stored : (l l₁ l₃ : List ℕ) (at flag address : ℕ) (entry : Entry) → l₁ ≡ bigStore 2 l at 4 → flag ≡ flagOf entry → address ≡ addressIn entry
     → l₃ ≡ bigStore 2 (set (set l₁ (at + 2) endType) (at + 3) flag) (at + 4) address
-    → l₃ ≡ put l at (entryOf (endBytes entry))
-unfolding bigStore bigDigits digits put entryOf endBytes
+    → l₃ ≡ put l at (withLength (endBytes entry))
+unfolding bigStore bigDigits digits put withLength endBytes
 end-stored l l₁ l₃ at flag address entry e ef ea f = rw (f, e, ef, ea, add-two, add-three, add-four) refl
 
 -- a fixup: its kind, its index and its LSB
@@ -131,7 +131,7 @@ code-more fs o = ap (λ (t : List ℕ). codeType (o .kind) ∷ bigDigits 2 (o .a
 pub fields-closed : (l : List ℕ) (o : Outline) (os : List Outline) (fixup : Fixup) (items : List ℕ)
     → closed (o .kind) fixup items (record { entry = length (held os); used = length (held (o ∷ os)) }) (put l 0 (held (o ∷ os)))
     ≡ put l 0 (held (more (fieldsOf fixup items) o ∷ os))
-unfolding closed codeEntries entryOf
+unfolding closed codeEntries withLength
 fields-closed l o os fixup items =
     let fs = fieldsOf fixup items in
     let ts : List ℕ = fixupBytes (o .kind) fs in
@@ -224,12 +224,12 @@ fixups-lent file used r fixup from n e h l k =
 module _ (file : List ℕ) (last : Last) (f : Front) (room : List ℕ) {r : Record} where
   -- code
   pub writes-code : {kind : Kind} {address from n m : ℕ} {room′ : List ℕ} → r ≡ Code kind address from n → m ≡ n + 2
-      → room′ ≡ put room (f .used) (entryOf (codeBytes (bare kind address (m - 2))))
+      → room′ ≡ put room (f .used) (withLength (codeBytes (bare kind address (m - 2))))
       → room′ ≡ roomWith file last f room r
   unfolding roomWith
   writes-code {kind} {address} {from} {n} {m} {room′} e h w =
       let k : m - 2 ≡ n = omega arith in
-      rw e (w ∙ ap (λ (i : ℕ). put room (f .used) (entryOf (codeBytes (bare kind address i)))) k)
+      rw e (w ∙ ap (λ (i : ℕ). put room (f .used) (withLength (codeBytes (bare kind address i)))) k)
 
   -- fixups
   pub writes-fixups : {fixup : Fixup} {from n : ℕ} {kind : Kind} {room′ : List ℕ} → r ≡ Fixups fixup from n → kind ≡ kindOf last

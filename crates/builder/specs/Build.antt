@@ -14,7 +14,7 @@ use Rattle.answer.specs.Report.{placedOf, adjustedOf}
 use Rattle.answer.specs.declared.Fault.the-variants.{WrongBuffer, IndexTooLong}
 use Rattle.answer.specs.declared.Outcome.{Outcome}
 use Rattle.answer.specs.declared.Outcome.the-variants.{Accepted, Refused}
-use Rattle.entries.specs.Bytes.{indexBytes}
+use Rattle.entries.specs.Bytes.{roomSize, indexBytes}
 use Rattle.events.specs.Events.{Event, blank, placedIn, adjustedIn, Ran}
 use Rattle.events.specs.Sizes.{memorySize}
 use Rattle.pieces.specs.AtBases.{startOf}
@@ -29,12 +29,12 @@ indexOf ps entry = indexBytes (map outline ps) entry
 
 -- "after the load's refusals, 25 at offset 0 where the index wouldn't fit" in the 65,536 bytes that the bench lends
 abbrev pub fitted : Verdict Piece → Verdict Piece
-fitted (accepted ps entry) = need refused (leb (length (indexOf ps entry)) memorySize) IndexTooLong 0 (accepted ps entry)
+fitted (accepted ps entry) = need refused (leb (length (indexOf ps entry)) roomSize) IndexTooLong 0 (accepted ps entry)
 fitted (refused fault at) = refused fault at
 
 -- "A map of 65,536 bytes"; "the bench lends 65,536 bytes (else 1)"
 abbrev pub sized : List ℕ → List ℕ → Bool
-sized map room = eqb (length map) memorySize && eqb (length room) memorySize
+sized map room = eqb (length map) memorySize && eqb (length room) roomSize
 
 -- a build where the lengths of all that is lent are right, or are not: 1 first
 unfoldable pub build : ℕ → Bases → List ℕ → Bool → Ran (Verdict Piece)

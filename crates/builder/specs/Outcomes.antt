@@ -17,8 +17,9 @@ use Rattle.answer.specs.declared.Fault.the-variants.{WrongBuffer, IndexTooLong}
 use Rattle.answer.specs.declared.Outcome.{Outcome}
 use Rattle.answer.specs.declared.Outcome.the-variants.{Accepted}
 use Rattle.answer.specs.declared.Start.{Start}
+use Rattle.entries.specs.Bytes.{roomSize}
 use Rattle.events.specs.Events.{blank}
-use Rattle.events.specs.Sizes.{memorySize, fileLimit}
+use Rattle.events.specs.Sizes.{fileLimit}
 use Rattle.index.specs.Built.{BuiltFrom}
 use Rattle.pieces.specs.AtBases.{startOf}
 use Rattle.pieces.specs.Pieces.{Piece, size}
@@ -35,11 +36,11 @@ pub record AcceptedBuild (form : ℕ) (b : Bases) (file : List ℕ) (start : Sta
   pub pieces : List Piece
   pub entry : Entry
   pub accepts : Accepts form b file pieces entry
-  -- "low in the answer is how many were used": these hold the index of its pieces, "and the unfilled rest .. is zero"
+  -- "low in the answer is how many were used": these hold the index of its pieces; "The unfilled rest .. is zero"
   pub index : part q′ 0 low ≡ indexOf pieces entry
-  pub fits : low ≤ memorySize
+  pub fits : low ≤ roomSize
   pub rest : (x : ℕ) → low ≤ x → getD q′ x 0 ≡ 0
-  pub room : length q′ ≡ memorySize
+  pub room : length q′ ≡ roomSize
   -- so they are an index built from the file
   pub built : BuiltFrom form file (part q′ 0 low)
   -- "with its load's map, answer": of any call of the loader there that is lent buffers of the right lengths (a load has no low, and reports 0)
@@ -52,7 +53,7 @@ pub record Exactly (form : ℕ) (b : Bases) (file : List ℕ) (right : Bool) (r 
   pub only : (start : Start) (placed adjusted names low : ℕ) → r ≡ Accepted start placed adjusted names low
       → (right ≡ true) × (names ≡ 0) × AcceptedBuild form b file start placed adjusted low p′ q′
   -- and always then, if the index fits, with its length
-  pub all : right ≡ true → (ps : List Piece) (entry : Entry) → Accepts form b file ps entry → length (indexOf ps entry) ≤ memorySize
+  pub all : right ≡ true → (ps : List Piece) (entry : Entry) → Accepts form b file ps entry → length (indexOf ps entry) ≤ roomSize
       → r ≡ Accepted (startOf b entry) (total size ps) (total (λ p. length (p .fields)) ps) 0 (length (indexOf ps entry))
 
 -- The claim: of every call that keeps the builder's contract. (answerSized: a C answer, if one is lent, has its length.)
@@ -76,7 +77,7 @@ pub record RefusedBuild (fault : Fault) (p q p′ q′ : List ℕ) : Type 0 wher
 -- index wouldn't fit"
 pub data RefusesBuild (form : ℕ) (b : Bases) (file : List ℕ) : Fault → ℕ → Type 0 where
   by-load : {fault : Fault} {offset : ℕ} → Refuses form b file fault offset → RefusesBuild form b file fault offset
-  too-long : {ps : List Piece} {entry : Entry} → Accepts form b file ps entry → memorySize < length (indexOf ps entry)
+  too-long : {ps : List Piece} {entry : Entry} → Accepts form b file ps entry → roomSize < length (indexOf ps entry)
       → RefusesBuild form b file IndexTooLong 0
 
 -- A call that answered r, where the lengths of all that is lent are right or not.

@@ -7,7 +7,7 @@ use lib.ListN.{length, getD}
 use Rattle.acx.specs.Walk.{Verdict, accepted, refused}
 use Rattle.answer.specs.declared.Outcome.{Outcome}
 use Rattle.answer.specs.declared.Outcome.the-variants.{Accepted, Refused}
-use Rattle.entries.specs.Bytes.{fixupBytes, codeBytes, entryOf}
+use Rattle.entries.specs.Bytes.{fixupBytes, codeBytes, withLength}
 use Rattle.fields.specs.Fields.{itemSize, fieldsOf}
 use Rattle.fields.specs.declared.Fixup.{Fixup}
 use Rattle.pieces.specs.Pieces.{Piece, Outline}
@@ -63,7 +63,7 @@ closed kind fixup items f room =
 
 -- the room after a record
 unfoldable pub roomWith : List ℕ → Last → Front → List ℕ → Record → List ℕ
-roomWith file last f room (Code kind address from n) = put room (f .used) (entryOf (codeBytes (bare kind address n)))
+roomWith file last f room (Code kind address from n) = put room (f .used) (withLength (codeBytes (bare kind address n)))
 roomWith file last f room (Fixups fixup from n) = closed (kindOf last) fixup (part file from n) f room
 roomWith file last f room (End entry next) = room
 roomWith file last f room (Faulty fault offset) = room

@@ -22,15 +22,10 @@ ghost use Rattle.pieces.specs.Pieces.{basesAt};
 ghost use Rattle.pieces.specs.AtBases.{EndsBy};
 ghost use Rattle.acx.specs.Call.{load};
 ghost use Rattle.acx.specs.Walk.{reported};
-ghost use Rattle.entries.specs.Bytes.{version, fixupBytes, codeBytes, flagOf, addressIn, endBytes, entryOf};
+ghost use Rattle.entries.specs.Bytes.{version, fixupBytes, codeBytes, endBytes, withLength};
+ghost use Rattle.records.specs.Types.{flagOf, addressIn};
 ghost use Rattle.builder.specs.Build.{sized, Built};
 ghost use Rattle.builder.specs.Parts.{bytesOf, withLow, bare, kindOf, brings, frontAfter, closed, roomWith, Sound};
-
-// The first byte of an index.
-const VERSION: u8 = 1;
-
-// The type byte of the end record.
-const END: u8 = 0x0B;
 
 // How far the room is filled: where the last entry begins, and where the next one would.
 pub struct Front {
@@ -206,7 +201,7 @@ fn open_index(index: &mut [u8])
     ensures { λ _. ⌜ now (index .exit) ≡ put blank 0 (version ∷ []) ⌝ }
 {
     words::fill(index, 0);
-    index[0] = VERSION;
+    index[0] = entries::VERSION;
 }
 
 // How far the room is filled behind a record.
@@ -268,7 +263,7 @@ fn kind_of(last: Last) -> Kind
 // Writes the entry of a code record without fixups.
 fn write_code(kind: Kind, address: u16, size: u8, at: usize, index: &mut [u8])
     requires { ⌜ (at + 6 ≤ length (now index)) × (length (now index) ≡ 65536) ⌝ }
-    ensures { λ _. ⌜ now (index .exit) ≡ put (now (index .entry)) at (entryOf (codeBytes (bare kind address size))) ⌝ }
+    ensures { λ _. ⌜ now (index .exit) ≡ put (now (index .entry)) at (withLength (codeBytes (bare kind address size))) ⌝ }
 {
     words::put_big_word(index, at, 4);
     index[at + 2] = records::code_type(kind);
@@ -317,10 +312,10 @@ fn write_field(kind: Kind, field: Field, at: usize, index: &mut [u8])
 // Writes the entry of the end record.
 fn write_end(entry: Entry, at: usize, index: &mut [u8])
     requires { ⌜ (at + 6 ≤ length (now index)) × (length (now index) ≡ 65536) ⌝ }
-    ensures { λ _. ⌜ now (index .exit) ≡ put (now (index .entry)) at (entryOf (endBytes entry)) ⌝ }
+    ensures { λ _. ⌜ now (index .exit) ≡ put (now (index .entry)) at (withLength (endBytes entry)) ⌝ }
 {
     words::put_big_word(index, at, 4);
-    index[at + 2] = END;
+    index[at + 2] = records::END_TYPE;
     index[at + 3] = flag(entry);
     words::put_big_word(index, at + 4, address_in(entry));
 }

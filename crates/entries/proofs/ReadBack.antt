@@ -15,7 +15,6 @@ use Rattle.fields.specs.declared.Field.{Field}
 use Rattle.pieces.specs.Pieces.{Outline}
 use Rattle.records.proofs.Types.{code-type-back, fixups-suit, fixup-type-back}
 use Rattle.records.specs.Records.{typeOf}
-use Rattle.records.specs.Types.{codeType, fixupType}
 use Rattle.records.specs.declared.Entry.{Entry}
 use Rattle.records.specs.declared.Entry.the-variants.{Nowhere, Fixed, Relative}
 use Rattle.records.specs.declared.Kind.{Kind}
@@ -23,7 +22,8 @@ use Rattle.words.proofs.Big.{length-big-digits, big-value-there}
 use Rattle.words.specs.Numbers.{digits, bigDigits, bigValue}
 use Rattle.words.specs.Runs.{part}
 use Rattle.entries.proofs.Reading.{FieldBytes}
-use Rattle.entries.specs.Bytes.{fixupBytes, codeBytes, flagOf, addressIn, endBytes, entryOf}
+use Rattle.entries.specs.Bytes.{fixupBytes, codeBytes, endBytes, withLength}
+use Rattle.records.specs.Types.{codeType, fixupType, flagOf, addressIn}
 use Rattle.entries.specs.Entries.{readCode, readEnd, readAs, read, lsbFor, listed, joined, fieldsTo, allSuit}
 use Rattle.entries.specs.declared.IndexEntry.the-variants.{Code, End}
 use Rattle.entries.specs.declared.Listed.{Listed}
@@ -81,22 +81,22 @@ unfolding endBytes bigDigits digits
 length-end-bytes entry = refl
 
 -- with its length word
-pub length-entry : (bytes : List ℕ) → length (entryOf bytes) ≡ 2 + length bytes
-unfolding entryOf bigDigits digits
+pub length-entry : (bytes : List ℕ) → length (withLength bytes) ≡ 2 + length bytes
+unfolding withLength bigDigits digits
 length-entry bytes = omega arith
 
 -- ---- an entry where it stands
 
-module _ (index : List ℕ) (at : ℕ) (bytes rest : List ℕ) (is : drop at index ≡ entryOf bytes ++ rest) where
+module _ (index : List ℕ) (at : ℕ) (bytes rest : List ℕ) (is : drop at index ≡ withLength bytes ++ rest) where
   -- it ends in the index
   pub entry-ends : length index ≡ at + 2 + length bytes + length rest
   entry-ends =
-      let e : length index - at ≡ length (entryOf bytes) + length rest = sym (length-drop at index) ∙ ap length is ∙ length-append (entryOf bytes) rest in
+      let e : length index - at ≡ length (withLength bytes) + length rest = sym (length-drop at index) ∙ ap length is ∙ length-append (withLength bytes) rest in
       omega (arith, e, length-entry bytes)
 
   -- its length word and its bytes
   entry-word : drop at index ≡ bigDigits 2 (length bytes) ++ (bytes ++ rest)
-  unfolding entryOf
+  unfolding withLength
   entry-word = is ∙ append-assoc (bigDigits 2 (length bytes)) bytes rest
 
   -- the bytes from some byte of it on
@@ -133,7 +133,7 @@ module _ (index : List ℕ) (at : ℕ) (bytes rest : List ℕ) (is : drop at ind
 
 -- ---- a code record's
 
-module _ (index : List ℕ) (at : ℕ) (o : Outline) (rest : List ℕ) (is : drop at index ≡ entryOf (codeBytes o) ++ rest) where
+module _ (index : List ℕ) (at : ℕ) (o : Outline) (rest : List ℕ) (is : drop at index ≡ withLength (codeBytes o) ++ rest) where
   -- where it ends
   pub code-ends : length index ≡ at + 6 + 3 * length (o .fields) + length rest
   code-ends = omega (arith, entry-ends index at (codeBytes o) rest is, length-code-bytes o)
@@ -189,7 +189,7 @@ read-end index at Nowhere f a = rw f refl
 read-end index at (Fixed address) f a = rw (f, a) refl
 read-end index at (Relative address) f a = rw (f, a) refl
 
-module _ (index : List ℕ) (at : ℕ) (entry : Entry) (rest : List ℕ) (is : drop at index ≡ entryOf (endBytes entry) ++ rest) where
+module _ (index : List ℕ) (at : ℕ) (entry : Entry) (rest : List ℕ) (is : drop at index ≡ withLength (endBytes entry) ++ rest) where
   -- where it ends
   pub end-ends : length index ≡ at + 6 + length rest
   end-ends = omega (arith, entry-ends index at (endBytes entry) rest is, length-end-bytes entry)

@@ -23,7 +23,7 @@ use Rattle.records.specs.declared.RecordType.the-variants.{Code as code, Fixups
 use Rattle.words.proofs.Big.{big-value-word}
 use Rattle.words.specs.Numbers.{bigValue}
 use Rattle.words.specs.Runs.{Bytes}
-use Rattle.entries.specs.Bytes.{addressIn}
+use Rattle.records.specs.Types.{addressIn}
 use Rattle.entries.specs.Entries.{faulty, readCode, readEnd, readAs, read, lsbFor, listed, InBytes, joined, fieldsTo, allSuit}
 use Rattle.entries.specs.declared.IndexEntry.{IndexEntry}
 use Rattle.entries.specs.declared.IndexEntry.the-variants.{Code, End, Faulty}

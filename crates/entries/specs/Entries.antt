@@ -77,11 +77,6 @@ listed before (fixups kind fixup) index lsb =
 listed before end index lsb = Unsuited
 listed before unknown index lsb = Unsuited
 
--- the index and the LSB of what is listed are bytes
-abbrev pub InBytes : Listed → Type 0
-InBytes (Suited f) = (f .index < 256) × (f .lsb < 256)
-InBytes Unsuited = Unit {0}
-
 -- a field before others; a bad kind ends the list
 abbrev pub joined : Listed → List Field → List Field
 joined (Suited f) fs = f ∷ fs
@@ -97,3 +92,8 @@ fieldsTo kind (t ∷ index ∷ []) = []
 -- whether no kind is bad: each fixup lists its field
 unfoldable pub allSuit : Kind → List ℕ → Bool
 allSuit kind items = eqb (3 * length (fieldsTo kind items)) (length items)
+
+-- for the contract of `listed_at` alone: the index and the LSB of what is listed are bytes
+abbrev pub InBytes : Listed → Type 0
+InBytes (Suited f) = (f .index < 256) × (f .lsb < 256)
+InBytes Unsuited = Unit {0}

@@ -12,6 +12,9 @@ ghost use lib.ListN.{length, getD};
 ghost use Rattle.records.specs.Records.{typeOf};
 ghost use Rattle.entries.specs.Entries.{readCode, readEnd, read as readOf, lsbFor, listed, InBytes};
 
+// The first byte of an index.
+pub const VERSION: u8 = 1;
+
 // An entry: a code record of `size` code bytes, whose fixups are the `length` bytes of the index from `from` on; the end record, with the offset after
 // it; or a fault.
 pub enum IndexEntry {

@@ -6,6 +6,8 @@ use mathlib.Core.List.{List, [], _++_}
 use Prim.Native.Nat.{ℕ, zero, suc, _-_}
 use lib.ListN.{length}
 use Rattle.events.specs.Events.{Event, marks, Ran}
+use Rattle.events.specs.declared.Check.{Check}
+use Rattle.events.specs.declared.Check.the-variants.{Passed, Failed}
 
 -- what a turn comes to: it ends the walk with an answer, or leads to another state
 pub data Turn (S A : Type 0) : Type 0 where
@@ -15,6 +17,11 @@ pub data Turn (S A : Type 0) : Type 0 where
 -- what is done after these events: theirs stand first
 abbrev pub after : {A : Type 0} → List Event → Ran A → Ran A
 after es rest = record { answer = rest .answer; events = es ++ rest .events }
+
+-- a part of the work, and another after it where it passed, over the map as it left it
+abbrev pub andThen : List ℕ → Check → List Event → (List ℕ → Ran Check) → Ran Check
+andThen map Passed es next = after es (next (marks es map))
+andThen map (Failed fault offset) es next = record { answer = Failed fault offset; events = es }
 
 -- how a walk goes on after a turn with these events
 abbrev pub onward : {S A : Type 0} → (S → List ℕ → Ran A) → List ℕ → List Event → Turn S A → Ran A

@@ -22,7 +22,8 @@ use Rattle.records.specs.declared.Entry.{Entry}
 use Rattle.records.specs.declared.Kind.{Kind}
 use Rattle.words.proofs.Lent.{lent-is}
 use Rattle.words.proofs.Runs.{length-part}
-use Rattle.index.specs.Walk.{andThen, fixing, coding, applied}
+use Rattle.events.specs.Walk.{andThen}
+use Rattle.index.specs.Walk.{fixing, coding, applied}
 
 -- ---- a part of the work, and another after it
 

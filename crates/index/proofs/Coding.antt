@@ -27,7 +27,8 @@ use Rattle.pieces.specs.Places.{Inside, FieldsApart}
 use Rattle.pieces.specs.declared.Bases.{Bases}
 use Rattle.records.specs.declared.Kind.{Kind}
 use Rattle.words.specs.Runs.{Within, part, put, allZero}
-use Rattle.index.specs.Walk.{andThen, fixing, coding}
+use Rattle.events.specs.Walk.{andThen}
+use Rattle.index.specs.Walk.{fixing, coding}
 
 -- two parts of the work that passed, one after the other
 both-passed : (map : List ℕ) (c : Check) (es : List Event) (next : List ℕ → Ran Check) → andThen map c es next .answer ≡ Passed

@@ -15,7 +15,7 @@ use Rattle.answer.proofs.Checks.{on-need}
 use Rattle.answer.specs.declared.Fault.{Fault}
 use Rattle.entries.proofs.ReadBack.{Listable, Encodable}
 use Rattle.entries.proofs.Reading.{flag-below}
-use Rattle.entries.specs.Bytes.{addressIn}
+use Rattle.records.specs.Types.{addressIn}
 use Rattle.entries.specs.Entries.{lsbFor}
 use Rattle.events.proofs.Lists.{each-append, image-each}
 use Rattle.events.specs.Lists.{Each}

@@ -26,7 +26,8 @@ use Rattle.records.specs.declared.Kind.{Kind}
 use Rattle.words.specs.Runs.{part}
 use Rattle.index.proofs.Turning.{further}
 use Rattle.index.specs.Rules.{NextEntry, Fails, empty, of-version, in-entry, out-of-range, too-long, by-index, LocatedEntry, LocatedClaim}
-use Rattle.index.specs.Walk.{andThen, fixing, coding, applied, Progress, begun, entryAt, checked}
+use Rattle.events.specs.Walk.{andThen}
+use Rattle.index.specs.Walk.{fixing, coding, applied, Progress, begun, entryAt, checked}
 
 -- ---- what an entry is refused with
 

@@ -17,7 +17,7 @@ use Rattle.entries.specs.declared.Listed.{Listed}
 use Rattle.entries.specs.declared.Listed.the-variants.{Suited, Unsuited}
 use Rattle.events.proofs.Events.{marks-append}
 use Rattle.events.specs.Events.{Event, adjustedMark, markOne, marks, Ran, failed, passed, Noted}
-use Rattle.events.specs.Walk.{after}
+use Rattle.events.specs.Walk.{after, andThen}
 use Rattle.events.specs.declared.Check.{Check}
 use Rattle.events.specs.declared.Check.the-variants.{Passed, Failed}
 use Rattle.fields.specs.declared.Field.{Field}
@@ -27,7 +27,7 @@ use Rattle.pieces.specs.declared.Bases.{Bases}
 use Rattle.records.specs.Records.{typeOf}
 use Rattle.records.specs.declared.Kind.{Kind}
 use Rattle.words.specs.Runs.{part, contains}
-use Rattle.index.specs.Walk.{andThen, fixing}
+use Rattle.index.specs.Walk.{fixing}
 
 -- ---- one fixup
 

@@ -11,7 +11,7 @@ use Rattle.acx.specs.Call.{inRange}
 use Rattle.acx.specs.Walk.{Verdict, accepted}
 use Rattle.answer.specs.Report.{address as addressOf}
 use Rattle.entries.proofs.Reading.{FieldBytes, lies-as, addressed-as, fields-bytes}
-use Rattle.entries.specs.Bytes.{addressIn}
+use Rattle.records.specs.Types.{addressIn}
 use Rattle.entries.specs.declared.IndexEntry.{IndexEntry}
 use Rattle.entries.specs.declared.IndexEntry.the-variants.{Code, End, Faulty}
 use Rattle.events.proofs.Events.{length-marks, length-blank, length-run}

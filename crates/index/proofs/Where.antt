@@ -205,9 +205,7 @@ pub holds-where : (index : List ℕ) (os : List Outline) (entry : Entry) → Hol
     → AcceptedWhere (Accepts b index) (Refuses b index) os os entry b
 holds-where index os entry h s short b r =
     let judged-here = ap (λ (o : Ran (Verdict Outline)). o .answer) (indexed-judged b index r short) in
-    let rules = by-rules b index in
-    settled-where (subst (Settles b os os entry) (sym judged-here) (settles index b os entry h s)) (rules .accepts) (rules .accepts-only) (rules .refuses)
-    (rules .refuses-only)
+    settled-where (subst (Settles b os os entry) (sym judged-here) (settles index b os entry h s)) (by-rules b index)
 
 -- as is every index that is accepted at some bases
 pub accepted-where-fits : WhereClaim

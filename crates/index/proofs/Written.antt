@@ -8,7 +8,8 @@ use native.Mathlib.Omega.{arith}
 use lib.ListN.{length, drop, length-append}
 use lib.Seq.{drop-append-seam}
 use Rattle.entries.proofs.ReadBack.{Encodable, fields-back, all-suit, length-code-bytes, length-entry, code-back, fixups-there, end-ends, end-back}
-use Rattle.entries.specs.Bytes.{codeBytes, addressIn, endBytes, entryOf, codeEntries, indexBytes}
+use Rattle.entries.specs.Bytes.{codeBytes, endBytes, withLength, codeEntries, indexBytes}
+use Rattle.records.specs.Types.{addressIn}
 use Rattle.entries.specs.Entries.{fieldsTo, allSuit}
 use Rattle.entries.specs.declared.IndexEntry.the-variants.{Code, End}
 use Rattle.events.specs.Lists.{Each}
@@ -24,8 +25,8 @@ unfolding codeEntries
 entries-split [] older = ([], sym (append-nil (codeEntries older)))
 entries-split (o ∷ newer) older =
     let r = entries-split newer older in (
-      r .0 ++ entryOf (codeBytes o),
-      ap (λ (l : List ℕ). l ++ entryOf (codeBytes o)) (r .1) ∙ append-assoc (codeEntries older) (r .0) (entryOf (codeBytes o)),
+      r .0 ++ withLength (codeBytes o),
+      ap (λ (l : List ℕ). l ++ withLength (codeBytes o)) (r .1) ∙ append-assoc (codeEntries older) (r .0) (withLength (codeBytes o)),
     )
 
 -- where a walk stands after the entries of some outlines
@@ -38,12 +39,12 @@ module _ (os : List Outline) (entry : Entry) where
 
   -- the entry of the next outline stands there
   entry-there : (newer : List Outline) (o : Outline) (older : List Outline) → os ≡ newer ++ o ∷ older
-      → (rest : List ℕ) × (drop (suc (length (codeEntries older))) index ≡ entryOf (codeBytes o) ++ rest)
+      → (rest : List ℕ) × (drop (suc (length (codeEntries older))) index ≡ withLength (codeBytes o) ++ rest)
   unfolding indexBytes codeEntries
   entry-there newer o older e =
       let r = entries-split newer (o ∷ older) in
-      let end = entryOf (endBytes entry) in
-      let there = entryOf (codeBytes o) in (
+      let end = withLength (endBytes entry) in
+      let there = withLength (codeBytes o) in (
         r .0 ++ end,
         ap (λ (qs : List Outline). drop (length (codeEntries older)) (codeEntries qs ++ end)) e
             ∙ ap (λ (l : List ℕ). drop (length (codeEntries older)) (l ++ end)) (r .1)
@@ -53,9 +54,9 @@ module _ (os : List Outline) (entry : Entry) where
       )
 
   -- the end entry stands behind them all
-  end-there : drop (suc (length (codeEntries os))) index ≡ entryOf (endBytes entry) ++ []
+  end-there : drop (suc (length (codeEntries os))) index ≡ withLength (endBytes entry) ++ []
   unfolding indexBytes
-  end-there = drop-append-seam (codeEntries os) (entryOf (endBytes entry)) ∙ sym (append-nil (entryOf (endBytes entry)))
+  end-there = drop-append-seam (codeEntries os) (withLength (endBytes entry)) ∙ sym (append-nil (withLength (endBytes entry)))
 
   -- an entry is shorter than the index
   short-entry : (newer : List Outline) (o : Outline) (older : List Outline) → os ≡ newer ++ o ∷ older → length index ≤ 65536
@@ -63,14 +64,14 @@ module _ (os : List Outline) (entry : Entry) where
   unfolding indexBytes codeEntries
   short-entry newer o older e short =
       let r = entries-split newer (o ∷ older) in
-      let end = entryOf (endBytes entry) in
-      let there = entryOf (codeBytes o) in
+      let end = withLength (endBytes entry) in
+      let there = withLength (codeBytes o) in
       let l : length (codeEntries os) ≡ length (codeEntries older ++ there) + length (r .0) =
       ap length (ap codeEntries e ∙ r .1) ∙ length-append (codeEntries older ++ there) (r .0) in
       omega (arith, short, l, length-append (codeEntries older) there, length-append (codeEntries os) end, length-entry (codeBytes o))
 
   -- a code entry that is read back leads on to its outline
-  module _ (o : Outline) (older : List Outline) (rest : List ℕ) (is : drop (suc (length (codeEntries older))) index ≡ entryOf (codeBytes o) ++ rest)
+  module _ (o : Outline) (older : List Outline) (rest : List ℕ) (is : drop (suc (length (codeEntries older))) index ≡ withLength (codeBytes o) ++ rest)
       (y : Encodable o) (short : length (codeBytes o) < 65536) where
     abbrev at : ℕ
     at = suc (length (codeEntries older))
@@ -92,7 +93,7 @@ module _ (os : List Outline) (entry : Entry) where
     steps =
         let fields : fieldsTo (o .kind) (part index (at + 6) count) ≡ o .fields =
         ap (fieldsTo (o .kind)) (fixups-there index at o rest is) ∙ fields-back (o .kind) (o .fields) (y .fields) in
-        let there = entryOf (codeBytes o) in
+        let there = withLength (codeBytes o) in
         let n : at + 6 + count ≡ suc (length (codeEntries older ++ there)) =
         omega (arith, length-append (codeEntries older) there, length-entry (codeBytes o), length-code-bytes o) in
         ap (stepped index (behind older)) found ∙ rw (n, fields) refl

@@ -10,8 +10,7 @@ use Rattle.acx.specs.Call.{inRange}
 use Rattle.acx.specs.Rules.{Accepts as FileAccepts, Refuses as FileRefuses}
 use Rattle.acx.specs.Where.{AcceptedWhere}
 use Rattle.answer.specs.declared.Fault.{Fault}
-use Rattle.entries.specs.Bytes.{indexBytes}
-use Rattle.events.specs.Sizes.{memorySize}
+use Rattle.entries.specs.Bytes.{roomSize, indexBytes}
 use Rattle.pieces.specs.Pieces.{Piece, Outline, outline}
 use Rattle.pieces.specs.declared.Bases.{Bases}
 use Rattle.records.specs.declared.Entry.{Entry}
@@ -27,7 +26,7 @@ pub record BuiltFrom (form : ℕ) (file index : List ℕ) : Type 0 where
   pub accepts : FileAccepts form bases file pieces entry
   pub is : index ≡ indexBytes (map outline pieces) entry
   -- "the bench lends 65,536 bytes"
-  pub fits : length index ≤ memorySize
+  pub fits : length index ≤ roomSize
 
 -- A file has one index, from whatever bases it is built.
 abbrev pub OneIndexClaim : Type 0

@@ -27,12 +27,12 @@ abbrev pub at : Bases → List ℕ → Verdict Outline → Example
 at bases index verdict = record { bases = bases; index = index; verdict = verdict }
 
 -- the bases of most rows
-abbrev pub low : Bases
-low = basesAt 32 128
+abbrev pub rowBases : Bases
+rowBases = basesAt 32 128
 
 -- a refusal there
 abbrev pub refuses : Fault → ℕ → List ℕ → Example
-refuses fault offset index = at low index (refused fault offset)
+refuses fault offset index = at rowBases index (refused fault offset)
 
 -- ---- the rows
 
@@ -42,7 +42,7 @@ examples =
     at (basesAt 8192 128) P1Index (accepted P1Outlines P1Entry)
     ∷ at (basesAt 65533 128) P1Index (accepted P1Outlines P1Entry)
     ∷ at (basesAt 65534 128) P1Index (refused DoesNotFit 1)
-    ∷ at low manyIndex (accepted manyOutlines manyEntry)
+    ∷ at rowBases manyIndex (accepted manyOutlines manyEntry)
     -- "main base 0 to 65,535, zero-page base 0 to 255": 2, whatever the index
     ∷ at (basesAt 65536 128) [] (refused SettingOutOfRange 0)
     ∷ at (basesAt 32 256) P1Index (refused SettingOutOfRange 0)
@@ -61,10 +61,12 @@ examples =
     -- "6": a fixup's type and an unknown one, whatever the length
     ∷ refuses NotKnown 1 (0x01 ∷ 0x00 ∷ 0x01 ∷ 0x02 ∷ [])
     ∷ refuses NotKnown 1 (0x01 ∷ 0x00 ∷ 0x04 ∷ 0x0C ∷ 0x00 ∷ 0x00 ∷ 0x00 ∷ [])
-    -- "9 where its length is wrong or its code passes 253": code of 1, 5 and 6 bytes after its length; an end of 5, though its flag is not known either
+    -- "9 where its length is wrong or its code passes 253": code of 1, 5 and 6 bytes after its length; an end of 3, and of 5, though its flag is
+    -- not known either
     ∷ refuses LengthNotAllowed 1 (0x01 ∷ 0x00 ∷ 0x01 ∷ 0x00 ∷ [])
     ∷ refuses LengthNotAllowed 1 (0x01 ∷ 0x00 ∷ 0x05 ∷ 0x00 ∷ 0x00 ∷ 0x00 ∷ 0x01 ∷ 0x02 ∷ [])
     ∷ refuses LengthNotAllowed 1 (0x01 ∷ 0x00 ∷ 0x06 ∷ 0x00 ∷ 0x00 ∷ 0x00 ∷ 0x01 ∷ 0x02 ∷ 0x00 ∷ [])
+    ∷ refuses LengthNotAllowed 1 (0x01 ∷ 0x00 ∷ 0x03 ∷ 0x0B ∷ 0x00 ∷ 0x00 ∷ [])
     ∷ refuses LengthNotAllowed 1 (0x01 ∷ 0x00 ∷ 0x05 ∷ 0x0B ∷ 0x09 ∷ 0x00 ∷ 0x00 ∷ 0x00 ∷ [])
     -- 254 bytes of code, which would not fit either
     ∷ refuses LengthNotAllowed 1 (0x01 ∷ 0x00 ∷ 0x04 ∷ 0x00 ∷ 0xFF ∷ 0xFF ∷ 0xFE ∷ [])
@@ -92,7 +94,7 @@ examples =
     -- a byte adjusted twice (13): as a word's second and as a byte
     ∷ refuses AdjustedTwice 1 (0x01 ∷ 0x00 ∷ 0x0A ∷ 0x00 ∷ 0x00 ∷ 0x00 ∷ 0x02 ∷ 0x06 ∷ 0x00 ∷ 0x00 ∷ 0x02 ∷ 0x01 ∷ 0x00 ∷ [])
     -- "unused LSBs ignored"
-    ∷ at low (0x01 ∷ 0x00 ∷ 0x0A ∷ 0x00 ∷ 0x00 ∷ 0x00 ∷ 0x03 ∷ 0x06 ∷ 0x01 ∷ 0x63 ∷ 0x02 ∷ 0x00 ∷ 0x63 ∷ 0x00 ∷ 0x04 ∷ 0x0B ∷ 0x02 ∷ 0x00 ∷ 0x00 ∷ [])
+    ∷ at rowBases (0x01 ∷ 0x00 ∷ 0x0A ∷ 0x00 ∷ 0x00 ∷ 0x00 ∷ 0x03 ∷ 0x06 ∷ 0x01 ∷ 0x63 ∷ 0x02 ∷ 0x00 ∷ 0x63 ∷ 0x00 ∷ 0x04 ∷ 0x0B ∷ 0x02 ∷ 0x00 ∷ 0x00 ∷ [])
     (accepted (piece Main 0 3 (field Word 1 0 ∷ field LowByte 0 0 ∷ []) ∷ []) (Relative 0))
     -- the start is too high (20): "refusal offsets are those of its entries"
     ∷ refuses StartTooHigh 7 (0x01 ∷ 0x00 ∷ 0x04 ∷ 0x00 ∷ 0x00 ∷ 0x00 ∷ 0x01 ∷ 0x00 ∷ 0x04 ∷ 0x0B ∷ 0x02 ∷ 0xFF ∷ 0xE0 ∷ [])
@@ -101,7 +103,7 @@ examples =
     -- 20 before 19
     ∷ refuses StartTooHigh 1 (0x01 ∷ 0x00 ∷ 0x04 ∷ 0x0B ∷ 0x02 ∷ 0xFF ∷ 0xE0 ∷ 0x00 ∷ [])
     -- flag 0 with an address: there is no start
-    ∷ at low (0x01 ∷ 0x00 ∷ 0x04 ∷ 0x0B ∷ 0x00 ∷ 0x12 ∷ 0x34 ∷ []) (accepted [] Nowhere)
+    ∷ at rowBases (0x01 ∷ 0x00 ∷ 0x04 ∷ 0x0B ∷ 0x00 ∷ 0x12 ∷ 0x34 ∷ []) (accepted [] Nowhere)
     ∷ []
 
 -- ---- the statement: each index comes to its verdict

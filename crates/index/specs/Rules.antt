@@ -1,6 +1,7 @@
 -- The rules for an index in plain steps: one entry after another, each by what the wish says of a single entry (`begun`, `entryAt`, `checked` and
 -- `stepped` in Walk.antt). No walk is in it; that the definition's walk comes to this, both ways, is the claim at the end, proved in proofs/Rules.antt
 -- (`by-rules : RulesClaim`; `refusals-located : LocatedClaim` in proofs/Faults.antt).
+-- (An entry of an index is an `IndexEntry`; an `Entry` is what the end record says of the start, by its flag.)
 -- Assumes nothing.
 use mathlib.Core.Bool.{true, false}
 use mathlib.Core.List.{List, []}
@@ -8,7 +9,7 @@ use mathlib.Core.Path.{_≡_}
 use Prim.Native.Nat.{ℕ, _+_, _≤_, _<_}
 use lib.ListN.{length, getD}
 use Rattle.acx.specs.Call.{inRange}
-use Rattle.acx.specs.Walk.{accepted, refused}
+use Rattle.acx.specs.Rules.{ByRules}
 use Rattle.answer.specs.Report.{numberOf}
 use Rattle.answer.specs.declared.Fault.{Fault}
 use Rattle.answer.specs.declared.Fault.the-variants.{SettingOutOfRange, FileTooLong, CutShort, WrongVersion}
@@ -95,13 +96,6 @@ pub record LocatedEntry (len : ℕ) (fault : Fault) (offset : ℕ) : Type 0 wher
 abbrev pub LocatedClaim : Type 0
 LocatedClaim = (b : Bases) (index : List ℕ) (fault : Fault) (offset : ℕ) → Refuses b index fault offset → LocatedEntry (length index) fault offset
 
--- The definition accepts and refuses exactly so.
-pub record ByRules (b : Bases) (index : List ℕ) : Type 0 where
-  pub accepts : (os : List Outline) (entry : Entry) → Accepts b index os entry → indexed b index .answer ≡ accepted os entry
-  pub accepts-only : (os : List Outline) (entry : Entry) → indexed b index .answer ≡ accepted os entry → Accepts b index os entry
-  pub refuses : (fault : Fault) (at : ℕ) → Refuses b index fault at → indexed b index .answer ≡ refused fault at
-  pub refuses-only : (fault : Fault) (at : ℕ) → indexed b index .answer ≡ refused fault at → Refuses b index fault at
-
--- of every index, at all settings
+-- The definition accepts and refuses exactly so: of every index, at all settings.
 abbrev pub RulesClaim : Type 0
-RulesClaim = (b : Bases) (index : List ℕ) → ByRules b index
+RulesClaim = (b : Bases) (index : List ℕ) → ByRules (Accepts b index) (Refuses b index) (indexed b index .answer)

@@ -14,24 +14,18 @@ use Rattle.entries.specs.Bytes.{version}
 use Rattle.entries.specs.Entries.{read, fieldsTo, allSuit}
 use Rattle.entries.specs.declared.IndexEntry.{IndexEntry}
 use Rattle.entries.specs.declared.IndexEntry.the-variants.{Code, End, Faulty}
-use Rattle.events.specs.Events.{Event, marks, blank, Ran, failed, passed}
+use Rattle.events.specs.Events.{blank, Ran, failed, passed}
 use Rattle.events.specs.Sizes.{fileLimit}
-use Rattle.events.specs.Walk.{Turn, ends, leads, after, from, bytesLeft}
+use Rattle.events.specs.Walk.{Turn, ends, leads, andThen, from, bytesLeft}
 use Rattle.events.specs.declared.Check.{Check}
 use Rattle.events.specs.declared.Check.the-variants.{Passed, Failed}
 use Rattle.pieces.specs.AtBases.{placing, adjusting, ending}
 use Rattle.pieces.specs.Pieces.{Outline, placeAt, limitOf}
 use Rattle.pieces.specs.declared.Bases.{Bases}
-use Rattle.records.specs.declared.Entry.{Entry}
 use Rattle.records.specs.declared.Kind.{Kind}
 use Rattle.words.specs.Runs.{part}
 
 -- ---- one entry
-
--- a part of the work, and another after it where it passed, over the map as it left it
-abbrev pub andThen : List ℕ → Check → List Event → (List ℕ → Ran Check) → Ran Check
-andThen map Passed es next = after es (next (marks es map))
-andThen map (Failed fault offset) es next = record { answer = Failed fault offset; events = es }
 
 -- the fixups of n code bytes of a kind at a place: "each fixup in turn 18 for any bad kind, 12, 13". The fields before the first bad kind are checked, 12
 -- and 13 in turn; then that kind is at fault.

@@ -1,5 +1,5 @@
--- Where an index may go, as a file may (acx/specs/Where.antt): accepted at one pair of bases, it is accepted at another exactly where its outlines and its start
--- fit. Proved in proofs/Where.antt (`accepted-where-fits : WhereClaim`).
+-- Where an index may go, as a file may (acx/specs/Where.antt): accepted at one pair of bases, it is accepted at another exactly where its outlines and its
+-- start fit. Proved in proofs/Where.antt (`accepted-where-fits : WhereClaim`).
 -- Assumes nothing.
 use mathlib.Core.Bool.{true}
 use mathlib.Core.List.{List}

@@ -15,9 +15,6 @@ ghost use Rattle.pieces.specs.Pieces.{basesAt};
 ghost use Rattle.index.specs.Walk.{fixing, coding, applied, begun, entriesFrom, judged, indexed};
 ghost use Rattle.index.specs.Cursor.{firstCursor, advanced, Lies};
 
-// The version of the index, its first byte.
-const VERSION: u8 = 1;
-
 // An index has no form: in the ranges of its bases it goes by any.
 const FORMLESS: u32 = 0;
 
@@ -56,7 +53,7 @@ fn walk_index(index: &[u8], bases: Bases, map: &mut [u8]) -> Outcome
     if index.len() < 1 {
         return answer::refused(Fault::CutShort, 0);
     }
-    if index[0] != VERSION {
+    if index[0] != entries::VERSION {
         return answer::refused(Fault::WrongVersion, 0);
     }
     walk(index, bases, map)

@@ -13,7 +13,7 @@ use Rattle.words.specs.Runs.{Bytes}
 use Rattle.moves.specs.Call.{Call, sized, Moved}
 use Rattle.moves.specs.Sources.{fileIn, theIndex}
 
--- one answer, but for the offset of a refusal
+-- one answer, but for the offset of a refusal (where that lies: `RefusesMove` in Outcomes.antt)
 pub data SameAnswer : Outcome → Outcome → Type 0 where
   same : {r : Outcome} → SameAnswer r r
   elsewhere : {fault : Fault} {offset other side : ℕ} → SameAnswer (Refused fault offset side) (Refused fault other side)

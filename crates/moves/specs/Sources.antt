@@ -88,7 +88,8 @@ abbrev pub Counted : Format → ℕ → Outcome → Type 0
 Counted (File form) len r = (placedOf r ≤ len) × (adjustedOf r ≤ len)
 Counted Index len r = adjustedOf r ≤ len
 
--- where a refusal lies in so many bytes: at "the first byte of the field or item at fault" of a file (wish 6); "refusal offsets are those of its entries" (wish 5)
+-- where a refusal lies in so many bytes: of a file at "the first byte of the field or item at fault" (wish 6); "refusal offsets are those of its
+-- entries" (wish 5)
 abbrev pub LocatedIn : Format → ℕ → Fault → ℕ → Type 0
 LocatedIn (File form) len fault offset = Located len fault offset
 LocatedIn Index len fault offset = LocatedEntry len fault offset

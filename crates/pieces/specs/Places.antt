@@ -47,7 +47,7 @@ pub record FieldsSound (os : List Outline) : Type 0 where
   -- no byte is in two of them
   pub distinct : Each (λ o. Pairwise FieldsApart (o .fields)) os
 
--- Both hold of the pieces of an accepted file.
+-- Both hold of the pieces of an accepted file, and of the outlines of an accepted index.
 pub record WellPlaced (b : Bases) (os : List Outline) : Type 0 where
   pub fit : PiecesFit b os
   pub sound : FieldsSound os

@@ -1,15 +1,17 @@
--- A type byte that was written is read back as what it was written for.
+-- A type byte that was written is read back as what it was written for, and so is an end record's flag with its address.
 -- Assumes nothing.
 use mathlib.Core.Bool.{true}
 use mathlib.Core.Path.{_≡_, refl}
 use Rattle.fields.specs.declared.Fixup.{Fixup}
 use Rattle.fields.specs.declared.Fixup.the-variants.{LowByte, ZeroPageByte, Word, HighByte}
-use Rattle.records.specs.Records.{typeOf, suits}
-use Rattle.records.specs.Types.{codeType, fixupType}
+use Rattle.records.specs.Records.{typeOf, suits, entryOf}
+use Rattle.records.specs.Types.{codeType, fixupType, endType, flagOf, addressIn}
+use Rattle.records.specs.declared.Entry.{Entry}
+use Rattle.records.specs.declared.Entry.the-variants.{Nowhere, Fixed, Relative}
 use Rattle.records.specs.declared.Kind.{Kind}
 use Rattle.records.specs.declared.Kind.the-variants.{Main, ZeroPage, Absolute}
 use Rattle.records.specs.declared.Last.the-variants.{Of}
-use Rattle.records.specs.declared.RecordType.the-variants.{Code, Fixups}
+use Rattle.records.specs.declared.RecordType.the-variants.{Code, Fixups, End}
 
 pub code-type-back : (kind : Kind) → typeOf (codeType kind) ≡ Code kind
 code-type-back Main = refl
@@ -41,3 +43,12 @@ fixup-type-back Absolute LowByte = refl
 fixup-type-back Absolute ZeroPageByte = refl
 fixup-type-back Absolute Word = refl
 fixup-type-back Absolute HighByte = refl
+
+-- the end record's too
+pub end-type-back : typeOf endType ≡ End
+end-type-back = refl
+
+pub entry-back : (entry : Entry) → entryOf (flagOf entry) (addressIn entry) ≡ entry
+entry-back Nowhere = refl
+entry-back (Fixed address) = refl
+entry-back (Relative address) = refl

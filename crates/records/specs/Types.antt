@@ -1,8 +1,11 @@
--- The type byte of a record, for whoever writes one: what `typeOf` reads back (`code-type-back`, `fixup-type-back` in proofs/Types.antt).
+-- The type byte of a record, and the flag and the address of an end record, for whoever writes one: what `typeOf` and `entryOf` read back (`code-type-back`,
+-- `fixup-type-back`, `entry-back` in proofs/Types.antt).
 -- Assumes nothing.
 use Prim.Native.Nat.{ℕ, _+_}
 use Rattle.fields.specs.declared.Fixup.{Fixup}
 use Rattle.fields.specs.declared.Fixup.the-variants.{LowByte, ZeroPageByte, Word, HighByte}
+use Rattle.records.specs.declared.Entry.{Entry}
+use Rattle.records.specs.declared.Entry.the-variants.{Nowhere, Fixed, Relative}
 use Rattle.records.specs.declared.Kind.{Kind}
 use Rattle.records.specs.declared.Kind.the-variants.{Main, ZeroPage, Absolute}
 
@@ -24,3 +27,19 @@ abbrev pub fixupType : Kind → Fixup → ℕ
 fixupType Main fixup = mainFixupType fixup
 fixupType ZeroPage fixup = mainFixupType fixup + 1
 fixupType Absolute fixup = mainFixupType fixup
+
+-- "0B: flag and address"
+abbrev pub endType : ℕ
+endType = 0x0B
+
+-- "flag 0 none, 1 absolute, 2 plus main base"
+abbrev pub flagOf : Entry → ℕ
+flagOf Nowhere = 0
+flagOf (Fixed address) = 1
+flagOf (Relative address) = 2
+
+-- its address: "an absent number is zero wherever it is reported or written"
+abbrev pub addressIn : Entry → ℕ
+addressIn Nowhere = 0
+addressIn (Fixed address) = address
+addressIn (Relative address) = address

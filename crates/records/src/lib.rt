@@ -28,6 +28,9 @@ pub enum Entry {
     Relative(u16),
 }
 
+// The type byte of an end record.
+pub const END_TYPE: u8 = 0x0B;
+
 // What a record's type byte says. Fixups have the relocatable code that they are for; `suits` says what they may follow.
 pub enum RecordType {
     Code(Kind),

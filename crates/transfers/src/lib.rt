@@ -28,7 +28,7 @@ ghost use Rattle.moves.specs.Call.{rulingOf, Allows, piecesOf, mapBy};
 ghost use Rattle.index.specs.Walk.{outlineOf};
 ghost use Rattle.transfers.specs.Scratch.{scratchWith, Sound, Movable, Overlaid};
 
-// Carries the handler's bytes by way of the scratch, over the map of a load at the new bases.
+// Carries the handler's bytes by way of the scratch, over the map of its file or index at the new bases.
 pub fn carry(
     format: Format,
     bytes: &[u8],
