@@ -2,7 +2,7 @@
 -- Assumes nothing.
 use mathlib.Core.Bool.{Bool, true, false, _&&_, false≢true}
 use mathlib.Core.List.{List, [], _∷_, map}
-use mathlib.Core.Path.{_≡_, refl, sym, ap, _∙_}
+use mathlib.Core.Path.{_≡_, refl, sym, ap, _∙_, subst}
 use Prim.Native.Nat.{ℕ, _≤_}
 use native.Mathlib.Omega.{arith}
 use borrow.Author.Tests.{eq-eqb, eqb-true}
@@ -34,7 +34,7 @@ use Rattle.acx.specs.Demand2.{FromFile, total, Demand2, Asked, AcceptedC
 use Rattle.acx.specs.Rules.{Follows, Accepts}
 use Rattle.pieces.specs.AtBases.{startOf}
 use Rattle.pieces.specs.Pieces.{Piece, size, outline, adjustments, events}
-use Rattle.pieces.specs.Places.{Placed, WellPlaced}
+use Rattle.pieces.specs.Places.{Placed, WellPlaced, Marked}
 use Rattle.records.specs.declared.Entry.{Entry}
 use Rattle.acx.specs.Walk.{Verdict, accepted, refused, atOnce, opening, judged, report, reported}
 use Rattle.pieces.specs.declared.Bases.{Bases}
@@ -113,6 +113,14 @@ load-reports form b file ps entry h =
     ∙ ap (λ (es : List Event). report b (accepted ps entry) es) (placed-well file b (formOf form) ps entry e .events)
     ∙ ap (λ (n : ℕ). Accepted (startOf b entry) n (adjustedIn (events b ps)) 0 0) (placed-total b ps)
     ∙ ap (λ (n : ℕ). Accepted (startOf b entry) (total size ps) n 0 0) (adjusted-total b ps)
+
+-- and its map has their marks
+pub load-marks : (form : ℕ) (b : Bases) (file : List ℕ) (ps : List Piece) (entry : Entry) → Accepts form b file ps entry
+    → Marked b (map outline ps) (marks (load form b file .events) blank)
+load-marks form b file ps entry h =
+    let x = placed-well file b (formOf form) ps entry (follows-judged (formOf form) file b ps entry (h .follows)) in
+    let es = ap (λ (o : Ran (Verdict Piece)). o .events) (load-judged form b file (h .settings) (h .fits)) ∙ x .events in
+    subst (λ (gs : List Event). Marked b (map outline ps) (marks gs blank)) (sym es) (marked-events b ps (x .held .0 .0))
 
 -- an outcome that is accepted held its check
 need-held : (b : Bases) (c : Bool) (fault : Fault) (offset : ℕ) (o : Ran (Verdict Piece)) → isRefused (reported b (need atOnce c fault offset o) .answer) ≡ false → c ≡ true

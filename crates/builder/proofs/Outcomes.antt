@@ -1,7 +1,7 @@
 -- What a call of the builder comes to, as specs/Outcomes.antt states it: of every call that keeps the contract.
 -- Assumes nothing.
 use mathlib.Core.Bool.{Bool, true, false, false≢true}
-use mathlib.Core.List.{List}
+use mathlib.Core.List.{List, map}
 use mathlib.Core.Path.{_≡_, refl, sym, ap, _∙_, subst}
 use Prim.Native.Nat.{ℕ, _≤_, _<_}
 use native.Mathlib.Omega.{arith}
@@ -9,7 +9,7 @@ use borrow.Author.Tests.{leb-true, leb-false}
 use lib.Dec.{leb}
 use lib.ListN.{length, getD}
 use Rattle.acx.proofs.Calling.{loaded-right}
-use Rattle.acx.proofs.Demand2.{load-reports}
+use Rattle.acx.proofs.Demand2.{load-reports, load-marks}
 use Rattle.acx.proofs.Faults.{judged-decides}
 use Rattle.acx.proofs.Refusals.{reported-refused, refuses-located, refuses-sized}
 use Rattle.acx.proofs.Rules.{by-rules, load-judged}
@@ -33,7 +33,8 @@ use Rattle.events.proofs.Events.{length-blank, blank-at}
 use Rattle.events.specs.Events.{Event, blank, placedIn, adjustedIn, Ran}
 use Rattle.events.specs.Sizes.{fileLimit}
 use Rattle.pieces.specs.AtBases.{startOf}
-use Rattle.pieces.specs.Pieces.{Piece, size}
+use Rattle.pieces.specs.Pieces.{Piece, size, outline}
+use Rattle.pieces.specs.Places.{Marked}
 use Rattle.pieces.specs.declared.Bases.{Bases}
 use Rattle.records.proofs.Reading.{lies-as}
 use Rattle.records.specs.declared.Entry.{Entry}
@@ -142,6 +143,8 @@ module _ {form : ℕ} {b : Bases} {file p q : List ℕ} {right : Bool} {r : Outc
                 z .0 ∙ ap (λ (w : Verdict Piece). loadReport b w (o .events)) (v .0) ∙ rw (x .starts, x .places, x .adjusts) refl,
                 c .1 ∙ ap (λ (w : Verdict Piece). mapAfter w (o .events)) (x .is ∙ sym (v .0)) ∙ sym (z .2),
               );
+          marks = subst (Marked b (map outline ps)) (sym (c .1 ∙ ap (λ (w : Verdict Piece). mapAfter w (o .events)) (x .is)))
+              (load-marks form b file ps (x .entry) accepts);
         },
       )
 

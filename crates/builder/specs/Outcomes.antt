@@ -2,7 +2,7 @@
 -- proofs/Outcomes.antt: `built-exactly : Claim` and `build-refusals : RefusalsClaim`.
 -- Assumes nothing.
 use mathlib.Core.Bool.{Bool, true, _&&_}
-use mathlib.Core.List.{List}
+use mathlib.Core.List.{List, map}
 use mathlib.Core.Path.{_≡_}
 use Prim.Native.Nat.{ℕ, _≤_, _<_}
 use lib.Dec.{leb}
@@ -22,7 +22,8 @@ use Rattle.events.specs.Events.{blank}
 use Rattle.events.specs.Sizes.{fileLimit}
 use Rattle.index.specs.Built.{BuiltFrom}
 use Rattle.pieces.specs.AtBases.{startOf}
-use Rattle.pieces.specs.Pieces.{Piece, size}
+use Rattle.pieces.specs.Pieces.{Piece, size, outline}
+use Rattle.pieces.specs.Places.{Marked}
 use Rattle.pieces.specs.declared.Bases.{Bases}
 use Rattle.records.specs.declared.Entry.{Entry}
 use Rattle.words.specs.Runs.{part}
@@ -46,6 +47,8 @@ pub record AcceptedBuild (form : ℕ) (b : Bases) (file : List ℕ) (start : Sta
   -- "with its load's map, answer": of any call of the loader there that is lent buffers of the right lengths (a load has no low, and reports 0)
   pub as-load : (k q : List ℕ) (t : Outcome) (k′ q″ : List ℕ) → Loaded form b file true k q t k′ q″
       → (t ≡ Accepted start placed adjusted 0 0) × (p′ ≡ q″)
+  -- so the map has the marks of the pieces
+  pub marks : Marked b (map outline pieces) p′
 
 -- When a call is accepted, where the lengths of all that is lent are right or not: it left the map p′ and the room q′.
 pub record Exactly (form : ℕ) (b : Bases) (file : List ℕ) (right : Bool) (r : Outcome) (p′ q′ : List ℕ) : Type 0 where
