@@ -42,6 +42,12 @@ static uint32_t opening_of(const struct buffers *buffers)
     return buffers->file_length < 2 ? 0 : read_word(buffers->file);
 }
 
+/* Whether a file begins with the marker of an SDX block. */
+static bool opens_as_sdx(const struct buffers *buffers)
+{
+    return opening_of(buffers) >= 0xFFFA;
+}
+
 /* A file of the other kind, or of the other form, shows itself by its first bytes; only where it is refused for its opening. */
 static void explain_opening(FILE *stream, const struct options *options, const struct buffers *buffers)
 {
@@ -51,17 +57,19 @@ static void explain_opening(FILE *stream, const struct options *options, const s
         fputs("it opens F0 FF, as an ACX handler does: 'tekoweapa acx' was meant?\n", stream);
     else if (word == 0xFFF0)
         fputs("it opens F0 FF, as disk form does: '--form disk' was meant?\n", stream);
-    else if (word >= 0xFFFA && !sdx)
+    else if (opens_as_sdx(buffers) && !sdx)
         fputs("it opens as an SDX program does: 'tekoweapa sdx' was meant?\n", stream);
     else if (may_be_device_form(buffers))
         fprintf(stream, "it opens as an ACX handler in device form may: '%s--form device' was meant?\n", sdx ? "tekoweapa acx " : "");
 }
 
-/* A handler's file that was given as its index shows itself in the same way. */
+/* A file that was given as an index shows itself in the same way. */
 static void explain_version(FILE *stream, const struct buffers *buffers)
 {
     if (opening_of(buffers) == 0xFFF0)
         fputs("it opens F0 FF, as an ACX handler does: FILE was meant, without --index?\n", stream);
+    else if (opens_as_sdx(buffers))
+        fputs("it opens as an SDX program does, and is no index\n", stream);
     else if (may_be_device_form(buffers))
         fputs("it opens as an ACX handler in device form may: FILE was meant, with '--form device' and without --index?\n", stream);
 }

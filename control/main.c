@@ -79,10 +79,16 @@ static bool spare_inputs(const struct options *options, const struct output *out
     return true;
 }
 
-/* An image that is there is not begun anew unless that is asked for. A pipe or a device holds none, and an index is none. */
+/* Whether a file was at an output's target. A pipe or a device holds none. */
+static bool is_there(const struct output *output)
+{
+    return output->present && output->target != NULL;
+}
+
+/* An image that is there is not begun anew unless that is asked for. An index is none. */
 static bool spare_image(const struct options *options, const struct output *out)
 {
-    bool image = out->present && out->target != NULL && options->command != COMMAND_INDEX;
+    bool image = is_there(out) && options->command != COMMAND_INDEX;
     return !image || options->memory != NULL || options->fresh
         || complain(out->path, "is there already; give it with --memory to load into it, or --fresh to begin with zeros");
 }
@@ -125,7 +131,8 @@ static int run(const struct options *options, struct work *work)
     if (options->json)
         print_json(stdout, options, &work->buffers, &answer);
     else
-        print_report(stdout, options, &work->buffers, &answer, has_copy(&presence));
+        print_report(stdout, options, &work->buffers, &answer,
+                     (struct before){.copy = has_copy(&presence), .out = is_there(&work->outputs[OUT])});
     if (!finish_printing())
         return EXIT_TROUBLE;
     settle_outputs(work->outputs, OUTPUTS);

@@ -113,21 +113,45 @@ static void print_acceptance(FILE *stream, const struct options *options, const 
     }
 }
 
+/* Whether the offset is that of an entry of an index: where one is missing, it is the index's end, and another version is at its front. */
+static bool is_of_entry(const struct options *options, const struct buffers *buffers, const struct answer *answer)
+{
+    return options->index != NULL && answer->number != TKW_WRONG_VERSION && answer->offset < buffers->file_length;
+}
+
+static void print_place(FILE *stream, const struct options *options, const struct buffers *buffers, const struct answer *answer)
+{
+    fprintf(stream, "%sat offset %u ($%04X) of %zu", is_of_entry(options, buffers, answer) ? "in the entry " : "", answer->offset,
+            answer->offset, buffers->file_length);
+    if (options->command == COMMAND_MOVE)
+        fprintf(stream, " (side: %s bases)", answer->side == 0 ? "old" : "new");
+    fputc('\n', stream);
+}
+
+/* That there is no index, and what is in its place if something is. */
+static void print_no_index(FILE *stream, const char *out, bool former)
+{
+    fputs("no index is written", stream);
+    if (former) {
+        fputs("; ", stream);
+        print_subject(stream, out);
+        fputs(" stays as it was", stream);
+    }
+    fputc('\n', stream);
+}
+
 static void print_refusal(FILE *stream, const struct options *options, const struct buffers *buffers, const struct answer *answer)
 {
     bool placed = has_place(answer->number);
-    if (placed) {
-        fprintf(stream, "at offset %u ($%04X) of %zu", answer->offset, answer->offset, buffers->file_length);
-        if (options->command == COMMAND_MOVE)
-            fprintf(stream, " (side: %s bases)", answer->side == 0 ? "old" : "new");
-        fputc('\n', stream);
-    }
+    if (placed)
+        print_place(stream, options, buffers, answer);
     explain_refusal(stream, options, buffers, answer);
     if (placed)
         print_file_rows(stream, buffers, answer->offset);
 }
 
-void print_report(FILE *stream, const struct options *options, const struct buffers *buffers, const struct answer *answer, bool copied)
+void print_report(FILE *stream, const struct options *options, const struct buffers *buffers, const struct answer *answer,
+                  struct before before)
 {
     bool accepted = answer->number == TKW_ACCEPTED;
     if (accepted)
@@ -137,9 +161,11 @@ void print_report(FILE *stream, const struct options *options, const struct buff
     if (options->quiet)
         return;
     if (accepted && options->command == COMMAND_MOVE)
-        print_move(stream, options, copied);
+        print_move(stream, options, before.copy);
     if (accepted)
         print_acceptance(stream, options, buffers, answer);
     else
         print_refusal(stream, options, buffers, answer);
+    if (!accepted && options->command == COMMAND_INDEX)
+        print_no_index(stream, options->out, before.out);
 }

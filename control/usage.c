@@ -4,12 +4,13 @@
 
 static const char *const COMMANDS =
     "tekoweapa loads SpartaDOS X programs and ACX handlers into an image of memory,\n"
-    "and moves handlers while they live, by their file or by an index. It runs nothing.\n"
+    "and moves handlers while they live, by file or by index. It runs nothing.\n"
     "\n"
     "  tekoweapa sdx FILE [options]    load an SDX program\n"
     "  tekoweapa acx FILE [options]    load an ACX handler\n"
     "  tekoweapa index FILE [options]  build the index of an ACX handler\n"
-    "  tekoweapa move FILE [options]   move an ACX handler that is in the --memory image\n"
+    "  tekoweapa move FILE [options]   move an ACX handler in the --memory image\n"
+    "                                  (or: move --index FILE [options])\n"
     "\n";
 
 static const char *const ALL =
@@ -18,9 +19,9 @@ static const char *const ALL =
     "                                  move needs its image)\n"
     "  --dump                          also print the loaded bytes\n"
     "all\n"
-    "  --out FILE                      the image after the call, refused calls too; of the\n"
-    "                                  command index the index, which it needs, and which a\n"
-    "                                  refusal does not write\n"
+    "  --out FILE                      the image after the call, also after a refusal;\n"
+    "                                  of index: the index, which must be named and\n"
+    "                                  is written only if accepted\n"
     "  --map FILE                      a byte per address: 0 untouched, 1 placed,\n"
     "                                  2 reserved, 3 adjusted\n"
     "  --picture FILE                  the map as a picture, a row per page: placed blue,\n"
