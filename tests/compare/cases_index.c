@@ -246,6 +246,35 @@ static void many_fixups(struct driver *driver, uint32_t count)
     run_directed(driver, count <= 253 ? &yes : &no);
 }
 
+/* "bytes placed may here exceed the index's length": all of memory, by 260 entries. Where everything is full only fields can change, here
+ * the last byte by the zero-page base. */
+static void all_of_memory(struct driver *driver)
+{
+    char index[8192];
+    int at = snprintf(index, sizeof index, "01 ");
+    for (uint32_t address = 0; address < 65527; address += 253)
+        at += snprintf(index + at, sizeof index - (size_t)at, "00 04 %02X %02X %02X FD ", address / 253 % 2, address / 256, address % 256);
+    snprintf(index + at, sizeof index - (size_t)at, "00 07 00 FF F7 09 04 08 00 " END);
+    struct directed all = {"65,536 bytes placed by an index of 1,570", MOVE_BY_INDEX(0, 128, 0, 129), index, LOADED(65536, 1), "0000: 5A*65535 5B", "0000: 01*65535 03", .before = "0000: 5A*65536"};
+    run_directed(driver, &all);
+}
+
+/* As many fields as an index has room for, but for a few: every byte of 85 pieces of 253 bytes, by kinds 02, 04 and 08 in turn, over itself. */
+static void most_fields(struct driver *driver)
+{
+    static const char *const kinds[] = {"02 %02X 00 ", "04 %02X 00 ", "08 %02X 80 "};
+    static char index[1 << 18];
+    int at = snprintf(index, sizeof index, "01 ");
+    for (uint32_t field = 0; field < 85 * 253; field++) {
+        if (field % 253 == 0)
+            at += snprintf(index + at, sizeof index - (size_t)at, "02 FB 00 %02X %02X FD ", field / 256, field % 256);
+        at += snprintf(index + at, sizeof index - (size_t)at, kinds[field % 3], field % 253);
+    }
+    snprintf(index + at, sizeof index - (size_t)at, END);
+    struct directed most = {"21,505 fields by an index of 65,032 bytes", MOVE_BY_INDEX(0x2000, 0x40, 0x4181, 0x44), index, LOADED(21505, 21505), "2000: 5A*8577 (DB 5E 7C)*7168 DB 77", "4180: 00 03*21505 00", .before = "2000: 5A*21505; 9582: 77"};
+    run_directed(driver, &most);
+}
+
 /* An index with entries of each kind, cut behind each of its bytes: "5 if cut", at the entry that is, or at 0 where nothing is left. */
 static void cut_entries(struct driver *driver)
 {
@@ -275,5 +304,7 @@ void cases_index(struct driver *driver)
     kinds_in_codes(driver);
     for (size_t i = 0; i < sizeof counts / sizeof counts[0]; i++)
         many_fixups(driver, counts[i]);
+    all_of_memory(driver);
+    most_fields(driver);
     cut_entries(driver);
 }

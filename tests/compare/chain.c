@@ -246,12 +246,52 @@ static void live(struct chain *chain)
         change(chain, rng_below(chain->rng, ADDRESSES));
 }
 
-/* A call that is refused: another form, other bases, a wrong length. Memory stays. */
-static bool stray_call(struct chain *chain)
+/* What the call goes by gives way to another file or index, sound or with slips, to itself taken for the other, or to itself damaged. */
+static void choose_stray_input(struct chain *chain)
+{
+    struct request *request = &chain->driver->request;
+    struct made other;
+    struct making making = {.rng = chain->rng, .request = request, .made = &other};
+    struct reach reach = chain->reach;
+    making.slips_once_in = rng_once_in(chain->rng, 2) ? 20 : 0;
+    switch (rng_below(chain->rng, 6)) {
+    case 0:
+        request->call = ACX_MOVE;
+        reach = make_acx(&making);
+        break;
+    case 1:
+        request->call = INDEX_MOVE;
+        reach = make_index(&making);
+        break;
+    case 2:
+        request->call = request->call == ACX_MOVE ? INDEX_MOVE : ACX_MOVE;
+        break;
+    default:
+        damage(&making);
+    }
+    making.slips_once_in = 0;
+    choose_new_bases(&making, reach);
+}
+
+/* A refused call by such an input. One that would be accepted belongs to no list of this handler: a new base out of range makes it refused. */
+static bool stray_by_input(struct chain *chain)
 {
     struct driver *driver = chain->driver;
-    uint32_t settings[SETTINGS];
-    memcpy(settings, driver->request.settings, sizeof settings);
+    choose_stray_input(chain);
+    if (!agree(driver))
+        return false;
+    if (answered(driver, AT_NUMBER) == 0) {
+        driver->request.settings[NEW_MAIN] = 65536;
+        if (!agree(driver))
+            return false;
+    }
+    return acceptance_by_formulas(chain, false) && memory_by_formulas(chain);
+}
+
+/* A refused call by the handler's own file or index: another form, other bases, a wrong length. */
+static bool stray_by_settings(struct chain *chain)
+{
+    struct driver *driver = chain->driver;
     switch (rng_below(chain->rng, 4)) {
     case 0:
         driver->request.settings[FORM] = rng_below(chain->rng, 4);
@@ -267,11 +307,21 @@ static bool stray_call(struct chain *chain)
         driver->request.buffers[rng_between(chain->rng, MAP, ANSWER)].length = 35;
         driver->request.settings[NEW_MAIN] = 70000;
     }
-    bool agreed = agree(driver) && memory_by_formulas(chain);
+    return agree(driver) && memory_by_formulas(chain);
+}
+
+/* A call that is refused, by "whatever file or index". Memory stays, and so does where the handler is. */
+static bool stray_call(struct chain *chain)
+{
+    struct request *request = &chain->driver->request;
+    uint32_t settings[SETTINGS];
+    memcpy(settings, request->settings, sizeof settings);
+    choose_input(chain);
+    bool good = rng_once_in(chain->rng, 2) ? stray_by_input(chain) : stray_by_settings(chain);
     for (enum buffer buffer = MAP; buffer <= ANSWER; buffer++)
-        driver->request.buffers[buffer].length = room_length(buffer);
-    memcpy(driver->request.settings, settings, sizeof settings);
-    return agreed;
+        request->buffers[buffer].length = room_length(buffer);
+    memcpy(request->settings, settings, sizeof settings);
+    return good;
 }
 
 /* One move from where the handler is; if it is accepted, the handler is there. */
@@ -363,11 +413,11 @@ static bool run_chain(struct chain *chain)
     memcpy(chain->expected, chain->before, ADDRESSES);
     for (uint32_t moves = 1 + rng_below(chain->rng, MOVES_MOST); moves > 0; moves--) {
         request->placement = (enum placement)rng_below(chain->rng, PLACEMENTS);
-        choose_input(chain);
         if (!chain->quiet)
             live(chain);
         if (rng_once_in(chain->rng, 4) && !stray_call(chain))
             return false;
+        choose_input(chain);
         chain->making.slips_once_in = rng_once_in(chain->rng, 4) ? 4 : 0;
         if (!move_on(chain))
             return false;

@@ -39,7 +39,10 @@ struct reach make_index(const struct making *making);
 /* An ACX file whose index is about 65,536 bytes long. */
 struct reach make_long(const struct making *making);
 
-/* Spoils the request in one way or a few: cuts, flips, insertions, settings at bounds, wrong lengths, files too long. */
+/* Spoils the file or the index in one way: a cut, a flip, an insertion, a deletion, too much of it. It may stay sound. */
+void damage(const struct making *making);
+
+/* Spoils the request in one way or a few: so, or with settings at bounds, wrong lengths. */
 void mutate(const struct making *making);
 
 /* Gives one buffer of the call another length. */

@@ -82,37 +82,50 @@ void mutate_length(const struct making *making)
         rng_fill(making->rng, contents->bytes + length, contents->length - length);
 }
 
-void mutate(const struct making *making)
+/* The ways to damage a file, some of them more often than others. */
+enum { DAMAGES = 13 };
+
+static void damage_by(const struct making *making, uint32_t way)
 {
     struct rng *rng = making->rng;
     struct contents *file = &making->request->buffers[FILE_BYTES];
-    for (uint32_t i = 1 + rng_below(rng, 2); i > 0; i--)
-        switch (rng_below(rng, 16)) {
-        case 0:
-        case 1:
-        case 2:
-            cut(rng, file);
-            break;
-        case 3:
-        case 4:
-            insert_byte(rng, file);
-            break;
-        case 5:
-        case 6:
-            delete_byte(rng, file);
-            break;
-        case 7:
-        case 8:
+    switch (way) {
+    case 0:
+    case 1:
+    case 2:
+        cut(rng, file);
+        break;
+    case 3:
+    case 4:
+        insert_byte(rng, file);
+        break;
+    case 5:
+    case 6:
+        delete_byte(rng, file);
+        break;
+    case 7:
+        if (rng_once_in(rng, 4))
+            lengthen(rng, file);
+        break;
+    default:
+        change_byte(rng, file);
+    }
+}
+
+void damage(const struct making *making)
+{
+    damage_by(making, rng_below(making->rng, DAMAGES));
+}
+
+void mutate(const struct making *making)
+{
+    for (uint32_t i = 1 + rng_below(making->rng, 2); i > 0; i--) {
+        uint32_t way = rng_below(making->rng, DAMAGES + 3);
+        if (way < DAMAGES)
+            damage_by(making, way);
+        else if (way > DAMAGES)
             change_setting(making);
-            break;
-        case 9:
+        else
             mutate_length(making);
-            break;
-        case 10:
-            if (rng_once_in(rng, 4))
-                lengthen(rng, file);
-            break;
-        default:
-            change_byte(rng, file);
-        }
+    }
 }

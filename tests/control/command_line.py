@@ -24,7 +24,12 @@ def help_prints_the_usage(desk):
         holds(f"tekoweapa {command} FILE" in usage, f"{command} is not in the usage")
         same(desk.text(ACCEPTED, command, "--help"), usage, f"{command} --help")
         same(desk.text(ACCEPTED, command, "missing", "-h"), usage, f"{command} FILE -h")
-    holds(max(map(len, usage.splitlines())) <= 90, "a line of the usage is too long")
+    holds(max(map(len, usage.splitlines())) <= 84, "a line of the usage is too long")
+    for line in ("and moves handlers while they live, by file or by index. It runs nothing.",
+                 "  tekoweapa move FILE [options]   move an ACX handler in the --memory image",
+                 "                                  (or: move --index FILE [options])",
+                 "  --out FILE                      the image after the call, also after a refusal;"):
+        same(usage.splitlines().count(line), 1, f"lines {line!r} in the usage")
 
 
 @test

@@ -5,7 +5,7 @@ import re
 import shlex
 import subprocess
 
-from desk import REFUSED, BUILD, EXAMPLES, PROGRAM, ROOT, holds, same, test
+from desk import ACCEPTED, REFUSED, BUILD, EXAMPLES, PROGRAM, ROOT, holds, same, test
 
 
 def readme_blocks(language):
@@ -35,6 +35,17 @@ def the_refusal_in_the_readme_is_printed(desk):
     command, printed = shown.split("\n", 1)
     words = [word.replace("examples", EXAMPLES) for word in command.split()[2:]]
     same(desk.text(REFUSED, *words), printed, command)
+
+
+@test
+def the_commands_on_the_page_of_the_examples_are_accepted(desk):
+    """One after the other, in one folder."""
+    lines = [line.split() for line in open(os.path.join(EXAMPLES, "README.md"), encoding="utf-8") if line.startswith("    build/tekoweapa ")]
+    same([words[1] for words in lines], ["acx", "acx", "sdx", "index", "acx", "move"], "the commands")
+    for _, *words in lines:
+        desk.text(ACCEPTED, *(word.replace("examples/", EXAMPLES + "/") for word in words))
+    desk.text(ACCEPTED, "acx", os.path.join(EXAMPLES, "clock.acx"), "--main", "0x3000", "--memory", "heat.img", "--out", "fresh.img")
+    same(desk.get("moved.img") == desk.get("fresh.img"), True, "the clock moved by its index is one loaded at $3000")
 
 
 @test

@@ -127,7 +127,8 @@ def the_demo_passes(desk):
     more = dict(os.environ, TMPDIR=desk.folder)
     done = subprocess.run([demo, PROGRAM], capture_output=True, timeout=60, env=more)
     same((done.returncode, done.stderr), (0, b""), "exit status and errors")
-    for text in (b"accepted", b"fd30", b"refused with 13", b"06 02 01[01]0B", b"SCOREADD", b"index      ", b"the same image and the same map"):
+    for text in (b"accepted", b"fd30", b"refused with 13", b"06 02 01[01]0B", b"SCOREADD", b"the same image and the same map",
+                 b"index      103 bytes\nAn index names no base: built at the default $2400, it moves the clock from $2000.\n"):
         holds(text in done.stdout, f"{text} is not shown")
     same(desk.listing(), {}, "files left by the demo")
 

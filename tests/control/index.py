@@ -4,7 +4,7 @@ import os
 import re
 import threading
 
-from desk import (ACCEPTED, REFUSED, EXAMPLES, I1, LOADED, MEANINGS, MEMORY, P1, P3, P6, P10, PATTERN, holds, same, test,
+from desk import (ACCEPTED, REFUSED, EXAMPLES, I1, LOADED, MEANINGS, MEMORY, P1, P3, P6, P10, PATTERN, holds, make_device, same, test,
                   whose_index_does_not_fit, with_bytes)
 from targets import limited
 
@@ -125,10 +125,37 @@ def a_refusal_leaves_the_index_that_is_there(desk):
         same((sorted(desk.listing()), desk.get("map")), (["f", "map", "picture", "there"], bytes(MEMORY)), f"what {number} leaves")
         os.remove(desk.path("map"))
         os.remove(desk.path("picture"))
-    same(desk.text(REFUSED, "index", "f", *words, "--out", "new").splitlines()[1:], ["the index would have more than 65536 bytes"], "25")
     # a target that can't be written is an error, whatever the call would say
     os.chmod(desk.path("there"), 0o444)
     desk.trouble("index", "f", *words, "--out", "there", mention="there: can't be written: it is read-only")
+
+
+@test
+def a_refusal_says_that_no_index_is_written(desk):
+    """And what stays: the index that is there, or an empty file. A pipe or a device holds nothing that could."""
+    desk.put("there", I1)
+    desk.put("empty", b"")
+    desk.put("a\nb", I1)
+    make_device(desk, "null", 3)
+    stays = {"there": "; there stays as it was", "empty": "; empty stays as it was", "a\nb": '; "a\\x0Ab" stays as it was', "new": "", "null": ""}
+    device = ("--form", "device")
+    for number, words, content, line in (
+            (13, device, P10, "  $0000  00 05 00 00 4C 03 00 06 02 01[01]0B 02 00 00     ....L.........."),
+            (4, (), P1, "  $0000 [00]05 00 00 4C 03 00 06 01 01 0B 02 00 00        ....L........."),
+            (2, ("--main", "65536"), P1, "--main is 65536; 0 to 65535"),
+            (3, (), bytes(65537), "the file has more than 65536 bytes"),
+            (25, (*device, "--main", "0"), whose_index_does_not_fit(), "the index would have more than 65536 bytes")):
+        desk.put("f", content)
+        for name, former in stays.items():
+            said = desk.text(REFUSED, "index", "f", *words, "--out", name)
+            same(said.splitlines()[-2:], [line, f"no index is written{former}"], f"{number} to {name!r}")
+            same(desk.text(REFUSED, "index", "f", *words, "--out", name, "--quiet"), f"refused with {number}: {MEANINGS[number]}\n", "--quiet")
+    same(said.splitlines()[1:-1], [line], "25 alone")
+    # no other command says so, nor does an acceptance
+    desk.put("f", P10)
+    holds("no index" not in desk.text(REFUSED, "acx", "f", "--form", "device", "--out", "image"), "a load speaks of an index")
+    desk.put("f", P1)
+    holds("no index" not in desk.text(ACCEPTED, "index", "f", "--form", "device", "--out", "there"), "an acceptance speaks of none")
 
 
 @test
@@ -319,13 +346,15 @@ def a_refusal_by_an_index_shows_its_entry(desk):
              f"answer on {content.hex()}")
         same((desk.get("after") == PATTERN, desk.get("map") == bytes(MEMORY)), (True, True), f"image and map after {content.hex()}")
         lines = desk.text(REFUSED, *words).splitlines()
+        # another version, and an entry that is missing altogether, have no entry to be in
+        at = "at offset" if number == 24 or offset == len(content) else "in the entry at offset"
         same(lines[:2], [f"refused with {number}: {MEANINGS[number]}",
-                         f"at offset {offset} (${offset:04X}) of {len(content)} (side: old bases)"], f"report on {content.hex()}")
+                         f"{at} {offset} (${offset:04X}) of {len(content)} (side: old bases)"], f"report on {content.hex()}")
         marked = "[end]" if offset == len(content) else f"[{content[offset]:02X}]"
         same((lines[2].count("["), marked in lines[2], lines[2][:7]), (1, True, "  $0000"), f"the row of {content.hex()}: {lines[2]!r}")
     same(desk.text(REFUSED, "move", "--index", "x", *MOVE), """\
 refused with 19: bytes after the end record
-at offset 7 ($0007) of 19 (side: old bases)
+in the entry at offset 7 ($0007) of 19 (side: old bases)
   $0000  01 00 04 00 00 00 03[00]04 0B 00 00 00 00 04 0B  ................
   $0010  00 00 00                                         ...
 """, "report")
@@ -342,7 +371,7 @@ def a_refusal_of_a_call_by_an_index_says_what_is_wrong(desk):
         same(desk.text(REFUSED, *words, *more).splitlines(), [f"refused with 2: {MEANINGS[2]}", line], f"report with {more}")
         same(desk.answer(REFUSED, *words, *more)["side"], side, f"side with {more}")
     same(desk.text(REFUSED, *words, "--to-main", "65534").splitlines()[:2],
-         ["refused with 10: doesn't fit", "at offset 1 ($0001) of 16 (side: new bases)"], "the side of the new bases")
+         ["refused with 10: doesn't fit", "in the entry at offset 1 ($0001) of 16 (side: new bases)"], "the side of the new bases")
     for length in (65537, 200000):
         desk.put("x", I1 + bytes(length - len(I1)))
         same(desk.text(REFUSED, *words, "--to-main", "1").splitlines(),
@@ -370,10 +399,17 @@ def a_file_and_an_index_in_each_others_place_say_so(desk):
     desk.put("device", P1)
     same(desk.text(REFUSED, "move", "--index", "device", *move).splitlines()[2],
          "it opens as an ACX handler in device form may: FILE was meant, with '--form device' and without --index?", "device form")
+    for content in (open(os.path.join(EXAMPLES, "score.sdx"), "rb").read(), P6, b"\xFA\xFF", b"\xFF\xFF" + bytes(9)):
+        desk.put("f", content)
+        same(desk.text(REFUSED, "move", "--index", "f", *move).splitlines()[:3],
+             ["refused with 24: another version of the index", f"at offset 0 ($0000) of {len(content)} (side: old bases)",
+              "it opens as an SDX program does, and is no index"], f"an SDX program, {content[:9].hex()}")
     # no guess where there is nothing to go by
     for content in (b"\x00", b"\x00\x00", P6, b"\x02" + I1[1:], PATTERN, bytes(MEMORY), b"\xF0", I1[:-1], b""):
         desk.put("f", content)
-        holds("was meant" not in desk.text(REFUSED, "move", "--index", "f", *move), f"a guess by --index at {content[:9].hex()}")
+        by_index = desk.text(REFUSED, "move", "--index", "f", *move)
+        holds("was meant" not in by_index, f"a guess by --index at {content[:9].hex()}")
+        holds("opens as" not in by_index or content == P6, f"an opening seen by --index in {content[:9].hex()}")
         holds("index" not in desk.text(REFUSED, "acx", "f", "--form", "device"), f"a guess at an index by {content[:9].hex()}")
 
 

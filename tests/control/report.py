@@ -296,7 +296,8 @@ def every_refusal_has_its_number_and_meaning(desk):
         same(desk.text(REFUSED, *words, "f", "--quiet"), lines[0] + "\n", "--quiet")
         rows = "\n".join(line for line in lines if line.startswith("  $"))
         if number in (1, 2, 3, 25):
-            same((rows, len(lines)), ("", 2), f"rows of refusal {number}")
+            # by the command index there is a line more, that none is written
+            same((rows, len(lines)), ("", 3 if number == 25 else 2), f"rows of refusal {number}")
             continue
         same(lines[1], f"at offset {offset} (${offset:04X}) of {len(content)}" + (" (side: old bases)" if side == 0 else ""), "second line")
         marked = "end" if offset == len(content) else f"{content[offset]:02X}"
