@@ -310,7 +310,8 @@ static bool stray_by_settings(struct chain *chain)
     return agree(driver) && memory_by_formulas(chain);
 }
 
-/* A call that is refused, by "whatever file or index". Memory stays, and so does where the handler is. */
+/* A call that is refused: "the refused ones with whatever form, bases, map, scratch and C answer", and here by whatever file or index.
+ * Memory stays, and so does where the handler is. */
 static bool stray_call(struct chain *chain)
 {
     struct request *request = &chain->driver->request;

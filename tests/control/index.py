@@ -4,7 +4,7 @@ import os
 import re
 import threading
 
-from desk import (ACCEPTED, REFUSED, EXAMPLES, I1, LOADED, MEANINGS, MEMORY, P1, P3, P6, P10, PATTERN, holds, make_device, same, test,
+from desk import (ACCEPTED, REFUSED, EXAMPLES, I1, LOADED, MEANINGS, MEMORY, P1, P3, P6, P10, PATTERN, holds, same, test,
                   whose_index_does_not_fit, with_bytes)
 from targets import limited
 
@@ -132,12 +132,13 @@ def a_refusal_leaves_the_index_that_is_there(desk):
 
 @test
 def a_refusal_says_that_no_index_is_written(desk):
-    """And what stays: the index that is there, or an empty file. A pipe or a device holds nothing that could."""
+    """And what stays: the index that is there, or an empty file. A pipe holds nothing that could."""
     desk.put("there", I1)
     desk.put("empty", b"")
     desk.put("a\nb", I1)
-    make_device(desk, "null", 3)
-    stays = {"there": "; there stays as it was", "empty": "; empty stays as it was", "a\nb": '; "a\\x0Ab" stays as it was', "new": "", "null": ""}
+    os.mkfifo(desk.path("pipe"))
+    stays = {"there": "; there stays as it was", "empty": "; empty stays as it was", "a\nb": '; "a\\x0Ab" stays as it was', "new": "",
+             "pipe": ""}
     device = ("--form", "device")
     for number, words, content, line in (
             (13, device, P10, "  $0000  00 05 00 00 4C 03 00 06 02 01[01]0B 02 00 00     ....L.........."),
