@@ -188,6 +188,53 @@ static const struct directed refusals[] = {
     {"start too high at the old", MOVE_BY_INDEX(8193, 128, 8192, 128), "01 " VECTOR "00 04 0B 02 DF FF", REFUSED(20, 10)},
 };
 
+/* The rows of crates/index/specs/Examples.antt, in its order: each index at the row's bases, where it is moved nowhere. */
+#define AT(main, zero) MOVE_BY_INDEX(main, zero, main, zero)
+
+static const struct directed by_hand[] = {
+    {"by hand: P1's index where its file is loaded", AT(8192, 128), P1_INDEX, STARTED(8192, 3, 1)},
+    {"by hand: P1's index up to 65,536", AT(65533, 128), P1_INDEX, STARTED(65533, 3, 1)},
+    {"by hand: P1's index up to 65,537", AT(65534, 128), P1_INDEX, REFUSED(10, 1)},
+    {"by hand: pieces of each kind", AT(32, 128), "01 00 0A 00 01 02 FD 08 FC 99 06 FA 00 00 10 0A 00 02 05 03 00 00 05 01 00 07 02 00 09 04 77 00 0A 01 04 03 02 02 00 00 04 01 00 00 04 0B 01 05 06", STARTED(0x0506, 260, 8)},
+    {"by hand: main base 65,536 before an empty index", AT(65536, 128), "", REFUSED(2, 0)},
+    {"by hand: zero-page base 256", AT(32, 256), P1_INDEX, REFUSED(2, 0)},
+    {"by hand: an empty index", AT(32, 128), "", REFUSED(5, 0)},
+    {"by hand: version 2 alone", AT(32, 128), "02", REFUSED(24, 0)},
+    {"by hand: version 0", AT(32, 128), "00 00 04 0B 00 00 00", REFUSED(24, 0)},
+    {"by hand: a version alone", AT(32, 128), "01", REFUSED(5, 1)},
+    {"by hand: half a length word", AT(32, 128), "01 00", REFUSED(5, 1)},
+    {"by hand: an entry without its last byte", AT(32, 128), "01 00 04 0B 00 00", REFUSED(5, 1)},
+    {"by hand: no end entry behind a code entry", AT(32, 128), "01 00 04 00 00 00 01", REFUSED(5, 7)},
+    {"by hand: an empty entry", AT(32, 128), "01 00 00", REFUSED(9, 1)},
+    {"by hand: a fixup's type, though of one byte", AT(32, 128), "01 00 01 02", REFUSED(6, 1)},
+    {"by hand: an unknown type", AT(32, 128), "01 00 04 0C 00 00 00", REFUSED(6, 1)},
+    {"by hand: code of 1 byte", AT(32, 128), "01 00 01 00", REFUSED(9, 1)},
+    {"by hand: code of 5 bytes", AT(32, 128), "01 00 05 00 00 00 01 02", REFUSED(9, 1)},
+    {"by hand: code of 6 bytes", AT(32, 128), "01 00 06 00 00 00 01 02 00", REFUSED(9, 1)},
+    {"by hand: an end of 3 bytes", AT(32, 128), "01 00 03 0B 00 00", REFUSED(9, 1)},
+    {"by hand: an end of 5 bytes with another flag", AT(32, 128), "01 00 05 0B 09 00 00 00", REFUSED(9, 1)},
+    {"by hand: 254 bytes of code that do not fit", AT(32, 128), "01 00 04 00 FF FF FE", REFUSED(9, 1)},
+    {"by hand: flag 3", AT(32, 128), "01 00 04 0B 03 00 00", REFUSED(6, 1)},
+    {"by hand: code too high, with a bad fixup", AT(32, 128), "01 00 07 00 FF E0 01 03 00 00", REFUSED(10, 1)},
+    {"by hand: zero page too high", AT(32, 128), "01 00 04 0A 00 7F 02", REFUSED(10, 1)},
+    {"by hand: two pieces share an address", AT(32, 128), "01 00 04 00 00 00 02 00 04 01 00 21 01", REFUSED(17, 7)},
+    {"by hand: 03 after 00", AT(32, 128), "01 00 07 00 00 00 01 03 00 00", REFUSED(18, 1)},
+    {"by hand: 02 after 0A", AT(32, 128), "01 00 07 0A 00 00 01 02 00 00", REFUSED(18, 1)},
+    {"by hand: 05 after 01", AT(32, 128), "01 00 07 01 00 00 01 05 00 00", REFUSED(18, 1)},
+    {"by hand: an unknown kind", AT(32, 128), "01 00 07 00 00 00 01 0C 00 00", REFUSED(18, 1)},
+    {"by hand: a type that is no fixup's", AT(32, 128), "01 00 07 00 00 00 01 00 00 00", REFUSED(18, 1)},
+    {"by hand: 12 of the first before a bad kind", AT(32, 128), "01 00 0A 00 00 00 01 02 09 00 0C 00 00", REFUSED(12, 1)},
+    {"by hand: a bad kind before 12 of the third", AT(32, 128), "01 00 0D 00 00 00 01 02 00 00 0C 00 00 02 09 00", REFUSED(18, 1)},
+    {"by hand: a bad kind before its field", AT(32, 128), "01 00 07 00 00 00 01 0C 09 00", REFUSED(18, 1)},
+    {"by hand: a word's second byte outside", AT(32, 128), "01 00 07 00 00 00 02 06 01 00", REFUSED(12, 1)},
+    {"by hand: a word's second byte again", AT(32, 128), "01 00 0A 00 00 00 02 06 00 00 02 01 00", REFUSED(13, 1)},
+    {"by hand: unused LSBs", AT(32, 128), "01 00 0A 00 00 00 03 06 01 63 02 00 63 00 04 0B 02 00 00", STARTED(32, 3, 2)},
+    {"by hand: start too high", AT(32, 128), "01 00 04 00 00 00 01 00 04 0B 02 FF E0", REFUSED(20, 7)},
+    {"by hand: a byte after the end entry", AT(32, 128), "01 00 04 0B 00 00 00 00", REFUSED(19, 1)},
+    {"by hand: start too high before a byte after it", AT(32, 128), "01 00 04 0B 02 FF E0 00", REFUSED(20, 1)},
+    {"by hand: flag 0 with an address", AT(32, 128), "01 00 04 0B 00 12 34", LOADED(0, 0)},
+};
+
 /* An entry of this type and length behind P1's, all there, its other bytes 10. It is no entry at all, so it is refused with this number. */
 static void run_entry(struct driver *driver, uint32_t type, uint32_t length, uint32_t number)
 {
@@ -300,6 +347,8 @@ void cases_index(struct driver *driver)
         run_directed(driver, &moves[i]);
     for (size_t i = 0; i < sizeof refusals / sizeof refusals[0]; i++)
         run_directed(driver, &refusals[i]);
+    for (size_t i = 0; i < sizeof by_hand / sizeof by_hand[0]; i++)
+        run_directed(driver, &by_hand[i]);
     types_and_lengths(driver);
     kinds_in_codes(driver);
     for (size_t i = 0; i < sizeof counts / sizeof counts[0]; i++)
