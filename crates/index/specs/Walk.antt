@@ -8,7 +8,6 @@ use lib.ListN.{length, getD, replicate}
 use Rattle.acx.specs.Call.{inRange}
 use Rattle.acx.specs.Walk.{Verdict, accepted, refused, atOnce}
 use Rattle.answer.specs.Checks.{need}
-use Rattle.answer.specs.declared.Fault.{Fault}
 use Rattle.answer.specs.declared.Fault.the-variants.{SettingOutOfRange, FileTooLong, CutShort, FixupUnsuited, WrongVersion}
 use Rattle.entries.specs.Bytes.{version}
 use Rattle.entries.specs.Entries.{read, fieldsTo, allSuit}
