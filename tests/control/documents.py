@@ -18,15 +18,19 @@ def readme_blocks(language):
 
 @test
 def the_example_in_the_readme_compiles_and_prints_what_it_says(desk):
-    (source,) = readme_blocks("c")
+    """Alone, and with the lines that move the handler by its index."""
+    program, by_index = readme_blocks("c")
     (command,) = [block for block in readme_blocks("") if block.startswith("gcc ")]
     command, printed = re.fullmatch(r"(.*?) *# (.*)\n", command).groups()
-    desk.put("example.c", source.encode())
     folders = {"include": os.path.join(ROOT, "include"), "build": BUILD}
     command = re.sub(r"(?<=-I)include\b|\bbuild(?=/)", lambda name: shlex.quote(folders[name[0]]), command)
     command = command.replace("gcc", "gcc -Wall -Wextra -Werror", 1)
-    done = subprocess.run(["sh", "-c", command], cwd=desk.folder, capture_output=True, timeout=60)
-    same((done.returncode, done.stdout.decode(), done.stderr), (0, printed + "\n", b""), command)
+    moved = by_index + '    printf("%zu used, %02X %02X %02X\\n", used, memory[12416], memory[12417], memory[12418]);\n'
+    together = re.sub(r"(?=    return )", lambda _: moved, program)
+    for source, prints in (program, printed + "\n"), (together, printed + "\n16 used, 4C 83 30\n"):
+        desk.put("example.c", source.encode())
+        done = subprocess.run(["sh", "-c", command], cwd=desk.folder, capture_output=True, timeout=60)
+        same((done.returncode, done.stdout.decode(), done.stderr), (0, prints, b""), command)
 
 
 @test
