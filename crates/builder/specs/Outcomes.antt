@@ -1,5 +1,5 @@
 -- What a call of the builder comes to, in the wish's words: when it is accepted and what it then leaves, and when it is refused and with what. Proved in
--- proofs/Outcomes.antt: `built-exactly : Claim` and `build-refusals : RefusalsClaim`.
+-- proofs/Outcomes.antt: `built-exactly : Claim`, `build-refusals : RefusalsClaim` and `same-index : SameClaim`.
 -- Assumes nothing.
 use mathlib.Core.Bool.{Bool, true, _&&_}
 use mathlib.Core.List.{List, map}
