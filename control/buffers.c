@@ -59,12 +59,6 @@ static void call_acx(const struct options *options, struct buffers *buffers)
                  buffers->answer, sizeof buffers->answer);
 }
 
-static void call_hex(struct buffers *buffers)
-{
-    tkw_hex_load(buffers->file, buffers->file_length, buffers->memory, sizeof buffers->memory, buffers->map, sizeof buffers->map,
-                 buffers->answer, sizeof buffers->answer);
-}
-
 static void call_index(const struct options *options, struct buffers *buffers)
 {
     tkw_index_build(options->form.value, buffers->file, buffers->file_length, options->main_base.value, options->zero_base.value,
@@ -96,9 +90,6 @@ struct answer call_loader(const struct options *options, struct buffers *buffers
         break;
     case COMMAND_ACX:
         call_acx(options, buffers);
-        break;
-    case COMMAND_HEX:
-        call_hex(buffers);
         break;
     case COMMAND_INDEX:
         call_index(options, buffers);

@@ -1,11 +1,8 @@
 #include "explain.h"
 #include "files.h"
-#include "hex.h"
 #include "index.h"
 #include "number.h"
 #include "text.h"
-
-#include <string.h>
 
 bool has_place(uint32_t number)
 {
@@ -55,18 +52,15 @@ static bool opens_as_sdx(const struct buffers *buffers)
 static void explain_opening(FILE *stream, const struct options *options, const struct buffers *buffers)
 {
     uint32_t word = opening_of(buffers);
-    bool handler = takes_handler(options);
-    if (word == 0xFFF0)
-        fputs(handler ? "it opens F0 FF, as disk form does: '--form disk' was meant?\n"
-                      : "it opens F0 FF, as an ACX handler does: 'tekoweapa acx' was meant?\n", stream);
-    else if (opens_as_sdx(buffers) && options->command != COMMAND_SDX)
+    bool sdx = options->command == COMMAND_SDX;
+    if (word == 0xFFF0 && sdx)
+        fputs("it opens F0 FF, as an ACX handler does: 'tekoweapa acx' was meant?\n", stream);
+    else if (word == 0xFFF0)
+        fputs("it opens F0 FF, as disk form does: '--form disk' was meant?\n", stream);
+    else if (opens_as_sdx(buffers) && !sdx)
         fputs("it opens as an SDX program does: 'tekoweapa sdx' was meant?\n", stream);
     else if (may_be_device_form(buffers))
-        fprintf(stream, "it opens as an ACX handler in device form may: '%s--form device' was meant?\n", handler ? "" : "tekoweapa acx ");
-    else if (opens_as_hex(buffers))
-        fputs("it opens as an Intel HEX file does: 'tekoweapa hex' was meant?\n", stream);
-    else if (takes_text(options) && buffers->file_length >= 3 && memcmp(buffers->file, "\xEF\xBB\xBF", 3) == 0)
-        fputs("it opens EF BB BF, the mark of a text in UTF-8; a HEX file has none\n", stream);
+        fprintf(stream, "it opens as an ACX handler in device form may: '%s--form device' was meant?\n", sdx ? "tekoweapa acx " : "");
 }
 
 /* A file that was given as an index shows itself in the same way. */
@@ -76,18 +70,8 @@ static void explain_version(FILE *stream, const struct buffers *buffers)
         fputs("it opens F0 FF, as an ACX handler does: FILE was meant, without --index?\n", stream);
     else if (opens_as_sdx(buffers))
         fputs("it opens as an SDX program does, and is no index\n", stream);
-    else if (opens_as_hex(buffers))
-        fputs("it opens as an Intel HEX file does, and is no index\n", stream);
     else if (may_be_device_form(buffers))
         fputs("it opens as an ACX handler in device form may: FILE was meant, with '--form device' and without --index?\n", stream);
-}
-
-/* Every HEX file that fills memory is met by this refusal, which people may not expect. */
-static void explain_size(FILE *stream, const struct options *options)
-{
-    fprintf(stream, "the %s has more than %d bytes\n", options->index != NULL ? "index" : "file", TKW_FILE_MOST);
-    if (options->command == COMMAND_HEX)
-        fputs("a HEX file that would fill memory always has: it needs two digits for each byte\n", stream);
 }
 
 /* The offset of this refusal is that of the name. */
@@ -104,12 +88,6 @@ void explain_refusal(FILE *stream, const struct options *options, const struct b
         fputs("it is a fixup index: 'tekoweapa move --index' was meant?\n", stream);
         return;
     }
-    if (takes_text(options) && has_place(answer->number)) {
-        explain_hex(stream, buffers, answer);
-        if (answer->offset == 0)
-            explain_opening(stream, options, buffers);
-        return;
-    }
     switch (answer->number) {
     case TKW_WRONG_BUFFER:
         explain_buffers(stream, options, buffers);
@@ -118,7 +96,7 @@ void explain_refusal(FILE *stream, const struct options *options, const struct b
         explain_settings(stream, options);
         break;
     case TKW_FILE_TOO_LONG:
-        explain_size(stream, options);
+        fprintf(stream, "the %s has more than %d bytes\n", options->index != NULL ? "index" : "file", TKW_FILE_MOST);
         break;
     case TKW_WRONG_OPENING:
         explain_opening(stream, options, buffers);

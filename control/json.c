@@ -1,6 +1,4 @@
 #include "json.h"
-#include "explain.h"
-#include "lines.h"
 #include "text.h"
 
 /* A member that is a number, or null where it is absent, and the comma behind it. */
@@ -10,17 +8,6 @@ static void print_member(FILE *stream, const char *name, bool present, uint32_t 
         fprintf(stream, "\"%s\":%u,", name, number);
     else
         fprintf(stream, "\"%s\":null,", name);
-}
-
-/* The line and the column of a refusal that has a place in a text, and the commas behind them. */
-static void print_position(FILE *stream, const struct options *options, const struct buffers *buffers, const struct answer *answer)
-{
-    bool present = takes_text(options) && has_place(answer->number);
-    struct position position = {0};
-    if (present)
-        position = position_of(buffers->file, buffers->file_length, answer->offset);
-    print_member(stream, "line", present, (uint32_t)position.line);
-    print_member(stream, "column", present, (uint32_t)position.column);
 }
 
 /* The path of what was read, or null, and the comma behind it. */
@@ -87,7 +74,6 @@ void print_json(FILE *stream, const struct options *options, const struct buffer
     /* The meanings have no character that JSON would want escaped. */
     fprintf(stream, "\"number\":%u,\"meaning\":\"%s\",", answer->number, tkw_number_text(answer->number));
     print_member(stream, "offset", !accepted, answer->offset);
-    print_position(stream, options, buffers, answer);
     print_member(stream, "side", !accepted && options->command == COMMAND_MOVE, answer->side);
     print_member(stream, "start", answer->start_present != 0, answer->start);
     print_member(stream, "init", has_init(options, buffers), read_word(buffers->memory + INIT_ADDRESS));

@@ -1,9 +1,9 @@
 /* tekoweapa, the bench's control program: one load or move of an image of memory, or one index, for people at the desk.
  *
  * The command line is read by options (usage has the help), files by files, names and number. buffers makes the call; presence looks where
- * a handler is that is to be moved. report prints what came of it, with explain and rows, of a HEX file with hex and lines, or json does.
- * Outputs are planned here, looked at by targets, and written by outputs, with temporaries; the picture by picture, on a canvas, as png
- * (deflate) or ppm, into bytes. index knows an index when it sees one, errors says what is wrong, and text shows bytes that come from outside. */
+ * a handler is that is to be moved. report prints what came of it, with explain and rows, or json does. Outputs are planned here, looked at
+ * by targets, and written by outputs, with temporaries; the picture by picture, on a canvas, as png (deflate) or ppm, into bytes. index
+ * knows an index when it sees one, errors says what is wrong, and text shows bytes that come from outside. */
 #define _XOPEN_SOURCE 700
 
 #include "buffers.h"

@@ -9,11 +9,9 @@
 enum {
     SDX = 1u << COMMAND_SDX,
     ACX = 1u << COMMAND_ACX,
-    HEX = 1u << COMMAND_HEX,
     INDEX = 1u << COMMAND_INDEX,
     MOVE = 1u << COMMAND_MOVE,
-    LOADS = SDX | ACX | HEX,
-    WITH_MEMORY = LOADS | MOVE,
+    WITH_MEMORY = SDX | ACX | MOVE,
     ANY = WITH_MEMORY | INDEX
 };
 
@@ -50,7 +48,7 @@ static const struct option OPTIONS[] = {
     SETTING("--to-main", MOVE, to_main, ADDRESS_MOST),
     SETTING("--to-zero", MOVE, to_zero, ZERO_BASE_MOST),
     OPTION("--memory", WITH_MEMORY, memory),
-    OPTION("--fresh", LOADS, fresh),
+    OPTION("--fresh", SDX | ACX, fresh),
     OPTION("--out", ANY, out),
     OPTION("--map", ANY, map),
     OPTION("--picture", ANY, picture),
@@ -68,8 +66,7 @@ enum { OPTION_COUNT = sizeof OPTIONS / sizeof OPTIONS[0] };
 _Static_assert(OPTION_COUNT <= 32, "an option has no bit in struct reading's `given`");
 _Static_assert((int)OPTION_COUNT <= (int)SETTINGS_MOST, "a command's settings may have no room");
 
-static const char *const COMMANDS[] = {
-    [COMMAND_SDX] = "sdx", [COMMAND_ACX] = "acx", [COMMAND_HEX] = "hex", [COMMAND_INDEX] = "index", [COMMAND_MOVE] = "move"};
+static const char *const COMMANDS[] = {[COMMAND_SDX] = "sdx", [COMMAND_ACX] = "acx", [COMMAND_INDEX] = "index", [COMMAND_MOVE] = "move"};
 
 static const char *const FORMS[] = {[FORM_DISK] = "disk", [FORM_DEVICE] = "device"};
 
@@ -97,19 +94,9 @@ const char *source_of(const struct options *options)
     return options->index != NULL ? options->index : options->file;
 }
 
-bool takes_handler(const struct options *options)
-{
-    return options->command == COMMAND_ACX || options->command == COMMAND_INDEX || options->command == COMMAND_MOVE;
-}
-
-bool takes_text(const struct options *options)
-{
-    return options->command == COMMAND_HEX;
-}
-
 bool has_form(const struct options *options)
 {
-    return takes_handler(options) && options->index == NULL;
+    return options->command != COMMAND_SDX && options->index == NULL;
 }
 
 size_t list_settings(const struct options *options, struct setting settings[SETTINGS_MOST])
@@ -153,7 +140,7 @@ static bool take_command(const char *word, enum command *command)
     size_t place = place_of(word, COMMANDS, count);
     *command = (enum command)place;
     if (word[0] == '-')
-        return misused(word, "the command comes first: sdx, acx, hex, index or move");
+        return misused(word, "the command comes first: sdx, acx, index or move");
     return place < count || misused(word, "unknown command");
 }
 

@@ -8,7 +8,7 @@
 #include <stddef.h>
 #include <stdint.h>
 
-enum command { COMMAND_SDX, COMMAND_ACX, COMMAND_HEX, COMMAND_INDEX, COMMAND_MOVE };
+enum command { COMMAND_SDX, COMMAND_ACX, COMMAND_INDEX, COMMAND_MOVE };
 
 enum form { FORM_DISK = TKW_DISK, FORM_DEVICE = TKW_DEVICE };
 
@@ -61,10 +61,6 @@ bool parse_options(int count, char **words, struct options *options);
 
 /* What the call goes by: FILE, or the index of a move. */
 const char *source_of(const struct options *options);
-
-/* Whether the call goes by a handler, as a file or as an index; and whether by text, in which people look for lines. */
-bool takes_handler(const struct options *options);
-bool takes_text(const struct options *options);
 
 /* Whether the call has a form; and its number settings, whose count is returned. */
 bool has_form(const struct options *options);

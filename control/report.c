@@ -1,6 +1,5 @@
 #include "report.h"
 #include "explain.h"
-#include "lines.h"
 #include "rows.h"
 #include "text.h"
 
@@ -126,10 +125,6 @@ static void print_place(FILE *stream, const struct options *options, const struc
             answer->offset, buffers->file_length);
     if (options->command == COMMAND_MOVE)
         fprintf(stream, " (side: %s bases)", answer->side == 0 ? "old" : "new");
-    if (takes_text(options)) {
-        struct position position = position_of(buffers->file, buffers->file_length, answer->offset);
-        fprintf(stream, " (line %zu, column %zu)", position.line, position.column);
-    }
     fputc('\n', stream);
 }
 
@@ -151,9 +146,7 @@ static void print_refusal(FILE *stream, const struct options *options, const str
     if (placed)
         print_place(stream, options, buffers, answer);
     explain_refusal(stream, options, buffers, answer);
-    if (placed && takes_text(options))
-        print_text_lines(stream, buffers->file, buffers->file_length, answer->offset);
-    else if (placed)
+    if (placed)
         print_file_rows(stream, buffers, answer->offset);
 }
 

@@ -3,20 +3,18 @@
 #include "tekoweapa.h"
 
 static const char *const COMMANDS =
-    "tekoweapa loads SpartaDOS X programs, ACX handlers and Intel HEX files into an image\n"
-    "of memory, and moves handlers while they live, by file or index. It runs nothing.\n"
+    "tekoweapa loads SpartaDOS X programs and ACX handlers into an image of memory,\n"
+    "and moves handlers while they live, by file or by index. It runs nothing.\n"
     "\n"
     "  tekoweapa sdx FILE [options]    load an SDX program\n"
     "  tekoweapa acx FILE [options]    load an ACX handler\n"
-    "  tekoweapa hex FILE [options]    load an Intel HEX file; one that would fill memory\n"
-    "                                  is longer than 65536 bytes and is refused with 3\n"
     "  tekoweapa index FILE [options]  build the index of an ACX handler\n"
     "  tekoweapa move FILE [options]   move an ACX handler in the --memory image\n"
     "                                  (or: move --index FILE [options])\n"
     "\n";
 
 static const char *const ALL =
-    "sdx, acx, hex and move\n"
+    "sdx, acx and move\n"
     "  --memory FILE                   image of 65536 bytes before the call (zeros, but a\n"
     "                                  move needs its image)\n"
     "  --dump                          also print the loaded bytes\n"
@@ -62,7 +60,7 @@ static void print_settings(FILE *stream)
             "  --from-main N --from-zero N     bases at which it is now (%d, %d)\n"
             "  --to-main N --to-zero N         bases to which it goes, at least one of them\n"
             "                                  (where it is now)\n"
-            "sdx, acx and hex\n"
+            "sdx and acx\n"
             "  --fresh                         begin with zeros, though the --out file is there\n",
             TKW_DEFAULT_MAIN_BASE, TKW_DEFAULT_ZERO_BASE, TKW_DEFAULT_MAIN_BASE, TKW_DEFAULT_ZERO_BASE);
 }

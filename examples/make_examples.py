@@ -378,40 +378,6 @@ def score_file():
     return file + sdx_new_name(SCORE_BLOCK, labels["add"], b"SCOREADD")
 
 
-# Intel HEX
-
-HEX_DATA, HEX_END, HEX_LINEAR, HEX_START = 0x00, 0x01, 0x04, 0x05
-HEX_ROW = 16
-DEFAULT_MAIN, DEFAULT_ZERO = 0x2400, 0x80
-
-
-def hex_record(kind, address, data):
-    """A record and the end of its line; its bytes with the sum are 0 modulo 256."""
-    content = bytes([len(data), address >> 8, address & 0xFF, kind]) + data
-    return ":" + (content + bytes([-sum(content) & 0xFF])).hex().upper() + "\r\n"
-
-
-def hex_file(pieces, start):
-    """A handler as it is once it is loaded at the default bases: assembled for its places there, which nobody has to adjust any more."""
-    bases = {MAIN: DEFAULT_MAIN, ZERO_PAGE: DEFAULT_ZERO, ABSOLUTE: 0}
-    placed = [(bases[kind] + address, items) for kind, address, items in pieces]
-    labels = {}
-    for place, items in placed:
-        labels.update(labels_of(items, place)[0])
-    text = hex_record(HEX_LINEAR, 0, bytes(2))
-    for place, items in placed:
-        code, _ = assembled(items, labels)
-        for at in range(0, len(code), HEX_ROW):
-            text += hex_record(HEX_DATA, place + at, code[at:at + HEX_ROW])
-    text += hex_record(HEX_START, 0, labels[start].to_bytes(4, "big"))
-    return text + hex_record(HEX_END, 0, b"")
-
-
-# The clock, as the visiting division would send it; and the same with a digit misread on the way, in the third line.
-CLOCK_HEX = hex_file(CLOCK, "init")
-MISREAD_HEX = CLOCK_HEX.replace("6D0025", "6D0026", 1)
-
-
 def main():
     folder = sys.argv[1] if len(sys.argv) > 1 else os.path.dirname(os.path.abspath(__file__))
     files = {
@@ -421,8 +387,6 @@ def main():
         "twice.acx": TWICE,
         "score.sdx": score_file(),
         "names.txt": NAMES_TEXT.encode("ascii"),
-        "clock.hex": CLOCK_HEX.encode("ascii"),
-        "misread.hex": MISREAD_HEX.encode("ascii"),
     }
     for name, content in files.items():
         with open(os.path.join(folder, name), "wb") as file:

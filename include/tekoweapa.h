@@ -1,5 +1,5 @@
-/* Tekoweapa: loads SpartaDOS X (SDX) programs, ACX handlers and Intel HEX files into a lent memory, and moves handlers while they live, by
- * their file or by a small index built from it. Runs nothing.
+/* Tekoweapa: loads SpartaDOS X (SDX) programs and ACX handlers into a lent memory, and moves handlers while they live, by their file or by a
+ * small index built from it. Runs nothing.
  *
  * Every function takes whatever comes and ends with a number: 0 for an acceptance, else the first fault (enum tkw_number). A buffer is a
  * pointer and its length in bytes. A length may be wrong, and the call is then refused with 1, but the pointer must be good for that many
@@ -23,7 +23,7 @@
 #include <stdint.h>
 
 /* The version of this header and of the library behind it: both change together. */
-#define TKW_VERSION "1.5.0"
+#define TKW_VERSION "1.4.0"
 
 #ifdef __cplusplus
 extern "C" {
@@ -90,8 +90,6 @@ enum tkw_number {
     TKW_FIXUP_UNSUITED = 18,
     TKW_BYTES_AFTER_END = 19,
     TKW_START_TOO_HIGH = 20,
-    TKW_BAD_CHARACTER = 22,
-    TKW_WRONG_SUM = 23,
     TKW_WRONG_VERSION = 24,
     TKW_INDEX_TOO_LONG = 25
 };
@@ -143,10 +141,6 @@ static inline const char *tkw_number_text(uint32_t number)
         return "bytes after the end record";
     case TKW_START_TOO_HIGH:
         return "start above 65,535";
-    case TKW_BAD_CHARACTER:
-        return "bad digit or stray character";
-    case TKW_WRONG_SUM:
-        return "wrong sum";
     case TKW_WRONG_VERSION:
         return "another version of the index";
     case TKW_INDEX_TOO_LONG:
@@ -190,13 +184,6 @@ uint32_t tkw_acx_load(uint32_t form, const uint8_t *file, size_t file_length, ui
 uint32_t tkw_acx_load_default(uint32_t form, const uint8_t *file, size_t file_length,
                               uint8_t *memory, size_t memory_length, uint8_t *map, size_t map_length,
                               uint8_t *answer, size_t answer_length);
-
-/* Loads an Intel HEX file: records of types 00 to 05, with letters of either case, and any or no CR, LF, space and tab before, between and after
- * them. Data wraps inside its segment under a type 02 and before any 02 or 04, and not under a 04; later data, the later 02 or 04 and the later
- * start win. A file is at most 65,536 bytes, two characters for each byte that it places, so none fills memory: one that would is longer and
- * refused with 3. */
-uint32_t tkw_hex_load(const uint8_t *file, size_t file_length, uint8_t *memory, size_t memory_length, uint8_t *map, size_t map_length,
-                      uint8_t *answer, size_t answer_length);
 
 /* Moves an ACX handler that lives in memory at the old bases to the new ones: its bytes as they are now, its address fields adjusted from
  * their current contents. A piece at a fixed address stays, and its fields are adjusted there. Refused as a load at the old bases would be

@@ -24,7 +24,6 @@ import writing
 import targets
 import picture
 import index
-import intel_hex
 import examples
 import documents
 import build

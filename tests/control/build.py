@@ -132,7 +132,7 @@ def everything_is_built_once_and_one_rt_runs_at_a_time(desk):
         echo "$program" >>calls
         printf '#!/bin/sh\\necho "1 passed, 0 failed"\\n' >"$program"
         chmod +x "$program\"""")
-    stand_in(desk, "bin/valgrind", 'case "$*" in *twice*|*misread*) exit 1;; esac')
+    stand_in(desk, "bin/valgrind", 'case "$*" in *twice*) exit 1;; esac')
     stand_in(desk, "tests/driver-catches", 'echo "1 passed, 0 failed"')
     for name in ("tests/control/__main__.py", "tests/sizes.py"):
         desk.put(name, b'print("1 passed, 0 failed")\n')

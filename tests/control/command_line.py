@@ -25,9 +25,7 @@ def help_prints_the_usage(desk):
         same(desk.text(ACCEPTED, command, "--help"), usage, f"{command} --help")
         same(desk.text(ACCEPTED, command, "missing", "-h"), usage, f"{command} FILE -h")
     holds(max(map(len, usage.splitlines())) <= 84, "a line of the usage is too long")
-    for line in ("of memory, and moves handlers while they live, by file or index. It runs nothing.",
-                 "  tekoweapa hex FILE [options]    load an Intel HEX file; one that would fill memory",
-                 "                                  is longer than 65536 bytes and is refused with 3",
+    for line in ("and moves handlers while they live, by file or by index. It runs nothing.",
                  "  tekoweapa move FILE [options]   move an ACX handler in the --memory image",
                  "                                  (or: move --index FILE [options])",
                  "  --out FILE                      the image after the call, also after a refusal;"):
@@ -72,7 +70,7 @@ def unknown_words_are_usage_errors(desk):
     desk.trouble("load", "f", mention="load: unknown command (see 'tekoweapa --help')\n")
     desk.trouble("", "f", mention="unknown command")
     for word in ("--json", "-x", "--", "--version=1"):
-        desk.trouble(word, "acx", "f", mention=f"{word}: the command comes first: sdx, acx, hex, index or move")
+        desk.trouble(word, "acx", "f", mention=f"{word}: the command comes first: sdx, acx, index or move")
     desk.trouble("--help", "acx", mention="acx: nothing goes with --help")
     desk.trouble("--version", "acx", mention="acx: nothing goes with --version")
     for word in ("--bogus", "-x", "-hh", "--jso", "--mainly=1", "--=1", "-1"):
@@ -126,7 +124,7 @@ def a_dash_is_standard_input(desk):
 def every_command_has_its_options_and_no_others(desk):
     desk.put("f", P1)
     desk.put("image", bytes(MEMORY))
-    needed = {"sdx": {}, "acx": {}, "hex": {}, "index": {"--out": "built"}, "move": {"--memory": "image", "--to-main": "1"}}
+    needed = {"sdx": {}, "acx": {}, "index": {"--out": "built"}, "move": {"--memory": "image", "--to-main": "1"}}
     for command in COMMANDS:
         for name, (commands, value) in OPTIONS.items():
             # an index stands in FILE's place

@@ -18,9 +18,9 @@ NOBODY = 65534
 # The signals after which the program cleans up.
 ENDING = (signal.SIGINT, signal.SIGTERM, signal.SIGHUP, signal.SIGQUIT)
 ACCEPTED, REFUSED, TROUBLE = 0, 1, 2
-COMMANDS = ("sdx", "acx", "hex", "index", "move")
+COMMANDS = ("sdx", "acx", "index", "move")
 
-# Document 01, "Numbers a bench can show"; document 02, wishes 1 and 5.
+# Document 01, "Numbers a bench can show"; document 02, wish 5.
 MEANINGS = {
     1: "memory, map, scratch, room for an index, new-name buffers or C answer of another length; known names not eight bytes per address, or over 256",
     2: "a setting outside its range",
@@ -42,15 +42,13 @@ MEANINGS = {
     18: "fixup kind doesn't suit the code before it",
     19: "bytes after the end record",
     20: "start above 65,535",
-    22: "bad digit or stray character",
-    23: "wrong sum",
     24: "another version of the index",
     25: "the index doesn't fit",
 }
 
 # The options with the commands that have them, and a value that suits.
-LOADS = ("sdx", "acx", "hex")
-WITH_MEMORY = (*LOADS, "move")
+LOADS = ("sdx", "acx")
+WITH_MEMORY = ("sdx", "acx", "move")
 OPTIONS = {
     "--form": ({"acx", "index", "move"}, "device"),
     "--main": ({"acx", "index"}, "1"),

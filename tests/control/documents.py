@@ -34,20 +34,18 @@ def the_example_in_the_readme_compiles_and_prints_what_it_says(desk):
 
 
 @test
-def the_refusals_in_the_readme_are_printed(desk):
-    shown = [block for block in readme_blocks("") if block.startswith("$ build/tekoweapa")]
-    same([block.split()[2] for block in shown], ["acx", "hex"], "the commands")
-    for block in shown:
-        command, printed = block.split("\n", 1)
-        words = [word.replace("examples", EXAMPLES) for word in command.split()[2:]]
-        same(desk.text(REFUSED, *words), printed, command)
+def the_refusal_in_the_readme_is_printed(desk):
+    (shown,) = [block for block in readme_blocks("") if block.startswith("$ build/tekoweapa")]
+    command, printed = shown.split("\n", 1)
+    words = [word.replace("examples", EXAMPLES) for word in command.split()[2:]]
+    same(desk.text(REFUSED, *words), printed, command)
 
 
 @test
 def the_commands_on_the_page_of_the_examples_are_accepted(desk):
     """One after the other, in one folder."""
     lines = [line.split() for line in open(os.path.join(EXAMPLES, "README.md"), encoding="utf-8") if line.startswith("    build/tekoweapa ")]
-    same([words[1] for words in lines], ["acx", "acx", "sdx", "hex", "index", "acx", "move"], "the commands")
+    same([words[1] for words in lines], ["acx", "acx", "sdx", "index", "acx", "move"], "the commands")
     for _, *words in lines:
         desk.text(ACCEPTED, *(word.replace("examples/", EXAMPLES + "/") for word in words))
     desk.text(ACCEPTED, "acx", os.path.join(EXAMPLES, "clock.acx"), "--main", "0x3000", "--memory", "heat.img", "--out", "fresh.img")

@@ -5,7 +5,7 @@ import os
 import subprocess
 import sys
 
-from desk import ACCEPTED, REFUSED, EXAMPLES, MEMORY, P1, P10, PATTERN, PROGRAM, holds, same, test, with_bytes
+from desk import ACCEPTED, REFUSED, EXAMPLES, P1, P10, PATTERN, PROGRAM, holds, same, test, with_bytes
 
 
 @test
@@ -13,7 +13,7 @@ def the_examples_are_what_the_script_makes(desk):
     script = os.path.join(EXAMPLES, "make_examples.py")
     subprocess.run([sys.executable, "-B", script, desk.folder], check=True, timeout=60)
     made = desk.listing()
-    same(sorted(made), ["clock.acx", "clock.hex", "jump.acx", "misread.hex", "names.txt", "score.sdx", "signal.acx", "twice.acx"], "files")
+    same(sorted(made), ["clock.acx", "jump.acx", "names.txt", "score.sdx", "signal.acx", "twice.acx"], "files")
     for name, content in made.items():
         same(open(os.path.join(EXAMPLES, name), "rb").read(), content, name)
     same(made["jump.acx"], P1, "jump.acx is P1")
@@ -93,38 +93,12 @@ def the_score_program_uses_what_sdx_has(desk):
 
 
 @test
-def the_clock_in_hex_is_the_clock_as_it_is_loaded(desk):
-    """At the default bases, in any memory: the same bytes at the same addresses, and the same start; of adjusting nothing is left to see."""
-    acx, hexed = (os.path.join(EXAMPLES, name) for name in ("clock.acx", "clock.hex"))
-    for before in (bytes(MEMORY), PATTERN):
-        desk.put("before", before)
-        ours = desk.answer(ACCEPTED, "acx", acx, "--memory", "before", "--out", "ours", "--map", "ours.map")
-        theirs = desk.answer(ACCEPTED, "hex", hexed, "--memory", "before", "--out", "theirs", "--map", "theirs.map")
-        same(desk.get("theirs") == desk.get("ours"), True, "the images are the same")
-        same(desk.get("theirs.map"), bytes(min(mark, 1) for mark in desk.get("ours.map")), "the map of the HEX file")
-        same((theirs["start"], theirs["placed"], theirs["adjusted"]), (ours["start"], ours["placed"], 0), "start and counts")
-    lines = open(hexed, "rb").read().split(b"\r\n")
-    same((sorted({line[7:9] for line in lines[:-1]}), lines[-1]), ([b"00", b"01", b"04", b"05"], b""), "types of its lines, and its end")
-
-
-@test
-def the_misread_hex_is_refused_at_its_line(desk):
-    good, bad = (open(os.path.join(EXAMPLES, name), "rb").read().split(b"\r\n") for name in ("clock.hex", "misread.hex"))
-    (line,) = [number for number, (one, other) in enumerate(zip(good, bad), 1) if one != other]
-    (column,) = [number for number, (one, other) in enumerate(zip(good[line - 1], bad[line - 1]), 1) if one != other]
-    same((len(good), line, column < len(good[line - 1]) - 1), (len(bad), 3, True), "lines, and the digit that differs, which is none of the sum")
-    answer = desk.answer(REFUSED, "hex", os.path.join(EXAMPLES, "misread.hex"))
-    same((answer["number"], answer["line"], answer["column"]), (23, 3, len(good[line - 1]) - 1), "the refusal")
-
-
-@test
 def every_cut_of_an_example_is_refused(desk):
     for command, name, more in (("acx", "clock.acx", ()), ("acx", "signal.acx", ()), ("move", "clock.acx", ("--to-main", "9000")),
-                                ("hex", "clock.hex", ()), ("sdx", "score.sdx", ("--names", os.path.join(EXAMPLES, "names.txt")))):
+                                ("sdx", "score.sdx", ("--names", os.path.join(EXAMPLES, "names.txt")))):
         file = open(os.path.join(EXAMPLES, name), "rb").read()
         desk.put("before", PATTERN)
-        # without the end of its last line a HEX file is whole
-        for length in range(0, len(file.rstrip(b"\r\n")), 1 if command == "acx" else 9):
+        for length in range(0, len(file), 1 if command == "acx" else 9):
             desk.put("f", file[:length])
             done = desk.run(command, "f", *more, "--json", "--memory", "before", "--out", "after")
             # an SDX file has no end record: cut between two blocks it is whole
@@ -137,17 +111,14 @@ def every_cut_of_an_example_is_refused(desk):
 
 @test
 def damaged_examples_end_with_an_answer(desk):
-    for command, name, flips, wanted in (("acx", "clock.acx", (0xFF,), 5), ("hex", "clock.hex", (0xFF, 0x01), 3)):
-        file = open(os.path.join(EXAMPLES, name), "rb").read()
-        numbers = set()
-        for at, flip in ((at, flip) for at in range(len(file)) for flip in flips):
-            desk.put("f", file[:at] + bytes([file[at] ^ flip]) + file[at + 1:])
-            done = desk.run(command, "f", "--json")
-            holds(done.returncode in (ACCEPTED, REFUSED) and done.stderr == b"", f"byte {at} of {name} damaged: {done.returncode} {done.stderr}")
-            numbers.add(json.loads(done.stdout)["number"])
-        holds(len(numbers) >= wanted, f"only the numbers {numbers} of {name}")
-        # the sums of a HEX file show each digit that is misread
-        holds(command != "hex" or 0 not in numbers, f"a damaged {name} is accepted")
+    file = open(os.path.join(EXAMPLES, "clock.acx"), "rb").read()
+    numbers = set()
+    for at in range(len(file)):
+        desk.put("f", file[:at] + bytes([file[at] ^ 0xFF]) + file[at + 1:])
+        done = desk.run("acx", "f", "--json")
+        holds(done.returncode in (ACCEPTED, REFUSED) and done.stderr == b"", f"byte {at} damaged: {done.returncode} {done.stderr}")
+        numbers.add(json.loads(done.stdout)["number"])
+    holds(len(numbers) >= 5, f"only the numbers {numbers}")
 
 
 @test
@@ -157,17 +128,15 @@ def the_demo_passes(desk):
     done = subprocess.run([demo, PROGRAM], capture_output=True, timeout=60, env=more)
     same((done.returncode, done.stderr), (0, b""), "exit status and errors")
     for text in (b"accepted", b"fd30", b"refused with 13", b"06 02 01[01]0B", b"SCOREADD", b"the same image and the same map",
-                 b"index      103 bytes\nAn index names no base: built at the default $2400, it moves the clock from $2000.\n",
-                 b"The load of clock.acx leaves the same image, and has the same start.\n", b"refused with 23", b"(line 3, column 42)",
-                 b"      3  :1024100080A00160F8186D00268D0025AD012569AB\n" + b" " * 50 + b"^\n"):
+                 b"index      103 bytes\nAn index names no base: built at the default $2400, it moves the clock from $2000.\n"):
         holds(text in done.stdout, f"{text} is not shown")
     same(desk.listing(), {}, "files left by the demo")
 
 
 @test
 def the_demo_fails_with_a_wrong_program(desk):
-    """One that does nothing, one that loads where it should move, one that leaves the vector as it was, one that accepts what it should refuse,
-    two that move by an index otherwise than by the file, and four that take HEX wrongly: each is found by what it did."""
+    """One that does nothing, one that loads where it should move, one that leaves the vector as it was, one that accepts what it should refuse, and
+    two that move by an index otherwise than by the file: each is found by what it did."""
     demo = os.path.join(EXAMPLES, "demo")
     wrong = {
         "nothing": ("exit 0", "the lap counter is '', should be '0000'"),
@@ -182,13 +151,6 @@ def the_demo_fails_with_a_wrong_program(desk):
                   'dd if=heat.img of=by-index.img bs=1 skip=8192 seek=12533 count=99 conv=notrunc status=none', "by-index.img is not by-file.img"),
         "map": ('"$program" "$@" || exit $?\n[ "$1 $2" != "move --index" ] || dd if=/dev/zero of=by-index.map bs=65536 count=1 status=none',
                 "by-index.map is not by-file.map"),
-        "hex": ('"$program" "$@" || exit $?\n[ "$1 $2" != "hex clock.hex" ] || dd if=names.txt of=theirs.img bs=1 seek=9488 conv=notrunc status=none',
-                "theirs.img is not ours.img"),
-        "start": ('"$program" "$@" | sed "s/^start  .*243B.*/start      none/"\nexit ${PIPESTATUS[0]}',
-                  "the start is 'start      none', should be 'start      $243B (9275)'"),
-        "line": ('"$program" "$@" | sed "s/ (line .*//"\nexit ${PIPESTATUS[0]}', "the line and the column are not shown"),
-        "write": ('"$program" "$@"\nstatus=$?\n[ "$1 $2" != "hex misread.hex" ] || dd if=names.txt of=after.img conv=notrunc status=none\nexit $status',
-                  "after.img is not theirs.img"),
     }
     for name, (body, said) in wrong.items():
         desk.put(name, f"#!/bin/bash\nprogram='{PROGRAM}'\n{body}\n".encode())

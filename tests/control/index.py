@@ -287,7 +287,7 @@ def an_index_stands_in_place_of_the_file(desk):
         desk.trouble("move", "--index", "x", "--form", form, *MOVE, mention="--form: cannot go with --index")
     desk.trouble("move", "--index", "x", "--to-main", "1", mention="move: needs --memory")
     desk.trouble("move", "--index", "x", "--memory", "image", mention="move: needs --to-main or --to-zero")
-    for command in ("sdx", "acx", "hex"):
+    for command in ("sdx", "acx"):
         desk.trouble(command, "--index", "x", mention=f"--index: is not an option of {command}")
     for name in ("--out", "--map", "--picture"):
         desk.trouble("move", "--index", "x", *MOVE, name, "x", mention="x: would replace a file that is read")
@@ -389,7 +389,7 @@ def a_file_and_an_index_in_each_others_place_say_so(desk):
     many_fields = entry("00 00 00 FD" + "".join(f"02 {place:02X} 00" for place in range(253)))
     for content in (I1, index_of(open(CLOCK, "rb").read()), b"\x01" + many_fields + END):
         desk.put("f", content)
-        for words in (("sdx", "f"), ("acx", "f"), ("acx", "f", "--form", "device"), ("hex", "f"), ("index", "f", "--out", "x"), ("move", "f", *move),
+        for words in (("sdx", "f"), ("acx", "f"), ("acx", "f", "--form", "device"), ("index", "f", "--out", "x"), ("move", "f", *move),
                       ("move", "f", "--form", "device", *move)):
             same(desk.text(REFUSED, *words).splitlines()[2], is_index, f"{words} on {content[:9].hex()}")
     # a setting out of its range is no fault of the file

@@ -14,7 +14,7 @@ def a_file_that_cannot_be_read_is_an_error(desk):
     # /proc/self/mem can be opened, and its first page can't be read
     for name, cause in (("missing", "No such file"), ("folder", "directory"), ("f/f", "Not a directory"), ("link", "No such file"),
                         ("", "No such file"), ("n" * 300, "too long"), ("/proc/self/mem", "can't be read")):
-        for command, *more in (("sdx",), ("acx",), ("hex",), ("index",), ("move", "--memory", "image", "--to-main", "1")):
+        for command, *more in (("sdx",), ("acx",), ("index",), ("move", "--memory", "image", "--to-main", "1")):
             desk.trouble(command, name, "--out", "new", *more, mention=cause)
         desk.trouble("move", "--index", name, "--memory", "image", "--to-main", "1", "--out", "new", mention=cause)
         desk.trouble("acx", "f", "--memory", name, "--out", "new", mention=cause)
@@ -37,7 +37,7 @@ def an_image_has_exactly_65536_bytes(desk):
     desk.put("f", P1)
     for length in (0, 1, 65535):
         desk.put("image", bytes(length))
-        for command, *more in (("sdx",), ("acx",), ("hex",), ("move", "--to-main", "1")):
+        for command, *more in (("sdx",), ("acx",), ("move", "--to-main", "1")):
             desk.trouble(command, "f", "--memory", "image", "--out", "new", *more, mention=f"image: is no image: it has {length} bytes")
     desk.put("image", bytes(65537))
     desk.trouble("acx", "f", "--memory", "image", "--out", "new", mention="image: is no image: it has more than 65536 bytes")

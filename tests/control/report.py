@@ -188,13 +188,13 @@ def json_has_all_members_in_order(desk):
     words = ("acx", "f", "--form", "device", "--main", "8192", "--json")
     desk.put("f", P1)
     same(desk.text(ACCEPTED, *words),
-         opening + '"number":0,"meaning":"accepted","offset":null,"line":null,"column":null,"side":null,"start":8192,"init":null,"placed":3,"adjusted":1,'
+         opening + '"number":0,"meaning":"accepted","offset":null,"side":null,"start":8192,"init":null,"placed":3,"adjusted":1,'
          '"new_names":[],"low":null,"index_length":null,"ranges":[{"from":8192,"to":8192,"mark":1,"meaning":"placed","length":1},'
          '{"from":8193,"to":8194,"mark":3,"meaning":"adjusted","length":2}]}\n', "acceptance")
     desk.put("f", P9)
     same(desk.text(REFUSED, *words),
-         opening + '"number":12,"meaning":"field not loaded","offset":9,"line":null,"column":null,"side":null,"start":null,"init":null,'
-         '"placed":null,"adjusted":null,"new_names":[],"low":null,"index_length":null,"ranges":[]}\n', "refusal")
+         opening + '"number":12,"meaning":"field not loaded","offset":9,"side":null,"start":null,"init":null,"placed":null,"adjusted":null,'
+         '"new_names":[],"low":null,"index_length":null,"ranges":[]}\n', "refusal")
 
 
 @test
@@ -272,8 +272,6 @@ def files_for_every_refusal():
         18: (["acx", *device], bytes.fromhex("01 03 00 20 00 07 01 00"), 5),
         19: (["acx", *device], bytes.fromhex("0B 00 00 00 00"), 4),
         20: (["acx", *device], bytes.fromhex("0B 02 00 FF"), 2),
-        22: (["hex"], b":0G", 2),
-        23: (["hex"], b":00000001FE", 9),
         24: (["move", "--memory", "image", "--to-main", "1", "--index"], bytes.fromhex("02 00 04 0B 00 00 00"), 0),
         25: (["index", *device, "--main", "0", "--out", "new"], whose_index_does_not_fit(), 0),
     }
@@ -291,8 +289,6 @@ def every_refusal_has_its_number_and_meaning(desk):
         answer = desk.answer(REFUSED, *words, "f")
         same((answer["number"], answer["meaning"], answer["offset"], answer["side"]), (number, MEANINGS[number], offset, side),
              f"refusal {number}")
-        text = words[0] == "hex"
-        same((answer["line"], answer["column"]), (1, offset + 1) if text else (None, None), f"line and column of refusal {number}")
         same((answer["start"], answer["init"], answer["placed"], answer["adjusted"], answer["new_names"], answer["low"],
               answer["index_length"], answer["ranges"]), (None, None, None, None, [], None, None, []), f"the rest of refusal {number}")
         lines = desk.text(REFUSED, *words, "f").splitlines()
@@ -303,11 +299,7 @@ def every_refusal_has_its_number_and_meaning(desk):
             # by the command index there is a line more, that none is written
             same((rows, len(lines)), ("", 3 if number == 25 else 2), f"rows of refusal {number}")
             continue
-        more = " (side: old bases)" if side == 0 else f" (line 1, column {offset + 1})" if text else ""
-        same(lines[1], f"at offset {offset} (${offset:04X}) of {len(content)}{more}", "second line")
-        if text:
-            same((rows, lines[-1].strip()), ("", "^"), f"rows and mark of refusal {number}")
-            continue
+        same(lines[1], f"at offset {offset} (${offset:04X}) of {len(content)}" + (" (side: old bases)" if side == 0 else ""), "second line")
         marked = "end" if offset == len(content) else f"{content[offset]:02X}"
         same(len(re.findall(r"\[" + marked + r"\]", rows)), 1, f"marks of refusal {number}")
 

@@ -10,7 +10,7 @@ use lib.Dec.{leb}
 use lib.ListN.{get_or}
 use Rattle.answer.specs.Report.{number_of, numbers_of}
 use Rattle.answer.specs.declared.Fault.{Fault}
-use Rattle.answer.specs.declared.Fault.TheVariants.{WrongBuffer, SettingOutOfRange, FileTooLong, WrongOpening, CutShort, NotKnown, BlockTaken, BlockMissing, LengthNotAllowed, DoesNotFit, CounterUnusable, FieldNotLoaded, AdjustedTwice, NameUnknown, TooManyNames, NameOutsideBlock, PiecesOverlap, FixupUnsuited, BytesAfterEnd, StartTooHigh, BadCharacter, WrongSum, WrongVersion, IndexTooLong}
+use Rattle.answer.specs.declared.Fault.TheVariants.{WrongBuffer, SettingOutOfRange, FileTooLong, WrongOpening, CutShort, NotKnown, BlockTaken, BlockMissing, LengthNotAllowed, DoesNotFit, CounterUnusable, FieldNotLoaded, AdjustedTwice, NameUnknown, TooManyNames, NameOutsideBlock, PiecesOverlap, FixupUnsuited, BytesAfterEnd, StartTooHigh, WrongVersion, IndexTooLong}
 use Rattle.answer.specs.declared.Start.{Start}
 use Rattle.answer.specs.declared.Start.TheVariants.{Absent, At}
 use Rattle.answer.specs.declared.Outcome.{Outcome}
@@ -54,8 +54,8 @@ fault_with n =
     ∷ BytesAfterEnd
     ∷ StartTooHigh
     ∷ WrongBuffer
-    ∷ BadCharacter
-    ∷ WrongSum
+    ∷ WrongBuffer
+    ∷ WrongBuffer
     ∷ WrongVersion
     ∷ IndexTooLong
     ∷ [])
@@ -83,8 +83,6 @@ numbered PiecesOverlap = (refl, refl, refl)
 numbered FixupUnsuited = (refl, refl, refl)
 numbered BytesAfterEnd = (refl, refl, refl)
 numbered StartTooHigh = (refl, refl, refl)
-numbered BadCharacter = (refl, refl, refl)
-numbered WrongSum = (refl, refl, refl)
 numbered WrongVersion = (refl, refl, refl)
 numbered IndexTooLong = (refl, refl, refl)
 

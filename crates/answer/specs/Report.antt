@@ -3,13 +3,13 @@
 use Rattle.std.specs.Prelude.{List, [], ◌∷◌, ◌≡◌, ℕ, ◌^◌, ◌≤◌, ◌<◌, get_or}
 use Rattle.words.specs.Numbers.{encoded, decoded}
 use Rattle.answer.specs.declared.Fault.{Fault}
-use Rattle.answer.specs.declared.Fault.TheVariants.{WrongBuffer, SettingOutOfRange, FileTooLong, WrongOpening, CutShort, NotKnown, BlockTaken, BlockMissing, LengthNotAllowed, DoesNotFit, CounterUnusable, FieldNotLoaded, AdjustedTwice, NameUnknown, TooManyNames, NameOutsideBlock, PiecesOverlap, FixupUnsuited, BytesAfterEnd, StartTooHigh, BadCharacter, WrongSum, WrongVersion, IndexTooLong}
+use Rattle.answer.specs.declared.Fault.TheVariants.{WrongBuffer, SettingOutOfRange, FileTooLong, WrongOpening, CutShort, NotKnown, BlockTaken, BlockMissing, LengthNotAllowed, DoesNotFit, CounterUnusable, FieldNotLoaded, AdjustedTwice, NameUnknown, TooManyNames, NameOutsideBlock, PiecesOverlap, FixupUnsuited, BytesAfterEnd, StartTooHigh, WrongVersion, IndexTooLong}
 use Rattle.answer.specs.declared.Start.{Start}
 use Rattle.answer.specs.declared.Start.TheVariants.{Absent, At}
 use Rattle.answer.specs.declared.Outcome.{Outcome}
 use Rattle.answer.specs.declared.Outcome.TheVariants.{Accepted, Refused}
 
--- the table "Numbers a bench can show"; 22 and 23 by document 02, wish 1, 24 and 25 by wish 5
+-- the table "Numbers a bench can show"; 24 and 25 by document 02, wish 5
 abbrev pub number_of : Fault → ℕ
 number_of WrongBuffer = 1  -- memory, map, scratch, room for an index, new-name buffers or C answer of another length; known names not eight bytes per address, or over 256
 number_of SettingOutOfRange = 2  -- a setting outside its range
@@ -31,8 +31,6 @@ number_of PiecesOverlap = 17  -- two ACX pieces share an address
 number_of FixupUnsuited = 18  -- fixup kind doesn't suit the code before it
 number_of BytesAfterEnd = 19  -- bytes after the end record
 number_of StartTooHigh = 20  -- start above 65,535
-number_of BadCharacter = 22  -- a bad digit or a stray character
-number_of WrongSum = 23  -- wrong sum
 number_of WrongVersion = 24  -- another version of the index
 number_of IndexTooLong = 25  -- the index wouldn't fit
 

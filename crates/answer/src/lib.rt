@@ -27,8 +27,6 @@ pub enum Fault {
     FixupUnsuited,
     BytesAfterEnd,
     StartTooHigh,
-    BadCharacter,
-    WrongSum,
     WrongVersion,
     IndexTooLong,
 }
@@ -97,8 +95,6 @@ pub fn fault_number(fault: Fault) -> u32
         Fault::FixupUnsuited => 18,
         Fault::BytesAfterEnd => 19,
         Fault::StartTooHigh => 20,
-        Fault::BadCharacter => 22,
-        Fault::WrongSum => 23,
         Fault::WrongVersion => 24,
         Fault::IndexTooLong => 25,
     }

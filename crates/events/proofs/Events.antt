@@ -6,7 +6,7 @@ use mathlib.Core.Path.{◌≡◌, refl, sym, ap, ◌∙◌}
 use Prim.Native.Nat.{ℕ, zero, suc, ◌+◌, ◌-◌, ◌≤◌}
 use native.Mathlib.Omega.{arith}
 use borrow.Rule.Slice.PartMut.{mid_of, put_mid}
-use lib.ListN.{length, get_or, set, replicate, length-replicate, get_or-replicate}
+use lib.ListN.{length, get_or, replicate, length-replicate, get_or-replicate}
 use Rattle.words.proofs.Changes.{length_change}
 use Rattle.words.proofs.Lent.{lent_is, back_is}
 use Rattle.words.proofs.Runs.{length_put, put_outside, put_inside, length_part}
@@ -95,19 +95,14 @@ did_noted {write = write} {m = m} n e f g =
       reached = record { memory = g ∙ ap (λ (l : List Event). play_if write l m) (sym f); map = n.map };
     }
 
--- events after others
-pub reached_append : (es fs : List Event) (write : Bool) (m₀ p₀ m p m' p' : List ℕ) → Reached es write m₀ p₀ m p → Reached fs write m p m' p'
-    → Reached (es ++ fs) write m₀ p₀ m' p'
-reached_append es fs write m₀ p₀ m p m' p' h d =
-    record {
-      memory = d.memory ∙ ap (λ (t : List ℕ). play_if write fs t) h.memory ∙ sym (play_if_append write es fs m₀);
-      map = d.map ∙ ap (λ (t : List ℕ). marks fs t) h.map ∙ sym (marks_append es fs p₀);
-    }
-
 -- a part of the work after some events
 pub reached_more : {A : Type 0} (es : List Event) (write : Bool) (m₀ p₀ m p m' p' : List ℕ) (o : Ran A) (r : A) → Reached es write m₀ p₀ m p
     → Did A o write m p r m' p' → Reached (es ++ o.events) write m₀ p₀ m' p'
-reached_more es write m₀ p₀ m p m' p' o r h d = reached_append es o.events write m₀ p₀ m p m' p' h d.reached
+reached_more es write m₀ p₀ m p m' p' o r h d =
+    record {
+      memory = d.reached.memory ∙ ap (λ (t : List ℕ). play_if write o.events t) h.memory ∙ sym (play_if_append write es o.events m₀);
+      map = d.reached.map ∙ ap (λ (t : List ℕ). marks o.events t) h.map ∙ sym (marks_append es o.events p₀);
+    }
 
 -- ---- the clear map
 
@@ -180,16 +175,6 @@ module _ (a : ℕ) (bytes : List ℕ) {m p w : List ℕ} (inside : a + length by
       → Reached (place a bytes ∷ []) write m p (put_mid a (a + length bytes - a) m v) (put_mid a (a + length bytes - a) p w)
   unfolding marks
   place_written t h e = record { memory = copied a bytes m _ _ t h e; map = filled a (length bytes) 1 p w inside marked }
-
--- one byte placed
-module _ (a byte : ℕ) {m p : List ℕ} where
-  pub byte_marked : {write : Bool} → write ≡ false → Reached (place a (byte ∷ []) ∷ []) write m p m (set p a 1)
-  unfolding marks put
-  byte_marked t = record { memory = rw t refl; map = refl }
-
-  pub byte_written : {write : Bool} → write ≡ true → Reached (place a (byte ∷ []) ∷ []) write m p (set m a byte) (set p a 1)
-  unfolding play marks put
-  byte_written t = record { memory = rw t refl; map = refl }
 
 -- addresses reserved: marked, and nothing else in any case
 pub reserve_marked : (a n : ℕ) (p w : List ℕ) → a + n ≤ length p → w ≡ replicate (length (mid_of a (a + n - a) p)) 2

@@ -83,15 +83,11 @@ module _ {S R A : Type 0} {Onward : R → Type 0} {there : S → R} {checked : S
     pub steps_traced : EndsAt turn (Trace (NextStep Onward there checked stepped) first) blank (from turn last measure first blank)
     steps_traced = walk_traced turn last measure falls blank (NextStep Onward there checked stepped) turn_step first
 
-    pub trace_comes : (s : S) (es : List Event) (a : A) → Trace (NextStep Onward there checked stepped) first s es
-        → (turn s (marks es blank)).answer ≡ ends a
-        → from turn last measure first blank ≡ record { answer = a; events = es ++ (turn s (marks es blank)).events }
-    trace_comes s es a t e = trace_ends turn last measure falls blank (NextStep Onward there checked stepped) step_turn t a e
-
     pub trace_answers : (s : S) (es : List Event) (a : A) → Trace (NextStep Onward there checked stepped) first s es
         → (turn s (marks es blank)).answer ≡ ends a
         → (from turn last measure first blank).answer ≡ a
-    trace_answers s es a t e = ap (λ (o : Ran A). o.answer) (trace_comes s es a t e)
+    trace_answers s es a t e =
+        ap (λ (o : Ran A). o.answer) (trace_ends turn last measure falls blank (NextStep Onward there checked stepped) step_turn t a e)
 
     -- where each step's events are those more that its state tells of
     module _ (told : S → List Event)

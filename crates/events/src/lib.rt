@@ -1,6 +1,6 @@
 // The events of a load carried out, in the map and, where `write` is true, in memory: bytes placed, addresses reserved, words adjusted.
 // It knows no file format.
-ghost use Rattle.std.specs.Prelude.{[], ◌∷◌, ◌≡◌, ◌+◌, ◌≤◌, ◌<◌, length};
+ghost use Rattle.std.specs.Prelude.{[], ◌∷◌, ◌≡◌, ◌+◌, ◌≤◌, length};
 ghost use Rattle.events.specs.Events.{place as place_of, reserve as reserve_of, adjust, marks, Reached};
 
 use answer::Fault;
@@ -34,17 +34,6 @@ pub fn place(bytes: &[u8], at: usize, write: bool, memory: &mut [u8], map: &mut 
     words::fill(&mut map[at..end], PLACED);
     if write {
         words::copy(&mut memory[at..end], bytes);
-    }
-}
-
-// Places one byte at `at`.
-pub fn place_byte(byte: u8, at: usize, write: bool, memory: &mut [u8], map: &mut [u8])
-    requires { (at < length memory.old) × (at < length map.old) }
-    ensures { Reached (place_of at (byte ∷ []) ∷ []) write memory.old map.old memory.new map.new }
-{
-    map[at] = PLACED;
-    if write {
-        memory[at] = byte;
     }
 }
 

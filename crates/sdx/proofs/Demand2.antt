@@ -1,12 +1,12 @@
 -- Demand 2 for SDX files, as specs/Demand2.antt states it.
 -- Assumes nothing.
 use mathlib.Core.Bool.{Bool, true, false, ◌&&◌, false≢true}
-use mathlib.Core.List.{List, [], ◌∷◌}
+use mathlib.Core.List.{List, [], ◌∷◌, ◌++◌}
 use mathlib.Core.Path.{◌≡◌, refl, sym, ap, ◌∙◌}
 use Prim.Native.Nat.{ℕ, ◌≤◌}
 use native.Mathlib.Omega.{arith}
 use borrow.Author.Tests.{le-leb}
-use lib.ListN.{length}
+use lib.ListN.{length, get_or}
 use Rattle.answer.proofs.Outcomes.{is_refused}
 use Rattle.answer.proofs.Checks.{and_true}
 use Rattle.answer.specs.Checks.{need, pick}
@@ -17,9 +17,9 @@ use Rattle.answer.specs.declared.Outcome.TheVariants.{Accepted, Refused}
 use Rattle.answer.specs.declared.Start.{Start}
 use Rattle.answer.specs.declared.Start.TheVariants.{Absent}
 use Rattle.events.proofs.Checks.{failed_passed}
-use Rattle.events.proofs.Lawful.{left_by}
+use Rattle.events.proofs.Events.{length_play, length_marks, length_blank, blank_at}
 use Rattle.events.proofs.Lists.{each_map}
-use Rattle.events.specs.Events.{Event, play, marks, blank, placed_in, adjusted_in, Ran}
+use Rattle.events.specs.Events.{Event, adjust, play, marks, blank, placed_in, adjusted_in, Ran}
 use Rattle.events.specs.declared.Check.{Check}
 use Rattle.events.specs.declared.Check.TheVariants.{Passed, Failed}
 use Rattle.words.specs.Runs.{Bytes}
@@ -28,9 +28,10 @@ use Rattle.passes.specs.Buffers.{new_names_length, new_addresses_length, start_i
 use Rattle.passes.specs.Walk.{Inputs, Progress, Verdict, finished, refused, begun, blocks_of}
 use Rattle.sdx.proofs.Calling.{judged, admitted, range_bounds, right_sizes}
 use Rattle.sdx.proofs.Keeping.{Keeps, judged_keeps}
+use Rattle.sdx.proofs.Lawful.{Lawful, marks_untouched, marks_last, play_others, put_held, play_fields}
 use Rattle.sdx.specs.Call.{at_once, opening, opened, admitting, load, call, report, memory_after, map_after, names_after, addresses_after, sized, Loaded}
 use Rattle.sdx.proofs.Rules.{follows_judged, followed}
-use Rattle.sdx.specs.Demand2.{Demand2, Asked, AcceptedCall, Claim}
+use Rattle.sdx.specs.Demand2.{Among, Demand2, Asked, AcceptedCall, Claim}
 use Rattle.sdx.specs.Rules.{Follows}
 
 -- what the events of a file leave that kept to the rules
@@ -38,13 +39,23 @@ kept_demand2 : (file : List ℕ) (g : Inputs) (z : Progress) (es : List Event) (
     → length m ≡ 65536
     → Demand2 file g z es m (play es m) (marks es blank) (placed_in es) (adjusted_in es)
 kept_demand2 file g z es m f k n =
+    let split : (before : List Event) (e : Event) (after : List Event) → Among es before e after → Lawful blank (before ++ (e ∷ after)) =
+    λ before e after h. rw h.order at k.lawful in
     record {
       follows = f;
       effects = k.effects;
       by_rule = each_map (λ d h. h.by_rule) z.effects k.ruled;
       names = k.names;
       addresses = k.addresses;
-      leaves = left_by es m k.lawful n;
+      loaded = λ x byte h. put_held es blank m x byte n k.lawful h;
+      fields = λ before after a amount h. rw h.order (play_fields before after a amount m n (split before (adjust 2 a amount) after h));
+      others = λ x w. play_others es m x k.lawful w;
+      lengths = (length_play es m, length_marks es blank ∙ length_blank);
+      untouched_marks = λ x w. marks_untouched es blank x w ∙ blank_at x;
+      last_marks = λ before after e x h t w. ap (λ (fs : List Event). get_or (marks fs blank) x 0) h.order
+          ∙ marks_last before after e blank x length_blank (split before e after h) t w;
+      placed_count = refl;
+      adjusted_count = refl;
       placed_fits = omega (arith, k.passed.counts, k.passed.inside);
       adjusted_fits = omega (arith, k.passed.counts, k.passed.inside);
     }

@@ -1,7 +1,7 @@
 -- Two machines hold the same program: specs/Determinism.antt, of every two calls that keep the contract.
 -- Assumes nothing.
 use mathlib.Core.Bool.{Bool, true, ◌&&◌}
-use mathlib.Core.List.{List}
+use mathlib.Core.List.{List, ◌∷◌, ◌++◌}
 use mathlib.Core.Path.{◌≡◌, refl, sym, ap, ◌∙◌}
 use Prim.Native.Nat.{ℕ}
 use lib.ListN.{length, get_or}
@@ -10,10 +10,7 @@ use Rattle.answer.specs.declared.Fault.{Fault}
 use Rattle.answer.specs.declared.Outcome.{Outcome}
 use Rattle.answer.specs.declared.Outcome.TheVariants.{Accepted, Refused}
 use Rattle.answer.specs.declared.Start.{Start}
-use Rattle.events.proofs.Lawful.{Lawful}
-use Rattle.events.proofs.Same.{loaded_same, placed_same}
 use Rattle.events.specs.Events.{Event, play, marks, blank, placed_in, adjusted_in, Ran}
-use Rattle.events.specs.History.{Places, Among}
 use Rattle.words.specs.Runs.{Bytes}
 use Rattle.passes.specs.Buffers.{Buffers}
 use Rattle.passes.specs.Walk.{Inputs, Progress, Verdict, finished, refused}
@@ -21,10 +18,11 @@ use Rattle.sdx.proofs.Calling.{judged, call_load}
 use Rattle.sdx.proofs.Demand2.{finished_asked, asked_judged, asked_memory, asked_top, Left, call_leaves}
 use Rattle.sdx.proofs.Rules.{by_rules}
 use Rattle.sdx.proofs.Keeping.{judged_keeps}
-use Rattle.sdx.proofs.Same.{start_same}
+use Rattle.sdx.proofs.Lawful.{Lawful}
+use Rattle.sdx.proofs.Same.{loaded_same, placed_same, start_same}
 use Rattle.sdx.specs.Determinism.{SameClaim}
 use Rattle.sdx.specs.Call.{load, call, report, map_after, sized, Loaded}
-use Rattle.sdx.specs.Demand2.{Asked}
+use Rattle.sdx.specs.Demand2.{Places, Among, Asked}
 use Rattle.sdx.specs.Rules.{Accepts}
 
 -- a load that finished is of a call as asked
@@ -80,9 +78,14 @@ module _ (file : List ℕ) (g : Inputs) (x y : Bool) (b₁ b₂ b d : Buffers) (
         → get_or b.memory x 0 ≡ get_or d.memory x 0
     same_placed before after e x h w =
         let k = both z accepted in
-        let o = ap (λ (j : Ran Verdict). j.events) (sym k.judged_so) ∙ h.order in
+        let o : (judged file g).events ≡ before ++ (e ∷ after) = ap (λ (j : Ran Verdict). j.events) (sym k.judged_so) ∙ h.order in
+        let l : Lawful blank (before ++ (e ∷ after)) = rw o at k.lawful in
+        let was : (m : List ℕ) → get_or (play (judged file g).events m) x 0 ≡ get_or (play (before ++ (e ∷ after)) m) x 0 =
+        λ m. ap (λ (es : List Event). get_or (play es m) x 0) o in
         ap (λ (m : List ℕ). get_or m x 0) k.left₁.memory
-        ∙ placed_same b₁.memory b₂.memory k.memory₁ k.memory₂ (judged file g).events k.lawful before after e x (record { order = o }) w
+        ∙ was b₁.memory
+        ∙ placed_same b₁.memory b₂.memory k.memory₁ k.memory₂ before after e x l w
+        ∙ sym (was b₂.memory)
         ∙ ap (λ (m : List ℕ). get_or m x 0) (sym k.left₂.memory)
 
 -- what a call with the right buffers reports of a file that is refused hangs on no memory

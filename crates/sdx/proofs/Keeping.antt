@@ -19,7 +19,6 @@ use Rattle.effects.proofs.Ending.{applied_ends, advanced_at, Behind, behind_firs
 use Rattle.effects.proofs.NewNames.{Counted, counted_first, counted_on, Tabled, tabled_first, tabled_on}
 use Rattle.effects.specs.Effects.{Effect, applied, advanced, name_in, address_in}
 use Rattle.events.proofs.Events.{length_marks, length_blank}
-use Rattle.events.proofs.Lawful.{Lawful, lawful_append}
 use Rattle.events.proofs.Lists.{each_map}
 use Rattle.events.specs.Events.{Event, place, reserve, marks, blank, Ran}
 use Rattle.events.specs.Lists.{Each}
@@ -34,6 +33,7 @@ use Rattle.updates.specs.Bodies.{Stop, done}
 use Rattle.words.proofs.Runs.{length_part}
 use Rattle.words.specs.Runs.{Bytes, part}
 use Rattle.sdx.proofs.Calling.{judged, judged_holds}
+use Rattle.sdx.proofs.Lawful.{Lawful, lawful_append}
 use Rattle.sdx.proofs.Passing.{Granted, read_granted, body_lawful}
 use Rattle.sdx.specs.Demand2.{AdjustsBy, ByRule, events_of, names_of, addresses_of}
 

@@ -2,6 +2,7 @@
 pub mod Calling
 -- Demand 2, and what else holds of every accepted file:
 pub mod Rules
+pub mod Lawful
 pub mod Passing
 pub mod Keeping
 pub mod Demand2

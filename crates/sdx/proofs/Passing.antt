@@ -18,8 +18,6 @@ use Rattle.blocks.specs.declared.Block.TheVariants.{Plain, Relocatable, Update, 
 use Rattle.blocks.specs.declared.Cursor.{Cursor}
 use Rattle.blocks.specs.declared.Source.TheVariants.{Number, LentName, OwnName}
 use Rattle.events.proofs.Events.{length_marks}
-use Rattle.events.proofs.Lawful.{Lawful, lawful_append}
-use Rattle.events.proofs.Same.{LoadedMark, is_placed, is_adjusted}
 use Rattle.events.proofs.Walks.{walk_keeps}
 use Rattle.events.specs.Events.{Event, marks, failed}
 use Rattle.events.specs.Walk.{bytes_left}
@@ -37,6 +35,7 @@ use Rattle.words.proofs.Changes.{value_lt}
 use Rattle.words.proofs.Runs.{length_part, part_at, contains_not}
 use Rattle.words.specs.Numbers.{value}
 use Rattle.words.specs.Runs.{Bytes, part, contains}
+use Rattle.sdx.proofs.Lawful.{Lawful, lawful_append}
 
 -- ---- a block
 
@@ -119,19 +118,14 @@ module _ (file : List ℕ) (high : ℕ) (lent own : List ℕ) (c : Cursor) where
 
 -- ---- a body
 
--- a mark that is tested to be loaded is 1 or 3
-pub tested_loaded : (mark : ℕ) → is_loaded mark ≡ true → LoadedMark mark
-tested_loaded mark e = by (eqb mark 1) (eqb mark 3) refl refl e
+-- a mark that is 1 or 3, but not 3
+loaded_placed : (mark : ℕ) → is_loaded mark ≡ true → (mark ≡ 3 → ⊥) → mark ≡ 1
+loaded_placed mark e n = by (eqb mark 1) (eqb mark 3) refl refl e
   where
-    by : (s t : Bool) → eqb mark 1 ≡ s → eqb mark 3 ≡ t → s || t ≡ true → LoadedMark mark
-    by true t f g h = is_placed (eqb-true mark 1 f)
-    by false true f g h = is_adjusted (eqb-true mark 3 g)
+    by : (s t : Bool) → eqb mark 1 ≡ s → eqb mark 3 ≡ t → s || t ≡ true → mark ≡ 1
+    by true t f g h = eqb-true mark 1 f
+    by false true f g h = absurd (n (eqb-true mark 3 g))
     by false false f g h = absurd (false≢true h)
-
--- and 1 if it is not 3
-loaded_placed : (mark : ℕ) → LoadedMark mark → (mark ≡ 3 → ⊥) → mark ≡ 1
-loaded_placed mark (is_placed e) n = e
-loaded_placed mark (is_adjusted e) n = absurd (n e)
 
 -- "both bytes marked 1 or 3 (12); neither marked 3 (13)": both are marked 1
 word_placed : (map : List ℕ) (a : ℕ) → a + 2 ≤ length map → word_loaded map a ≡ true → contains 3 (part map a 2) ≡ false
@@ -140,8 +134,8 @@ word_placed map a l e f =
     let x = and_true (is_loaded (get_or map a 0)) (is_loaded (get_or map (a + 1) 0)) e in
     let n = length_part map a 2 l in
     let z : get_or (part map a 2) 0 0 ≡ get_or map a 0 = part_at map a 2 0 (omega arith) ∙ ap (λ (y : ℕ). get_or map y 0) (omega arith) in (
-      loaded_placed (get_or map a 0) (tested_loaded (get_or map a 0) x.0) (λ g. contains_not 3 (part map a 2) f 0 (omega (arith, n)) (z ∙ g)),
-      loaded_placed (get_or map (a + 1) 0) (tested_loaded (get_or map (a + 1) 0) x.1)
+      loaded_placed (get_or map a 0) x.0 (λ g. contains_not 3 (part map a 2) f 0 (omega (arith, n)) (z ∙ g)),
+      loaded_placed (get_or map (a + 1) 0) x.1
           (λ g. contains_not 3 (part map a 2) f 1 (omega (arith, n)) (part_at map a 2 1 (omega arith) ∙ g)),
     )
 

@@ -3,11 +3,11 @@
 use Rattle.std.specs.Prelude.{Bool, true, ◌&&◌, List, ◌≡◌, ℕ, get_or}
 use Rattle.answer.specs.declared.Outcome.{Outcome}
 use Rattle.events.specs.Events.{Event}
-use Rattle.events.specs.History.{Places, Among}
 use Rattle.words.specs.Runs.{Bytes}
 use Rattle.passes.specs.Buffers.{Buffers}
 use Rattle.passes.specs.Walk.{Inputs, Progress}
 use Rattle.sdx.specs.Call.{sized, Loaded}
+use Rattle.sdx.specs.Demand2.{Places, Among}
 use Rattle.sdx.specs.Rules.{Accepts}
 
 -- "Two benches with the same settings must never hold two different programs from one file": two calls of a file, whatever their buffers held
