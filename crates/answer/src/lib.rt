@@ -1,11 +1,13 @@
 // What a call reports: accepted with its counts, or refused with one fault; and the nine numbers in which the answer says so.
 // It knows no file format. The numbers of the faults stand in one place, specs/Report.antt.
+#![tactic(auto)]
+
 ghost use Rattle.std.specs.Prelude.{◌≡◌, ◌<◌, length};
 ghost use Rattle.answer.specs.declared.Outcome.TheVariants.{Refused};
 ghost use Rattle.answer.specs.Report.{number_of, numbers_of, number_returned, answer_length, Written};
 
 // What is wrong: a variant for each row of the table "Numbers a bench can show", in its order, and for each number that document 02 adds to it.
-#[derive(Drop)]
+#[derive(Clone, Copy)]
 pub enum Fault {
     WrongBuffer,
     SettingOutOfRange,
@@ -32,14 +34,14 @@ pub enum Fault {
 }
 
 // Where a program starts.
-#[derive(Drop)]
+#[derive(Clone, Copy)]
 pub enum Start {
     Absent,
     At(u16),
 }
 
 // How a call ends. The side of a refusal is 1 where the mover's new bases are at fault, else 0.
-#[derive(Drop)]
+#[derive(Clone, Copy)]
 pub enum Outcome {
     Accepted {
         start: Start,

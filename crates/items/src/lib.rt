@@ -1,4 +1,6 @@
 // One item of an SDX update body, read with no map in mind: it moves a counter through memory, or lists the word there, or ends the body.
+#![tactic(auto)]
+
 ghost use Rattle.std.specs.Prelude.{◌≡◌, ◌≤◌, length};
 ghost use Rattle.items.specs.Items.{adding, setting, setting_to_block, skipping, read as read_of};
 
@@ -11,7 +13,7 @@ pub const LAST_NUMBER: usize = 7;
 const SKIP: usize = 250;
 
 // The slot of a relocatable block: whether there is one of this number, its address, its offset and its size.
-#[derive(Drop)]
+#[derive(Clone, Copy)]
 pub struct Slot {
     pub taken: bool,
     pub address: u16,
@@ -20,14 +22,14 @@ pub struct Slot {
 }
 
 // The counter of a body.
-#[derive(Drop)]
+#[derive(Clone, Copy)]
 pub enum Counter {
     Unset,
     Set(u16),
 }
 
 // What an item says: a fault and its offset; the body's end, a counter that only moves, or one where a word is adjusted, and where the next item begins.
-#[derive(Drop)]
+#[derive(Clone, Copy)]
 pub enum Item {
     Faulty(Fault, usize),
     End(usize),
