@@ -5,4 +5,4 @@ use Rattle.acx.proofs.Calling.{form_device}
 use Rattle.acx.proofs.form_of.Goals as goal
 
 pub returns-in_default : goal.returns-in_default
-returns-in_default c = form_device _ c.in_default.rest.1
+returns-in_default c = form_device _ c.in_default.in_default-own.rest.1

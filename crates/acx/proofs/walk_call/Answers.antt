@@ -11,24 +11,24 @@ use Rattle.acx.proofs.walk_call.Goals as goal
 
 pub returns-then-not-ranged : goal.returns-then-not-ranged
 returns-then-not-ranged c =
-    call_range _ _ _ _ _ _ _ (sym c.in_range-ranged.ensures ∙ not-true _ c.if-not-ranged.true) c.refused.ensures
+    call_range _ _ _ _ _ _ _ (sym c.in_range-ranged.ensures ∙ c.if-not-ranged.true) c.refused.ensures
     (cleared _ _ c.requires.1 c.fill.ensures)
 
 pub returns-then-file-gt-FILE : goal.returns-then-file-gt-FILE
 returns-then-file-gt-FILE c =
-    call_long _ _ _ _ _ (sym c.in_range-ranged.ensures ∙ not-false _ c.if-not-ranged.false) _ _ c.if-file-gt-FILE.true c.refused-then-file-gt-FILE.ensures
+    call_long _ _ _ _ _ (sym c.in_range-ranged.ensures ∙ c.if-not-ranged.false) _ _ c.if-file-gt-FILE.true c.refused-then-file-gt-FILE.ensures
     (cleared _ _ c.requires.1 c.fill.ensures)
 
 pub overflow_cast-bases : goal.overflow_cast-bases
 overflow_cast-bases c =
     let a = c.args in
-    let k = range_bounds a.form (bases_at a.main-base a.zero-base) (sym c.in_range-ranged.ensures ∙ not-false _ c.if-not-ranged.false) in
+    let k = range_bounds a.form (bases_at c.args.main_base c.args.zero_base) (sym c.in_range-ranged.ensures ∙ c.if-not-ranged.false) in
     omega (arith, k)
 
 pub overflow_cast-bases-2 : goal.overflow_cast-bases-2
 overflow_cast-bases-2 c =
     let a = c.args in
-    let k = range_bounds a.form (bases_at a.main-base a.zero-base) (sym c.in_range-ranged.ensures ∙ not-false _ c.if-not-ranged.false) in
+    let k = range_bounds a.form (bases_at c.args.main_base c.args.zero_base) (sym c.in_range-ranged.ensures ∙ c.if-not-ranged.false) in
     omega (arith, k)
 
 pub walk_file-requires : goal.walk_file-requires
@@ -37,5 +37,5 @@ walk_file-requires c =
 
 pub returns : goal.returns
 returns c =
-    call_walked _ _ _ _ _ (sym c.in_range-ranged.ensures ∙ not-false _ c.if-not-ranged.false) _ _ _ _ c.if-file-gt-FILE.false c.form_of.ensures
+    call_walked _ _ _ _ _ (sym c.in_range-ranged.ensures ∙ c.if-not-ranged.false) _ _ _ _ c.if-file-gt-FILE.false c.form_of.ensures
     c.walk_file.ensures

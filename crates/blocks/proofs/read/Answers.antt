@@ -37,7 +37,7 @@ returns-in-65534 c =
 
 pub returns-in_default : goal.returns-in_default
 returns-in_default c =
-    let m = c.in_default.rest in (
+    let m = c.in_default.in_default-own.rest in (
       read_marked _ _ _ _ _ c.if-file-at.false _ c.word_at-word.ensures _ c.if-word-lt-FIRST_MARKER.false
           m.0.0.0.1 m.0.0.1 m.0.1 m.1 c.read_plain-in_default.ensures.value,
       c.read_plain-in_default.ensures.in_memory,

@@ -23,4 +23,4 @@ returns-in-128 c =
 pub returns-in_default : goal.returns-in_default
 returns-in_default c =
     relocatable_id _ _ _ c.if-file-at.false _ c.wide-number.ensures.0 c.if-number-gt-LAST_NUMBER.false _ refl
-    c.in_default.rest.0.1 c.in_default.rest.1
+    c.in_default.in_default-own.rest.0.1 c.in_default.in_default-own.rest.1

@@ -39,4 +39,4 @@ returns-in-NewName c =
     stored_name _ _ _ _ _ _ _ _ e (omega (arith, f.1, c.requires.1)) f.0 c.copy.ensures
 
 pub returns-in_default : goal.returns-in_default
-returns-in_default c = stored_none _ _ _ _ _ c.in_default.keys2
+returns-in_default c = stored_none _ _ _ _ _ c.in_default.in_default-own.keys2

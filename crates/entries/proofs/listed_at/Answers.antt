@@ -50,7 +50,7 @@ pub returns-then-not-suited : goal.returns-then-not-suited
 returns-then-not-suited c =
     (
       listed_unsuited c.args.kind c.type_of-record_type.ensures c.wide-index.ensures.0 c.wide-lsb.ensures.0
-          _ _ c.in-Fixups.is c.suits-suited.ensures (not-true _ c.if-not-suited.true),
+          _ _ c.in-Fixups.is c.suits-suited.ensures c.if-not-suited.true,
       tt,
     )
 
@@ -66,7 +66,7 @@ pub returns-else-not-suited : goal.returns-else-not-suited
 returns-else-not-suited c =
     listed_suited c.args.kind c.type_of-record_type.ensures c.wide-index.ensures.0 c.wide-lsb.ensures.0
     _ _ c.in-Fixups.is c.suits-suited.ensures c.wide-index.ensures.1 c.wide-lsb.ensures.1
-    (not-false _ c.if-not-suited.false) c.lsb_for.ensures
+    c.if-not-suited.false c.lsb_for.ensures
 
 pub returns-in-End : goal.returns-in-End
 returns-in-End c =

@@ -13,23 +13,21 @@ use Rattle.index.proofs.walk_call.Goals as goal
 
 pub returns-then-not-ranged : goal.returns-then-not-ranged
 returns-then-not-ranged c =
-    call_range _ _ (sym c.in_range-ranged.ensures ∙ not-true _ c.if-not-ranged.true) c.refused.ensures (cleared _ _ c.requires c.fill.ensures)
+    call_range _ _ (sym c.in_range-ranged.ensures ∙ c.if-not-ranged.true) c.refused.ensures (cleared _ _ c.requires c.fill.ensures)
 
 pub returns-then-index-gt-FILE : goal.returns-then-index-gt-FILE
 returns-then-index-gt-FILE c =
-    call_long _ _ (sym c.in_range-ranged.ensures ∙ not-false _ c.if-not-ranged.false) c.if-index-gt-FILE.true c.refused-then-index-gt-FILE.ensures
+    call_long _ _ (sym c.in_range-ranged.ensures ∙ c.if-not-ranged.false) c.if-index-gt-FILE.true c.refused-then-index-gt-FILE.ensures
     (cleared _ _ c.requires c.fill.ensures)
 
 pub overflow_cast-bases : goal.overflow_cast-bases
 overflow_cast-bases c =
-    let a = c.args in
-    let k = range_bounds formless (bases_at a.main-base a.zero-base) (sym c.in_range-ranged.ensures ∙ not-false _ c.if-not-ranged.false) in
+    let k = range_bounds formless (bases_at c.args.main_base c.args.zero_base) (sym c.in_range-ranged.ensures ∙ c.if-not-ranged.false) in
     omega (arith, k)
 
 pub overflow_cast-bases-2 : goal.overflow_cast-bases-2
 overflow_cast-bases-2 c =
-    let a = c.args in
-    let k = range_bounds formless (bases_at a.main-base a.zero-base) (sym c.in_range-ranged.ensures ∙ not-false _ c.if-not-ranged.false) in
+    let k = range_bounds formless (bases_at c.args.main_base c.args.zero_base) (sym c.in_range-ranged.ensures ∙ c.if-not-ranged.false) in
     omega (arith, k)
 
 pub walk_index-requires : goal.walk_index-requires
@@ -38,4 +36,4 @@ walk_index-requires c =
 
 pub returns : goal.returns
 returns c =
-    call_walked _ _ (sym c.in_range-ranged.ensures ∙ not-false _ c.if-not-ranged.false) c.if-index-gt-FILE.false c.walk_index.ensures
+    call_walked _ _ (sym c.in_range-ranged.ensures ∙ c.if-not-ranged.false) c.if-index-gt-FILE.false c.walk_index.ensures

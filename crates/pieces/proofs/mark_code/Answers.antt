@@ -15,9 +15,9 @@ returns-then-limit-end c = placing_high _ _ _ _ _ _ (sym (length_run _ 0)) c.if-
 pub returns-then-not-free : goal.returns-then-not-free
 returns-then-not-free c =
     placing_taken _ _ _ _ _ _ (sym (length_run _ 0)) c.if-limit-end.false
-    (sym c.is_zero-free.ensures ∙ not-true _ c.if-not-free.true)
+    (sym c.is_zero-free.ensures ∙ c.if-not-free.true)
 
 pub returns : goal.returns
 returns c =
     placing_marked _ _ _ _ _ _ (sym (length_run _ 0)) _ c.if-limit-end.false (omega (arith, c.requires, c.if-limit-end.false))
-    (sym c.is_zero-free.ensures ∙ not-false _ c.if-not-free.false) c.fill.ensures
+    (sym c.is_zero-free.ensures ∙ c.if-not-free.false) c.fill.ensures

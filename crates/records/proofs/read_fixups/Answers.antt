@@ -13,9 +13,9 @@ returns-then-file-at c = simp (lt-leb _ _ c.if-file-at.true)
 pub returns-then-not-suited : goal.returns-then-not-suited
 unfolding read_fixups need
 returns-then-not-suited c =
-    simp (le-leb _ _ c.if-file-at.false, ← c.suits-suited.ensures, not-true c.suits-suited.result c.if-not-suited.true)
+    simp (le-leb _ _ c.if-file-at.false, ← c.suits-suited.ensures, c.if-not-suited.true)
 
 pub returns : goal.returns
 unfolding read_fixups need
 returns c =
-    simp (le-leb _ _ c.if-file-at.false, ← c.suits-suited.ensures, not-false c.suits-suited.result c.if-not-suited.false) c.read_items.ensures
+    simp (le-leb _ _ c.if-file-at.false, ← c.suits-suited.ensures, c.if-not-suited.false) c.read_items.ensures

@@ -9,7 +9,7 @@ use Rattle.records.proofs.read_items.Goals as goal
 pub returns-then-not-allowed : goal.returns-then-not-allowed
 unfolding read_items need
 returns-then-not-allowed c =
-    simp (← c.wide-length.ensures.0, ← c.length_allowed-allowed.ensures, not-true c.length_allowed-allowed.result c.if-not-allowed.true)
+    simp (← c.wide-length.ensures.0, ← c.length_allowed-allowed.ensures, c.if-not-allowed.true)
 
 pub returns-then-file-at : goal.returns-then-file-at
 unfolding read_items need
@@ -17,7 +17,7 @@ returns-then-file-at c =
     simp (
       ← c.wide-length.ensures.0,
       ← c.length_allowed-allowed.ensures,
-      not-false c.length_allowed-allowed.result c.if-not-allowed.false,
+      c.if-not-allowed.false,
       lt-leb _ _
           c.if-file-at.true,
     )
@@ -28,7 +28,7 @@ returns c =
     simp (
       ← c.wide-length.ensures.0,
       ← c.length_allowed-allowed.ensures,
-      not-false c.length_allowed-allowed.result c.if-not-allowed.false,
+      c.if-not-allowed.false,
       le-leb _ _
           c.if-file-at.false,
     )

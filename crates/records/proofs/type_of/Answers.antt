@@ -56,7 +56,7 @@ returns-in-11 c = sym (ap type_of c.in-11.is)
 pub returns-in_default : goal.returns-in_default
 returns-in_default c =
     let t = c.args.byte in
-    let r = c.in_default.rest in
+    let r = c.in_default.in_default-own.rest in
     let q = r.0.0.0.0.0.0 in
     let low : 6 ≤ t = none_of_six t 0 (omega arith) q.0.0.0.0.0.1 q.0.0.0.0.1 q.0.0.0.1 q.0.0.1 q.0.1 q.1 in
     let high : 12 ≤ t = none_of_six t 6 low r.0.0.0.0.0.1 r.0.0.0.0.1 r.0.0.0.1 r.0.0.1 r.0.1 r.1 in

@@ -16,7 +16,7 @@ use Rattle.sdx.specs.Call.{sized, admitting}
 use Rattle.sdx.proofs.load.Goals as goal
 
 pub returns-then-not-is_sized : goal.returns-then-not-is_sized
-returns-then-not-is_sized c = loaded_wrong _ _ _ _ _ (sym c.is_sized.ensures ∙ not-true _ c.if-not-is_sized.true) c.refused.ensures
+returns-then-not-is_sized c = loaded_wrong _ _ _ _ _ (sym c.is_sized.ensures ∙ c.if-not-is_sized.true) c.refused.ensures
 
 pub refused-requires-in-Failed : goal.refused-requires-in-Failed
 refused-requires-in-Failed c =
@@ -26,16 +26,16 @@ refused-requires-in-Failed c =
 pub returns-in-Failed : goal.returns-in-Failed
 returns-in-Failed c =
     let a = c.args in
-    let g = inputs a.known-names.now a.known-addresses.now a.low a.high in
+    let g = inputs c.args.known_names.now c.args.known_addresses.now a.low a.high in
     let b = buffers a.memory.now a.map.now a.new_names.now a.new_addresses.now in
-    let right : sized g b ≡ true = sym c.is_sized.ensures ∙ not-false _ c.if-not-is_sized.false in
+    let right : sized g b ≡ true = sym c.is_sized.ensures ∙ c.if-not-is_sized.false in
     loaded_at_once _ _ right (sym (admit_settings _ _ _ _ _) ∙ sym c.admit.ensures ∙ c.in-Failed.is) c.refused-in-Failed.ensures
     (cleared _ _ (right_sizes g b right).map c.fill.ensures)
 
 pub overflow_cast-low : goal.overflow_cast-low
 overflow_cast-low c =
     let a = c.args in
-    let g = inputs a.known-names.now a.known-addresses.now a.low a.high in
+    let g = inputs c.args.known_names.now c.args.known_addresses.now a.low a.high in
     let passed : admitting a.file.now g ≡ Passed = sym (admit_settings _ _ _ _ _) ∙ sym c.admit.ensures ∙ c.in_default.is in
     let h = range_bounds g (admitted _ g passed).settings in
     omega (arith, h.0, h.1)
@@ -43,7 +43,7 @@ overflow_cast-low c =
 pub overflow_cast-high : goal.overflow_cast-high
 overflow_cast-high c =
     let a = c.args in
-    let g = inputs a.known-names.now a.known-addresses.now a.low a.high in
+    let g = inputs c.args.known_names.now c.args.known_addresses.now a.low a.high in
     let passed : admitting a.file.now g ≡ Passed = sym (admit_settings _ _ _ _ _) ∙ sym c.admit.ensures ∙ c.in_default.is in
     let h = range_bounds g (admitted _ g passed).settings in
     omega (arith, h.1)
@@ -51,9 +51,9 @@ overflow_cast-high c =
 pub load_blocks-requires : goal.load_blocks-requires
 load_blocks-requires c =
     let a = c.args in
-    let g = inputs a.known-names.now a.known-addresses.now a.low a.high in
+    let g = inputs c.args.known_names.now c.args.known_addresses.now a.low a.high in
     let b = buffers a.memory.now a.map.now a.new_names.now a.new_addresses.now in
-    let right : sized g b ≡ true = sym c.is_sized.ensures ∙ not-false _ c.if-not-is_sized.false in
+    let right : sized g b ≡ true = sym c.is_sized.ensures ∙ c.if-not-is_sized.false in
     let passed : admitting a.file.now g ≡ Passed = sym (admit_settings _ _ _ _ _) ∙ sym c.admit.ensures ∙ c.in_default.is in
     let l = right_sizes g b right in
     let fill = c.fill in (
@@ -69,4 +69,4 @@ load_blocks-requires c =
 
 pub returns : goal.returns
 returns c =
-    loaded_sized _ _ (sym c.is_sized.ensures ∙ not-false _ c.if-not-is_sized.false) c.load_blocks.ensures
+    loaded_sized _ _ (sym c.is_sized.ensures ∙ c.if-not-is_sized.false) c.load_blocks.ensures

@@ -8,14 +8,14 @@ use Rattle.updates.proofs.Adjusting.{adjusting_unloaded, adjusting_twice, adjust
 use Rattle.updates.proofs.adjust.Goals as goal
 
 pub returns-then-not-loaded : goal.returns-then-not-loaded
-returns-then-not-loaded c = adjusting_unloaded _ _ _ _ _ _ (sym c.word_loaded-loaded.ensures ∙ not-true _ c.if-not-loaded.true)
+returns-then-not-loaded c = adjusting_unloaded _ _ _ _ _ _ (sym c.word_loaded-loaded.ensures ∙ c.if-not-loaded.true)
 
 pub returns-then-adjusted : goal.returns-then-adjusted
 returns-then-adjusted c =
-    adjusting_twice _ _ _ _ _ _ (sym c.word_loaded-loaded.ensures ∙ not-false _ c.if-not-loaded.false)
+    adjusting_twice _ _ _ _ _ _ (sym c.word_loaded-loaded.ensures ∙ c.if-not-loaded.false)
     (sym c.contains-adjusted.ensures ∙ c.if-adjusted.true)
 
 pub returns : goal.returns
 returns c =
-    adjusting_done _ _ _ _ _ _ (sym c.word_loaded-loaded.ensures ∙ not-false _ c.if-not-loaded.false) _ _
+    adjusting_done _ _ _ _ _ _ (sym c.word_loaded-loaded.ensures ∙ c.if-not-loaded.false) _ _
     (sym c.contains-adjusted.ensures ∙ c.if-adjusted.false) c.adjust_word.ensures

@@ -6,7 +6,7 @@ use borrow.Author.Tests.{not-true, not-false}
 use Rattle.updates.proofs.word_loaded.Goals as goal
 
 pub returns-then-not-first : goal.returns-then-not-first
-returns-then-not-first c = rw (sym c.is_loaded-first.ensures ∙ not-true _ c.if-not-first.true) refl
+returns-then-not-first c = rw (sym c.is_loaded-first.ensures ∙ c.if-not-first.true) refl
 
 pub returns : goal.returns
-returns c = rw (sym c.is_loaded-first.ensures ∙ not-false _ c.if-not-first.false) c.is_loaded.ensures
+returns c = rw (sym c.is_loaded-first.ensures ∙ c.if-not-first.false) c.is_loaded.ensures
