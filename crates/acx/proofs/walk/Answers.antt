@@ -1,5 +1,6 @@
 -- `acx::walk` meets its contract: the definition's walk has come to the cursor, with the memory and the map of its events (`Going`).
 -- Assumes nothing.
+use borrow.Enum.Refused.{opened}
 use mathlib.Core.Path.{◌≡◌, ◌∙◌}
 use Prim.Native.Nat.{◌-◌}
 use native.Mathlib.Nat.{le_refl}
@@ -59,7 +60,7 @@ advance-cursor-requires c =
 pub loop-fault-smaller : goal.loop-fault-smaller
 loop-fault-smaller c =
     let l = c.loop-fault in
-    let on = going_onward l.invariant.2 c.read-found.ensures c.apply-check.ensures c.in_default.is c.in_default-found.in_default-found-own.keys2 in
+    let on = going_onward l.invariant.2 c.read-found.ensures c.apply-check.ensures c.in_default.is (opened c.in_default-found.in_default-found-own.keys2) in
     let a = rw (← c.advance-cursor.ensures) at (going_further l.invariant.2 c.read-found.ensures c.apply-check.ensures on) in
     let g = rw (← c.advance-cursor.ensures) at
     (going_on l.invariant.2 c.read-found.ensures c.apply-check.ensures c.in_default.is on) in
@@ -68,7 +69,7 @@ loop-fault-smaller c =
 pub loop-fault-preserved : goal.loop-fault-preserved
 loop-fault-preserved c =
     let l = c.loop-fault in
-    let on = going_onward l.invariant.2 c.read-found.ensures c.apply-check.ensures c.in_default.is c.in_default-found.in_default-found-own.keys2 in (
+    let on = going_onward l.invariant.2 c.read-found.ensures c.apply-check.ensures c.in_default.is (opened c.in_default-found.in_default-found-own.keys2) in (
       c.apply-check.auto.memory ∙ l.invariant.0,
       c.apply-check.auto.map ∙ l.invariant.1,
       rw c.advance-cursor.ensures

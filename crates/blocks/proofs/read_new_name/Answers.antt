@@ -13,7 +13,7 @@ returns-then-number-gt-LAST_NUMBER c = new_name_number _ _ c.if-file-at.false _ 
 
 pub returns-then-not-slot : goal.returns-then-not-slot
 returns-then-not-slot c =
-    new_name_missing _ _ c.if-file-at.false _ c.wide-number.ensures.0 c.if-number-gt-LAST_NUMBER.false c.if-not-slot.true
+    new_name_missing _ _ c.if-file-at.false _ c.wide-number.ensures.0 c.if-number-gt-LAST_NUMBER.false (not-true _ c.if-not-slot.true)
 
 pub read_address-requires : goal.read_address-requires
 read_address-requires c =
@@ -21,5 +21,5 @@ read_address-requires c =
 
 pub returns : goal.returns
 returns c =
-    new_name_read _ _ c.if-file-at.false _ c.wide-number.ensures.0 _ c.if-number-gt-LAST_NUMBER.false c.if-not-slot.false
+    new_name_read _ _ c.if-file-at.false _ c.wide-number.ensures.0 _ c.if-number-gt-LAST_NUMBER.false (not-false _ c.if-not-slot.false)
     c.read_address.ensures

@@ -13,8 +13,8 @@ returns-then-number-gt-LAST_NUMBER c = update_number _ _ c.if-file-from.false _ 
 
 pub returns-then-not-block : goal.returns-then-not-block
 returns-then-not-block c =
-    update_missing _ _ c.if-file-from.false _ c.wide-number.ensures.0 c.if-number-gt-LAST_NUMBER.false c.if-not-block.true
+    update_missing _ _ c.if-file-from.false _ c.wide-number.ensures.0 c.if-number-gt-LAST_NUMBER.false (not-true _ c.if-not-block.true)
 
 pub returns : goal.returns
 returns c =
-    update_read _ _ c.if-file-from.false _ c.wide-number.ensures.0 c.if-number-gt-LAST_NUMBER.false c.if-not-block.false
+    update_read _ _ c.if-file-from.false _ c.wide-number.ensures.0 c.if-number-gt-LAST_NUMBER.false (not-false _ c.if-not-block.false)

@@ -1,6 +1,7 @@
 -- `builder::index_length` meets its contract: the definition's walk has come to the cursor, and the bytes of its pieces so far are counted
 -- (`Counting`).
 -- Assumes nothing.
+use borrow.Enum.Refused.{opened}
 use mathlib.Core.Path.{ap, ◌∙◌}
 use Prim.Native.Nat.{◌-◌}
 use native.Mathlib.Omega.{arith}
@@ -42,12 +43,12 @@ advance-cursor-requires c = let l = c.loop-entry.invariant in
 pub loop-entry-smaller : goal.loop-entry-smaller
 loop-entry-smaller c =
     let l = c.loop-entry.invariant in
-    let o = read_onward l.1.tracks c.read-found.ensures l.0.yes c.in_default.in_default-own.keys2 in
+    let o = read_onward l.1.tracks c.read-found.ensures l.0.yes (opened c.in_default.in_default-own.keys2) in
     let f = read_further l.1.tracks c.read-found.ensures l.0.yes o in
     rw c.advance-cursor.ensures (omega (arith, f))
 
 pub loop-entry-preserved : goal.loop-entry-preserved
 loop-entry-preserved c =
     let l = c.loop-entry.invariant in
-    let o = read_onward l.1.tracks c.read-found.ensures l.0.yes c.in_default.in_default-own.keys2 in
+    let o = read_onward l.1.tracks c.read-found.ensures l.0.yes (opened c.in_default.in_default-own.keys2) in
     (l.0, rw c.advance-cursor.ensures (counting_on l.1 c.read-found.ensures l.0.yes o c.entry_size-used.ensures.0))

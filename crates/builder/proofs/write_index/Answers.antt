@@ -1,5 +1,6 @@
 -- `builder::write_index` meets its contract: the definition's walk has come to the cursor, and the room holds its pieces so far (`Filling`).
 -- Assumes nothing.
+use borrow.Enum.Refused.{opened}
 use mathlib.Core.Path.{sym, ap, ◌∙◌}
 use Prim.Native.Nat.{◌-◌}
 use native.Mathlib.Omega.{arith}
@@ -35,7 +36,7 @@ pub write_record-requires : goal.write_record-requires
 write_record-requires c =
     let l = c.loop-entry.invariant in
     let k = walkable_short l.0 c.requires.1 in
-    let o = read_onward l.1.tracks c.read-found.ensures l.0.yes c.in_default.in_default-own.keys2 in
+    let o = read_onward l.1.tracks c.read-found.ensures l.0.yes (opened c.in_default.in_default-own.keys2) in
     let room = filling_room l.1 c.read-found.ensures l.0.yes o k in
     (filling_sound l.1 c.read-found.ensures, l.0.fits, room, filling_long l.1)
 
@@ -43,7 +44,7 @@ pub next_front-front-requires : goal.next_front-front-requires
 next_front-front-requires c =
     let l = c.loop-entry.invariant in
     let k = walkable_short l.0 c.requires.1 in
-    let o = read_onward l.1.tracks c.read-found.ensures l.0.yes c.in_default.in_default-own.keys2 in
+    let o = read_onward l.1.tracks c.read-found.ensures l.0.yes (opened c.in_default.in_default-own.keys2) in
     (read_ends_by l.1.tracks c.read-found.ensures l.0.fits, omega (arith, filling_room l.1 c.read-found.ensures l.0.yes o k))
 
 pub advance-cursor-requires : goal.advance-cursor-requires
@@ -55,11 +56,11 @@ advance-cursor-requires c =
 pub loop-entry-smaller : goal.loop-entry-smaller
 loop-entry-smaller c =
     let l = c.loop-entry.invariant in
-    let o = read_onward l.1.tracks c.read-found.ensures l.0.yes c.in_default.in_default-own.keys2 in
+    let o = read_onward l.1.tracks c.read-found.ensures l.0.yes (opened c.in_default.in_default-own.keys2) in
     rw c.advance-cursor.ensures (omega (arith, read_further l.1.tracks c.read-found.ensures l.0.yes o))
 
 pub loop-entry-preserved : goal.loop-entry-preserved
 loop-entry-preserved c =
     let l = c.loop-entry.invariant in
-    let o = read_onward l.1.tracks c.read-found.ensures l.0.yes c.in_default.in_default-own.keys2 in
+    let o = read_onward l.1.tracks c.read-found.ensures l.0.yes (opened c.in_default.in_default-own.keys2) in
     (l.0, rw (c.advance-cursor.ensures, c.next_front-front.ensures) (filling_on l.1 c.read-found.ensures l.0.yes o c.write_record.ensures))

@@ -1,5 +1,6 @@
 -- `effects::store_name` meets its contract: the lent parts of the file and of the room are the name's bytes.
 -- Assumes nothing.
+use borrow.Enum.Refused.{opened}
 use native.Mathlib.Omega.{arith}
 use Rattle.std.proofs.Common.{rules}
 use Rattle.effects.proofs.Applying.{stored_none, stored_name}
@@ -39,4 +40,4 @@ returns-in-NewName c =
     stored_name _ _ _ _ _ _ _ _ e (omega (arith, f.1, c.requires.1)) f.0 c.copy.ensures
 
 pub returns-in_default : goal.returns-in_default
-returns-in_default c = stored_none _ _ _ _ _ c.in_default.in_default-own.keys2
+returns-in_default c = stored_none _ _ _ _ _ (opened c.in_default.in_default-own.keys2)

@@ -1,5 +1,6 @@
 -- `index::walk` meets its contract: the definition's walk has come to the cursor, with the map of its events (`Going`).
 -- Assumes nothing.
+use borrow.Enum.Refused.{opened}
 use mathlib.Core.Path.{◌≡◌, ◌∙◌}
 use Prim.Native.Nat.{◌-◌}
 use native.Mathlib.Nat.{le_refl}
@@ -54,7 +55,7 @@ pub loop-fault-smaller : goal.loop-fault-smaller
 loop-fault-smaller c =
     let t = c.in_default.is in
     let l = c.loop-fault.invariant.1 in
-    let on = going_onward l c.read-found.ensures c.apply-check.ensures t c.in_default-found.in_default-found-own.keys2 in
+    let on = going_onward l c.read-found.ensures c.apply-check.ensures t (opened c.in_default-found.in_default-found-own.keys2) in
     let a = rw (← c.advance-cursor.ensures) at (going_further l c.read-found.ensures c.apply-check.ensures t on) in
     let g = rw (← c.advance-cursor.ensures) at (going_on l c.read-found.ensures c.apply-check.ensures t on) in
     omega (arith, a, (tracks_counts g.came).0)
@@ -63,5 +64,5 @@ pub loop-fault-preserved : goal.loop-fault-preserved
 loop-fault-preserved c =
     let t = c.in_default.is in
     let l = c.loop-fault.invariant in
-    let on = going_onward l.1 c.read-found.ensures c.apply-check.ensures t c.in_default-found.in_default-found-own.keys2 in
+    let on = going_onward l.1 c.read-found.ensures c.apply-check.ensures t (opened c.in_default-found.in_default-found-own.keys2) in
     (c.apply-check.auto.map ∙ l.0, rw c.advance-cursor.ensures (going_on l.1 c.read-found.ensures c.apply-check.ensures t on))

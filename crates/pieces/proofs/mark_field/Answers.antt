@@ -12,13 +12,13 @@ overflow_add-field c =
     omega (arith, c.requires, c.width-width.ensures)
 
 pub returns-then-size-field : goal.returns-then-size-field
-returns-then-size-field c = adjusting_outside _ _ _ _ _ _ _ c.width-width.ensures.0 c.if-size-field.true
+returns-then-size-field c b = adjusting_outside _ _ _ _ _ _ _ c.width-width.ensures.0 c.if-size-field.true
 
 pub returns-then-adjusted : goal.returns-then-adjusted
-returns-then-adjusted c =
+returns-then-adjusted c b =
     adjusting_twice _ _ _ _ _ _ _ c.width-width.ensures.0 c.if-size-field.false (sym c.contains-adjusted.ensures ∙ c.if-adjusted.true)
 
 pub returns : goal.returns
-returns c =
+returns c b =
     adjusting_marked _ _ _ _ _ _ _ c.width-width.ensures.0 _ c.if-size-field.false (omega (arith, c.requires, c.if-size-field.false))
     (sym c.contains-adjusted.ensures ∙ c.if-adjusted.false) c.fill.ensures

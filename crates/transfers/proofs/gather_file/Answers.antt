@@ -1,6 +1,7 @@
 -- `transfers::gather_file` meets its contract: the definition's walks at both pairs of bases have come to the cursors, and the scratch holds the pieces so
 -- far (`Gathering`).
 -- Assumes nothing.
+use borrow.Enum.Refused.{opened}
 use mathlib.Core.Path.{◌≡◌, ap, ◌∙◌}
 use Prim.Native.Nat.{◌-◌}
 use native.Mathlib.Omega.{arith}
@@ -47,7 +48,7 @@ gather_record-requires c =
     let u = l.1.yes_old in
     let v = l.1.yes_new in
     let r = c.read-found.ensures in
-    let on = gathering_onward x u v r c.in_default.in_default-own.keys2 in
+    let on = gathering_onward x u v r (opened c.in_default.in_default-own.keys2) in
     rw (c.advance-source.ensures, c.advance-target.ensures) (
       gathering_sound x u v r on,
       omega (arith, tracks_inside (next_old x u v r on), c.requires.1),
@@ -63,7 +64,7 @@ loop-entry-smaller c =
     let u = l.1.yes_old in
     let v = l.1.yes_new in
     let r = c.read-found.ensures in
-    let on = gathering_onward x u v r c.in_default.in_default-own.keys2 in
+    let on = gathering_onward x u v r (opened c.in_default.in_default-own.keys2) in
     let f = tracks_further x.at_old (found_is x u v r) on in
     let i = (tracks_counts (next_old x u v r on)).0 in
     rw c.advance-source.ensures (omega (arith, f, i))
@@ -75,7 +76,7 @@ loop-entry-preserved c =
     let u = l.1.yes_old in
     let v = l.1.yes_new in
     let r = c.read-found.ensures in
-    let on = gathering_onward x u v r c.in_default.in_default-own.keys2 in
+    let on = gathering_onward x u v r (opened c.in_default.in_default-own.keys2) in
     let t = rw (c.advance-source.ensures, c.advance-target.ensures) at
     c.gather_record.ensures in (
       c.gather_record.auto.scratch ∙ l.0,

@@ -1,5 +1,6 @@
 -- `updates::body` meets its contract: the definition's walk has come to the cursor, with the memory and the map of its events (`Going`).
 -- Assumes nothing.
+use borrow.Enum.Refused.{opened}
 use mathlib.Core.Path.{◌≡◌, ◌∙◌}
 use Prim.Native.Nat.{◌-◌}
 use native.Mathlib.Omega.{arith}
@@ -36,7 +37,7 @@ pub loop-fault-smaller : goal.loop-fault-smaller
 loop-fault-smaller c =
     let l = c.loop-fault in
     let p = c.in_default.is in
-    let on = going_onward l.invariant.2 c.read-item.ensures c.apply-check.ensures p c.in_default-item.in_default-item-own.keys2 in
+    let on = going_onward l.invariant.2 c.read-item.ensures c.apply-check.ensures p (opened c.in_default-item.in_default-item-own.keys2) in
     let a = rw (← c.advance-cursor.ensures) at (going_further l.invariant.2 c.read-item.ensures c.apply-check.ensures p on) in
     let g = rw (← c.advance-cursor.ensures) at (going_on l.invariant.2 c.read-item.ensures c.apply-check.ensures p on) in
     omega (arith, a, g.inside)
@@ -45,7 +46,7 @@ pub loop-fault-preserved : goal.loop-fault-preserved
 loop-fault-preserved c =
     let l = c.loop-fault in
     let p = c.in_default.is in
-    let on = going_onward l.invariant.2 c.read-item.ensures c.apply-check.ensures p c.in_default-item.in_default-item-own.keys2 in (
+    let on = going_onward l.invariant.2 c.read-item.ensures c.apply-check.ensures p (opened c.in_default-item.in_default-item-own.keys2) in (
       c.apply-check.auto.memory ∙ l.invariant.0,
       c.apply-check.auto.map ∙ l.invariant.1,
       rw c.advance-cursor.ensures (going_on l.invariant.2 c.read-item.ensures c.apply-check.ensures p on),
