@@ -30,18 +30,18 @@ overflow_add-result c =
 
 pub returns-in-Plain : goal.returns-in-Plain
 returns-in-Plain c =
-    applied_plain _ _ _ _ _ _ _ _ _ _ _ _ _ _ c.in-Plain.is c.place.ensures
+    applied_plain _ _ _ c.args.cursor _ _ _ _ _ _ _ _ _ _ c.in-Plain.is c.place.ensures
 
 pub returns-in-Relocatable : goal.returns-in-Relocatable
 returns-in-Relocatable c =
-    applied_room _ _ _ _ _ _ _ _ _ _ _ _ _ _ _ _ c.in-Relocatable.is c.place_relocatable.ensures
+    applied_room _ _ _ c.args.cursor _ _ _ _ _ _ _ _ _ _ _ _ c.in-Relocatable.is c.place_relocatable.ensures
 
 pub returns-in-Update : goal.returns-in-Update
 returns-in-Update c =
-    applied_body _ _ _ _ _ _ _ _ _ _ _ _ _ _ c.in-Update.is c.amount-amount.ensures c.body.ensures
+    applied_body _ _ _ c.args.cursor _ _ _ _ _ _ _ _ _ _ c.in-Update.is c.amount-amount.ensures c.body.ensures
 
 pub returns-in-NewName : goal.returns-in-NewName
-returns-in-NewName c = applied_name _ _ _ _ _ _ _ _ _ _ c.in-NewName.is
+returns-in-NewName c = applied_name _ _ _ c.args.cursor _ _ _ _ _ _ c.in-NewName.is
 
 pub returns-in-Faulty : goal.returns-in-Faulty
-returns-in-Faulty c = applied_faulty _ _ _ _ _ _ _ _ _ _ c.in-Faulty.is
+returns-in-Faulty c = applied_faulty _ _ _ c.args.cursor _ _ _ _ _ _ c.in-Faulty.is
