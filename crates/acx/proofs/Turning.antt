@@ -9,7 +9,7 @@ use Rattle.answer.specs.declared.Fault.{Fault}
 use Rattle.events.proofs.Checks.{passed_is}
 use Rattle.events.proofs.Traces.{Led, BySteps}
 use Rattle.events.proofs.Walks.{ends_leads, leads_same, ends_same}
-use Rattle.events.specs.Events.{Event, place, marks, blank, Ran, passed}
+use Rattle.events.specs.Events.{Event, place, marks, blank, Ran}
 use Rattle.events.specs.Walk.{ends, leads, bytes_left}
 use Rattle.events.specs.declared.Check.{Check}
 use Rattle.events.specs.declared.Check.TheVariants.{Passed, Failed}

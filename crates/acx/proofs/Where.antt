@@ -1,6 +1,6 @@
 -- A file whose records can be read, with sound fields, is accepted wherever its pieces and its start fit, and refused where they do not: specs/Where.antt.
 -- Assumes nothing.
-use mathlib.Core.Bool.{true, false≢true}
+use mathlib.Core.Bool.{false≢true}
 use mathlib.Core.List.{List, [], ◌∷◌, map}
 use mathlib.Core.Path.{◌≡◌, refl, sym, ap, ◌∙◌, subst}
 use Prim.Native.Nat.{ℕ, ◌+◌, ◌≤◌}

@@ -19,7 +19,6 @@ use Rattle.updates.proofs.Turning.{broken_done, done_same}
 use Rattle.updates.specs.Bodies.{Stop, broken, done, counted}
 use Rattle.words.proofs.Runs.{length_part}
 use Rattle.updates.specs.declared.Ended.TheVariants.{Broken, Done}
-use Rattle.effects.proofs.NewNames.{behind}
 use Rattle.effects.specs.Effects.{placed_by, applied, advanced, first_cursor}
 
 -- a block that is carried out ends further on, in the file, and as many bytes further on at least as it places and as it adjusts

@@ -32,7 +32,7 @@ use Rattle.index.proofs.Where.{accepted_where_fits}
 use Rattle.index.specs.Rules.{out_of_range as index_out_of_range, too_long as index_too_long}
 use Rattle.index.specs.Walk.{indexed}
 use Rattle.pieces.specs.AtBases.{start_of}
-use Rattle.pieces.specs.Pieces.{Piece, size, Outline, outline, events}
+use Rattle.pieces.specs.Pieces.{Piece, Outline, outline, events}
 use Rattle.pieces.specs.Places.{WellPlaced}
 use Rattle.pieces.specs.declared.Bases.{Bases}
 use Rattle.records.specs.declared.Entry.{Entry}

@@ -18,7 +18,7 @@ use Rattle.events.proofs.Walks.{walk_goes_on, walk_ends}
 use Rattle.events.specs.Events.{Event, marks, blank, placed_in, adjusted_in, Ran, Reached, Did}
 use Rattle.events.specs.Walk.{Turn, ends, leads, after, bytes_left}
 use Rattle.updates.proofs.Faults.{stop_within}
-use Rattle.updates.specs.Bodies.{Stop, broken, done, counted, ended}
+use Rattle.updates.specs.Bodies.{Stop, broken, done, ended}
 use Rattle.updates.specs.declared.Ended.{Ended}
 use Rattle.updates.specs.declared.Ended.TheVariants.{Broken, Done}
 use Rattle.words.proofs.Runs.{front_holds}

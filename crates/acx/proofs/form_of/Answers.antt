@@ -1,6 +1,5 @@
 -- `acx::form_of` meets its contract: 0 is disk form, every other number device form.
 -- Assumes nothing.
-use Rattle.std.proofs.Common.{rules}
 use Rattle.acx.proofs.Calling.{form_device}
 use Rattle.acx.proofs.form_of.Goals as goal
 

@@ -1,6 +1,5 @@
 -- `acx::load` meets its contract: the lengths decide, then the rest; the counts lie in the file, since the definition's do.
 -- Assumes nothing.
-use Rattle.std.proofs.Common.{rules}
 use Rattle.acx.proofs.Calling.{loaded_memory, loaded_map_lem, loaded_sized}
 use Rattle.acx.proofs.load.Goals as goal
 

@@ -2,7 +2,6 @@
 -- second walk does what it said.
 -- Assumes nothing.
 use mathlib.Core.Path.{◌∙◌}
-use Rattle.std.proofs.Common.{rules}
 use Rattle.events.proofs.Events.{cleared}
 use Rattle.acx.proofs.Calling.{loaded_refused, loaded_accepted}
 use Rattle.acx.proofs.load_sized.Goals as goal

@@ -1,6 +1,5 @@
 -- `acx::opening` meets its contract: the tests are those of the definition, in its order.
 -- Assumes nothing.
-use Rattle.std.proofs.Common.{rules}
 use borrow.Author.Tests.{le-leb, lt-leb, eq-eqb, ne_eqb}
 use Rattle.answer.specs.Checks.{need}
 use Rattle.acx.specs.Walk.{opening}

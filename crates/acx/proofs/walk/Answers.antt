@@ -1,14 +1,11 @@
 -- `acx::walk` meets its contract: the definition's walk has come to the cursor, with the memory and the map of its events (`Going`).
 -- Assumes nothing.
 use borrow.Enum.Refused.{opened}
-use mathlib.Core.Path.{◌≡◌, ◌∙◌}
-use Prim.Native.Nat.{◌-◌}
+use mathlib.Core.Path.{◌∙◌}
 use native.Mathlib.Nat.{le_refl}
 use native.Mathlib.Omega.{arith}
-use Rattle.std.proofs.Common.{rules}
-use lib.ListN.{length}
 use Rattle.acx.proofs.Cursors.{tracks_inside, tracks_counts, tracks_found, tracks_ends_by}
-use Rattle.acx.proofs.Going.{Going, going_first, going_fails, going_offset, going_start, going_ends, going_on, going_further, going_ends_by, going_onward}
+use Rattle.acx.proofs.Going.{going_first, going_fails, going_offset, going_start, going_ends, going_on, going_further, going_ends_by, going_onward}
 use Rattle.acx.proofs.walk.Goals as goal
 
 pub loop-fault-init : goal.loop-fault-init

@@ -2,8 +2,6 @@
 -- Assumes nothing.
 use mathlib.Core.Path.{sym, ◌∙◌}
 use native.Mathlib.Omega.{arith}
-use Rattle.std.proofs.Common.{rules}
-use borrow.Author.Tests.{not-true, not-false}
 use Rattle.events.proofs.Events.{cleared}
 use Rattle.pieces.specs.Pieces.{bases_at}
 use Rattle.acx.proofs.Calling.{range_bounds, call_range, call_long, call_walked}

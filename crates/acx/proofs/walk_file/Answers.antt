@@ -2,7 +2,6 @@
 -- Assumes nothing.
 use mathlib.Core.Path.{sym, ◌∙◌}
 use native.Mathlib.Omega.{arith}
-use Rattle.std.proofs.Common.{rules}
 use Rattle.events.proofs.Faults.{check_within}
 use Rattle.acx.proofs.Calling.{file_refused, file_walked}
 use Rattle.acx.proofs.Faults.{opening_faults}

@@ -1,7 +1,6 @@
 -- `answer::fault_number` meets its contract: each arm's number is that of its variant.
 -- Assumes nothing.
 use mathlib.Core.Path.{sym, ap}
-use Rattle.std.proofs.Common.{rules}
 use Rattle.answer.specs.Report.{number_of}
 use Rattle.answer.proofs.fault_number.Goals as goal
 

@@ -1,6 +1,5 @@
 -- `answer::numbers` meets its contract: each arm's numbers are those of its variant.
 -- Assumes nothing.
-use Rattle.std.proofs.Common.{rules}
 use Rattle.answer.proofs.numbers.Goals as goal
 
 pub returns-in-Absent : goal.returns-in-Absent

@@ -1,15 +1,11 @@
 -- `answer::write` meets its contract: up to number `i` the buffer holds the answer, and from there on what it held; and each number so far has
 -- room in its bytes.
 -- Assumes nothing.
-use mathlib.Core.List.{List, ◌++◌}
-use mathlib.Core.Path.{◌≡◌, refl, ap, ◌∙◌}
-use Prim.Native.Nat.{ℕ, ◌+◌, ◌≤◌, ◌<◌, ◌-◌, ◌*◌, ◌^◌}
-use native.Mathlib.Omega.{arith}
-use Rattle.std.proofs.Common.{rules}
+use mathlib.Core.List.{◌++◌}
+use mathlib.Core.Path.{◌≡◌}
+use Prim.Native.Nat.{ℕ, ◌≤◌, ◌<◌, ◌-◌, ◌*◌, ◌^◌}
 use lib.ListN.{get_or, length, take, drop}
-use Rattle.answer.proofs.Lengths.{length_numbers, written}
-use Rattle.words.proofs.Turns.{below_more, encode_all, encode_more}
-use Rattle.words.specs.Numbers.{store, encoded}
+use Rattle.words.specs.Numbers.{encoded}
 use Rattle.answer.proofs.write.Given as goal
 
 abbrev pub invariant-loop-i : goal.invariant-loop-i

@@ -1,6 +1,6 @@
 -- `blocks::read` meets its contract: the first word decides which reading it is.
 -- Assumes nothing.
-use Rattle.std.proofs.Common.{arith, rules}
+use Rattle.std.proofs.Common.{arith}
 use Rattle.blocks.proofs.Reading.{in_memory, names_in_memory, new_name_in_memory, update_in_memory, relocatable_in_memory, read_cut, read_unmarked, read_names_lem, read_new_name_lem, read_update_lem, read_relocatable_lem, read_marked}
 use Rattle.blocks.proofs.read.Goals as goal
 

@@ -1,6 +1,5 @@
 -- `blocks::read_address` meets its contract: its tests are those of the definition.
 -- Assumes nothing.
-use Rattle.std.proofs.Common.{rules}
 use Rattle.blocks.proofs.Reading.{address_below, address_past, address_full, address_read}
 use Rattle.blocks.proofs.read_address.Goals as goal
 

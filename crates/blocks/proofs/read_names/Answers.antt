@@ -1,6 +1,5 @@
 -- `blocks::read_names` meets its contract: its test is that of the definition, and the name is the lent part of the file.
 -- Assumes nothing.
-use Rattle.std.proofs.Common.{rules}
 use Rattle.names.specs.declared.Definition.TheVariants.{Missing, Own, Lent}
 use Rattle.words.proofs.Lent.{lent_is}
 use Rattle.blocks.proofs.Reading.{names_cut, names_read}

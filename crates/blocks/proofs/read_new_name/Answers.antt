@@ -1,6 +1,5 @@
 -- `blocks::read_new_name` meets its contract: its tests are those of the definition, and the rest is the name's address.
 -- Assumes nothing.
-use Rattle.std.proofs.Common.{rules}
 use borrow.Author.Tests.{not-true, not-false}
 use Rattle.blocks.proofs.Reading.{new_name_cut, new_name_number, new_name_missing, new_name_read}
 use Rattle.blocks.proofs.read_new_name.Goals as goal

@@ -1,6 +1,6 @@
 -- `blocks::read_plain` meets its contract: its tests are those of the definition, and both words are below 65,536.
 -- Assumes nothing.
-use Rattle.std.proofs.Common.{◌+◌, ◌-◌, ◌≤◌, arith, rules}
+use Rattle.std.proofs.Common.{◌+◌, ◌-◌, ◌≤◌, arith}
 use Rattle.blocks.proofs.Reading.{in_memory, plain_cut, plain_back, plain_short, plain_read}
 use Rattle.blocks.proofs.read_plain.Goals as goal
 

@@ -1,6 +1,6 @@
 -- `blocks::read_relocatable` meets its contract: its tests are those of the definition, and the rest is the block's room.
 -- Assumes nothing.
-use Rattle.std.proofs.Common.{refl, rules}
+use Rattle.std.proofs.Common.{refl}
 use Rattle.blocks.proofs.Reading.{relocatable_cut, relocatable_number, relocatable_data, relocatable_reserves, relocatable_id}
 use Rattle.blocks.proofs.read_relocatable.Goals as goal
 

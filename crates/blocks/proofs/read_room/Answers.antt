@@ -1,6 +1,5 @@
 -- `blocks::read_room` meets its contract: its tests are those of the definition.
 -- Assumes nothing.
-use Rattle.std.proofs.Common.{rules}
 use Rattle.blocks.proofs.Reading.{room_used, room_eighth, room_cut, room_high, room_read}
 use Rattle.blocks.proofs.read_room.Goals as goal
 

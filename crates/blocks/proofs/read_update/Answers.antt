@@ -1,6 +1,5 @@
 -- `blocks::read_update` meets its contract: its tests are those of the definition.
 -- Assumes nothing.
-use Rattle.std.proofs.Common.{rules}
 use borrow.Author.Tests.{not-true, not-false}
 use Rattle.blocks.proofs.Reading.{update_cut, update_number, update_missing, update_read}
 use Rattle.blocks.proofs.read_update.Goals as goal

@@ -1,7 +1,6 @@
 -- `builder::build` meets its contract: the lengths decide, then the rest.
 -- Assumes nothing.
 use native.Mathlib.Omega.{arith}
-use Rattle.std.proofs.Common.{rules}
 use Rattle.builder.proofs.Building.{wrong_map, wrong_room, right_sizes}
 use Rattle.builder.proofs.build.Goals as goal
 

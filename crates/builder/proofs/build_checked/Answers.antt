@@ -1,7 +1,6 @@
 -- `builder::build_checked` meets its contract: an index that does not fit is refused before the room is touched, and one that fits is written.
 -- Assumes nothing.
 use native.Mathlib.Omega.{arith}
-use Rattle.std.proofs.Common.{rules}
 use Rattle.events.proofs.Events.{cleared}
 use Rattle.builder.proofs.Building.{built_long, built_short}
 use Rattle.builder.proofs.build_checked.Goals as goal

@@ -3,7 +3,6 @@
 -- Assumes nothing.
 use mathlib.Core.Path.{◌∙◌}
 use native.Mathlib.Omega.{arith}
-use Rattle.std.proofs.Common.{rules}
 use Rattle.events.proofs.Events.{cleared}
 use Rattle.builder.proofs.Building.{built_refused, built_checked, check_accepts}
 use Rattle.builder.proofs.build_sized.Goals as goal

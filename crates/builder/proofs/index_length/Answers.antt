@@ -3,13 +3,10 @@
 -- Assumes nothing.
 use borrow.Enum.Refused.{opened}
 use mathlib.Core.Path.{ap, ◌∙◌}
-use Prim.Native.Nat.{◌-◌}
 use native.Mathlib.Omega.{arith}
-use Rattle.std.proofs.Common.{rules}
-use lib.ListN.{length}
 use Rattle.acx.proofs.Cursors.{tracks_counts}
 use Rattle.acx.specs.Walk.{opening_size}
-use Rattle.builder.proofs.Walking.{Walkable, walkable, read_ends_by, read_onward, read_further, Counting, counting_first, counting_end, counting_on}
+use Rattle.builder.proofs.Walking.{walkable, read_ends_by, read_onward, read_further, counting_first, counting_end, counting_on}
 use Rattle.builder.proofs.index_length.Goals as goal
 
 pub loop-entry-init : goal.loop-entry-init

@@ -1,6 +1,5 @@
 -- `builder::next_front` meets its contract: each arm is the front behind its record.
 -- Assumes nothing.
-use Rattle.std.proofs.Common.{rules}
 use Rattle.builder.proofs.Writing.{front_code, front_fixups}
 use Rattle.builder.proofs.next_front.Goals as goal
 

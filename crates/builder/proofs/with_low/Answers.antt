@@ -1,7 +1,6 @@
 -- `builder::with_low` meets its contract: each arm has its outcome.
 -- Assumes nothing.
 use mathlib.Core.Path.{refl}
-use Rattle.std.proofs.Common.{rules}
 use Rattle.builder.proofs.with_low.Goals as goal
 
 pub returns-in-Accepted : goal.returns-in-Accepted

@@ -1,10 +1,7 @@
 -- `builder::write_end` meets its contract: its stores are those of the entry's bytes in turn.
 -- Assumes nothing.
-use mathlib.Core.Path.{ap, ◌∙◌}
 use native.Mathlib.Omega.{arith}
-use Rattle.std.proofs.Common.{rules}
-use lib.ListN.{length, length-set}
-use Rattle.words.proofs.Runs.{length_put}
+use lib.ListN.{length-set}
 use Rattle.builder.proofs.Writing.{end_stored}
 use Rattle.builder.proofs.write_end.Goals as goal
 

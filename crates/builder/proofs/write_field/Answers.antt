@@ -1,7 +1,6 @@
 -- `builder::write_field` meets its contract: its stores are those of the fixup's bytes in turn.
 -- Assumes nothing.
 use native.Mathlib.Omega.{arith}
-use Rattle.std.proofs.Common.{rules}
 use lib.ListN.{length-set}
 use Rattle.builder.proofs.Writing.{field_stored}
 use Rattle.builder.proofs.write_field.Goals as goal

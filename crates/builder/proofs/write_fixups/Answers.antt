@@ -2,7 +2,6 @@
 -- Assumes nothing.
 use Prim.Native.Nat.{◌≤◌}
 use native.Mathlib.Omega.{arith}
-use Rattle.std.proofs.Common.{rules}
 use Rattle.fields.proofs.Listing.{item_some}
 use Rattle.builder.proofs.Writing.{closes}
 use Rattle.builder.proofs.write_fixups.Goals as goal

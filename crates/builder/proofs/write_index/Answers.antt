@@ -1,15 +1,12 @@
 -- `builder::write_index` meets its contract: the definition's walk has come to the cursor, and the room holds its pieces so far (`Filling`).
 -- Assumes nothing.
 use borrow.Enum.Refused.{opened}
-use mathlib.Core.Path.{sym, ap, ◌∙◌}
-use Prim.Native.Nat.{◌-◌}
+use mathlib.Core.Path.{ap, ◌∙◌}
 use native.Mathlib.Omega.{arith}
-use Rattle.std.proofs.Common.{rules}
-use lib.ListN.{length}
 use Rattle.acx.proofs.Cursors.{tracks_counts}
 use Rattle.acx.specs.Walk.{opening_size}
-use Rattle.builder.proofs.Filling.{Filling, filling_first, filling_long, filling_sound, filling_end_room, filling_end, filling_room, filling_on}
-use Rattle.builder.proofs.Walking.{Walkable, walkable, walkable_short, read_ends_by, read_onward, read_further}
+use Rattle.builder.proofs.Filling.{filling_first, filling_long, filling_sound, filling_end_room, filling_end, filling_room, filling_on}
+use Rattle.builder.proofs.Walking.{walkable, walkable_short, read_ends_by, read_onward, read_further}
 use Rattle.builder.proofs.write_index.Goals as goal
 
 pub loop-entry-init : goal.loop-entry-init

@@ -3,12 +3,9 @@
 -- Assumes nothing.
 use mathlib.Core.Path.{◌≡◌}
 use Prim.Native.Nat.{◌-◌, ◌≤◌}
-use native.Mathlib.Omega.{arith}
-use Rattle.std.proofs.Common.{rules}
 use lib.ListN.{length, drop}
-use Rattle.fields.proofs.Listing.{item_some, item_le, length_fields, next_field, last_field}
 use Rattle.fields.specs.Fields.{item_size, fields_of}
-use Rattle.builder.proofs.Writing.{Listing, listing_none, listing_long, listing_room, listing_more, listing_end}
+use Rattle.builder.proofs.Writing.{Listing}
 use Rattle.builder.proofs.write_items.Given as goal
 
 abbrev pub invariant-loop-i : goal.invariant-loop-i

@@ -1,7 +1,6 @@
 -- `builder::write_record` meets its contract: each arm is what its record brings to the room.
 -- Assumes nothing.
 use native.Mathlib.Omega.{arith}
-use Rattle.std.proofs.Common.{rules}
 use Rattle.builder.proofs.Writing.{sound_code, sound_fixups, fixups_lent, writes_code, writes_fixups, writes_end, writes_fault}
 use Rattle.builder.proofs.write_record.Goals as goal
 

@@ -1,6 +1,5 @@
 -- `calls::acx_load` meets its contract: with an answer to write it is a load that is answered.
 -- Assumes nothing.
-use Rattle.std.proofs.Common.{rules}
 use Rattle.calls.proofs.Answering.{acx_unanswered, acx_answered}
 use Rattle.calls.proofs.acx_load.Goals as goal
 

@@ -1,6 +1,5 @@
 -- `calls::index_build` meets its contract: with an answer to write it is a build that is answered.
 -- Assumes nothing.
-use Rattle.std.proofs.Common.{rules}
 use Rattle.calls.proofs.Answering.{build_unanswered, build_answered}
 use Rattle.calls.proofs.index_build.Goals as goal
 

@@ -1,6 +1,5 @@
 -- `calls::move_by` meets its contract: with an answer to write it is a move that is answered.
 -- Assumes nothing.
-use Rattle.std.proofs.Common.{rules}
 use Rattle.calls.proofs.Answering.{move_unanswered, move_answered}
 use Rattle.calls.proofs.move_by.Goals as goal
 

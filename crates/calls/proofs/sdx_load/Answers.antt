@@ -1,6 +1,5 @@
 -- `calls::sdx_load` meets its contract: with an answer to write it is a load that is answered.
 -- Assumes nothing.
-use Rattle.std.proofs.Common.{rules}
 use Rattle.calls.proofs.Answering.{sdx_unanswered, sdx_answered}
 use Rattle.calls.proofs.sdx_load.Goals as goal
 

@@ -1,6 +1,5 @@
 -- `calls::write_answer` meets its contract: the answer has its length, so it is written.
 -- Assumes nothing.
-use Rattle.std.proofs.Common.{rules}
 use Rattle.calls.proofs.Answering.{answers}
 use Rattle.calls.proofs.write_answer.Goals as goal
 

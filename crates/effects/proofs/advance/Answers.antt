@@ -1,7 +1,6 @@
 -- `effects::advance` meets its contract: the cursor of the definition, by the kind of the block.
 -- Assumes nothing.
 use mathlib.Core.Path.{refl}
-use Rattle.std.proofs.Common.{rules}
 use Rattle.effects.proofs.advance.Goals as goal
 
 pub add_block-requires : goal.add_block-requires

@@ -1,7 +1,6 @@
 -- `effects::apply` meets its contract: each kind of block is carried out by its own function.
 -- Assumes nothing.
 use native.Mathlib.Omega.{arith}
-use Rattle.std.proofs.Common.{rules}
 use Rattle.effects.proofs.Applying.{applied_plain, applied_room, applied_body, applied_name, applied_faulty, plain_inside, room_inside, body_inside, name_inside}
 use Rattle.effects.proofs.apply.Goals as goal
 

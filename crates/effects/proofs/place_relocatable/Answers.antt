@@ -1,7 +1,6 @@
 -- `effects::place_relocatable` meets its contract: what is reserved is only marked, what is not is placed.
 -- Assumes nothing.
 use native.Mathlib.Omega.{arith}
-use Rattle.std.proofs.Common.{rules}
 use Rattle.effects.proofs.Applying.{relocatable_reserved, relocatable_placed}
 use Rattle.effects.proofs.place_relocatable.Goals as goal
 

@@ -1,7 +1,6 @@
 -- `effects::placed_by` meets its contract: the size of what is placed, by the kind of the block.
 -- Assumes nothing.
 use mathlib.Core.Path.{refl}
-use Rattle.std.proofs.Common.{rules}
 use Rattle.effects.proofs.placed_by.Goals as goal
 
 pub returns-in-Relocatable : goal.returns-in-Relocatable

@@ -3,8 +3,6 @@
 use mathlib.Core.Bool.{Bool, true, false}
 use mathlib.Core.Path.{◌≡◌, refl, sym, ap, ◌∙◌}
 use Prim.Native.Nat.{ℕ, ◌<◌}
-use Rattle.std.proofs.Common.{rules}
-use borrow.Author.Tests.{not-true, not-false}
 use Rattle.answer.specs.Checks.{pick}
 use Rattle.fields.specs.declared.Fixup.{Fixup}
 use Rattle.records.specs.Records.{suits}
@@ -47,20 +45,18 @@ module _ (before : Kind) {t t' : RecordType} {i i' l l' : ℕ} (e : t ≡ t') (f
         listed_as d (ap (λ (b : Bool). pick b (Suited (record { fixup = fixup; index = i; lsb = lsb_for fixup l })) Unsuited) (sym h ∙ w))
 
 pub returns-then-not-suited : goal.returns-then-not-suited
-returns-then-not-suited c =
-    (
-      listed_unsuited c.args.kind c.type_of-record_type.ensures c.wide-index.ensures.0 c.wide-lsb.ensures.0
-          _ _ c.in-Fixups.is c.suits-suited.ensures c.if-not-suited.true,
-      tt,
-    )
+returns-then-not-suited c = (
+  listed_unsuited c.args.kind c.type_of-record_type.ensures c.wide-index.ensures.0 c.wide-lsb.ensures.0
+      _ _ c.in-Fixups.is c.suits-suited.ensures c.if-not-suited.true,
+  tt,
+)
 
 pub returns-in-Code : goal.returns-in-Code
-returns-in-Code c =
-    (
-      listed_as c.args.kind c.type_of-record_type.ensures c.wide-index.ensures.0 c.wide-lsb.ensures.0
-          c.in-Code.is refl,
-      tt,
-    )
+returns-in-Code c = (
+  listed_as c.args.kind c.type_of-record_type.ensures c.wide-index.ensures.0 c.wide-lsb.ensures.0
+      c.in-Code.is refl,
+  tt,
+)
 
 pub returns-else-not-suited : goal.returns-else-not-suited
 returns-else-not-suited c =
@@ -69,17 +65,15 @@ returns-else-not-suited c =
     c.if-not-suited.false c.lsb_for.ensures
 
 pub returns-in-End : goal.returns-in-End
-returns-in-End c =
-    (
-      listed_as c.args.kind c.type_of-record_type.ensures c.wide-index.ensures.0 c.wide-lsb.ensures.0
-          c.in-End.is refl,
-      tt,
-    )
+returns-in-End c = (
+  listed_as c.args.kind c.type_of-record_type.ensures c.wide-index.ensures.0 c.wide-lsb.ensures.0
+      c.in-End.is refl,
+  tt,
+)
 
 pub returns-in-Unknown : goal.returns-in-Unknown
-returns-in-Unknown c =
-    (
-      listed_as c.args.kind c.type_of-record_type.ensures c.wide-index.ensures.0 c.wide-lsb.ensures.0
-          c.in-Unknown.is refl,
-      tt,
-    )
+returns-in-Unknown c = (
+  listed_as c.args.kind c.type_of-record_type.ensures c.wide-index.ensures.0 c.wide-lsb.ensures.0
+      c.in-Unknown.is refl,
+  tt,
+)

@@ -1,6 +1,5 @@
 -- `entries::read_code` meets its contract: each return is the branch of the definition that the tests before it choose.
 -- Assumes nothing.
-use Rattle.std.proofs.Common.{rules}
 use borrow.Author.Tests.{le-leb, lt-leb, eq-eqb, ne_eqb}
 use Rattle.answer.specs.Checks.{need}
 use Rattle.entries.specs.Entries.{read_code}

@@ -11,7 +11,6 @@ use Rattle.records.specs.declared.Entry.{Entry}
 use Rattle.words.specs.Numbers.{big_value}
 use Rattle.entries.specs.Entries.{read_end}
 use Rattle.entries.specs.declared.IndexEntry.TheVariants.{End}
-use Rattle.std.proofs.Common.{rules}
 use Rattle.entries.proofs.read_end.Goals as goal
 
 -- an end entry of four bytes whose flag is known

@@ -1,6 +1,5 @@
 -- `events::adjust_word` meets its contract: the lent part of the map is filled with its mark, and the word in memory has the amount on.
 -- Assumes nothing.
-use Rattle.std.proofs.Common.{rules}
 use Rattle.events.proofs.Events.{adjust_marked, adjust_written}
 use Rattle.events.proofs.adjust_word.Goals as goal
 

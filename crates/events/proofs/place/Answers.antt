@@ -1,6 +1,5 @@
 -- `events::place` meets its contract: the lent part of the map is filled with its mark, and that of memory holds the bytes.
 -- Assumes nothing.
-use Rattle.std.proofs.Common.{rules}
 use Rattle.events.proofs.Events.{place_marked, place_written}
 use Rattle.events.proofs.place.Goals as goal
 

@@ -3,7 +3,6 @@
 use mathlib.Core.Path.{refl}
 use Prim.Native.Nat.{◌+◌, ◌≤◌}
 use native.Mathlib.Omega.{arith}
-use Rattle.std.proofs.Common.{rules}
 use lib.ListN.{length}
 use Rattle.fields.proofs.Listing.{item_some, single_listed, pair_listed}
 use Rattle.fields.specs.declared.Fixup.TheVariants.{LowByte, ZeroPageByte, Word}
@@ -20,12 +19,11 @@ bounds-items-at-in-HighByte c =
     omega arith
 
 pub returns-in-HighByte : goal.returns-in-HighByte
-returns-in-HighByte c =
-    (
-      pair_listed _ _ c.args.at _ _ c.in-HighByte.is c.requires c.wide-index.ensures.0 c.wide.ensures.0,
-      c.wide-index.ensures.1,
-      c.wide.ensures.1,
-    )
+returns-in-HighByte c = (
+  pair_listed _ _ c.args.at _ _ c.in-HighByte.is c.requires c.wide-index.ensures.0 c.wide.ensures.0,
+  c.wide-index.ensures.1,
+  c.wide.ensures.1,
+)
 
 pub returns-in-LowByte : goal.returns-in-LowByte
 returns-in-LowByte c =

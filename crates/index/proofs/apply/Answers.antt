@@ -1,7 +1,6 @@
 -- `index::apply` meets its contract: each kind of entry comes to what its part comes to, and lies in the index.
 -- Assumes nothing.
 use native.Mathlib.Omega.{arith}
-use Rattle.std.proofs.Common.{rules}
 use Rattle.index.proofs.Applying.{items_fit, applied_code, applied_end, applied_faulty}
 use Rattle.index.proofs.apply.Goals as goal
 

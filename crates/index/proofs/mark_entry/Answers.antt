@@ -1,7 +1,6 @@
 -- `index::mark_entry` meets its contract: the code is marked, and then its fixups, where its marks were not refused.
 -- Assumes nothing.
 use mathlib.Core.Path.{◌∙◌}
-use Rattle.std.proofs.Common.{rules}
 use Rattle.index.proofs.Applying.{code_room, coding_refused, coding_fixed}
 use Rattle.index.proofs.mark_entry.Goals as goal
 

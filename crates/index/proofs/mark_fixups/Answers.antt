@@ -1,13 +1,9 @@
 -- `index::mark_fixups` meets its contract: the definition's fixups have come to the one at hand, with the map that those before it left (`Fixing`), at
 -- whatever bases.
 -- Assumes nothing.
-use mathlib.Core.Path.{◌≡◌, refl, ◌∙◌}
-use Prim.Native.Nat.{◌-◌, ◌%◌, ◌≤◌}
+use mathlib.Core.Path.{refl, ◌∙◌}
 use native.Mathlib.Omega.{arith}
-use Rattle.std.proofs.Common.{rules}
-use lib.ListN.{length}
-use Rattle.pieces.specs.declared.Bases.{Bases}
-use Rattle.index.proofs.Fixing.{Fixing, fixing_none, fixing_unsuited, fixing_more, fixing_fails, fixing_end}
+use Rattle.index.proofs.Fixing.{fixing_none, fixing_unsuited, fixing_more, fixing_fails, fixing_end}
 use Rattle.index.proofs.mark_fixups.Goals as goal
 
 pub loop-i-init : goal.loop-i-init

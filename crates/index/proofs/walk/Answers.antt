@@ -1,14 +1,11 @@
 -- `index::walk` meets its contract: the definition's walk has come to the cursor, with the map of its events (`Going`).
 -- Assumes nothing.
 use borrow.Enum.Refused.{opened}
-use mathlib.Core.Path.{◌≡◌, ◌∙◌}
-use Prim.Native.Nat.{◌-◌}
+use mathlib.Core.Path.{◌∙◌}
 use native.Mathlib.Nat.{le_refl}
 use native.Mathlib.Omega.{arith}
-use Rattle.std.proofs.Common.{rules}
-use lib.ListN.{length}
 use Rattle.index.proofs.Cursors.{tracks_counts}
-use Rattle.index.proofs.Going.{Going, going_first, going_lies, going_fails, going_start, going_ends, going_onward, going_on, going_further}
+use Rattle.index.proofs.Going.{going_first, going_lies, going_fails, going_start, going_ends, going_onward, going_on, going_further}
 use Rattle.index.proofs.walk.Goals as goal
 
 pub loop-fault-init : goal.loop-fault-init

@@ -1,6 +1,5 @@
 -- `index::walk_index` meets its contract: an empty index and another version are the refusal, or the entries decide.
 -- Assumes nothing.
-use Rattle.std.proofs.Common.{rules}
 use Rattle.index.proofs.Calling.{index_empty, index_other, index_walked}
 use Rattle.index.proofs.walk_index.Goals as goal
 

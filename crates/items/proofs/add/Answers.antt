@@ -1,6 +1,5 @@
 -- `items::add` meets its contract: a counter that is set and a sum that leaves room for a word, or the fault.
 -- Assumes nothing.
-use Rattle.std.proofs.Common.{rules}
 use Rattle.items.proofs.Reading.{adding_unset, adding_high, adding_there}
 use Rattle.items.proofs.add.Goals as goal
 

@@ -1,7 +1,6 @@
 -- `items::read` meets its contract: the byte decides as in the definition, and each arm is the item of its byte.
 -- Assumes nothing.
 use native.Mathlib.Omega.{arith}
-use Rattle.std.proofs.Common.{rules}
 use Rattle.items.proofs.Reading.{reading_cut, reading_add, reading_end, reading_set, reading_set_to_block, reading_skip}
 use Rattle.items.proofs.read.Goals as goal
 

@@ -1,6 +1,5 @@
 -- `items::set` meets its contract: the tests are those of the definition, in its order, and the word is the one after the byte.
 -- Assumes nothing.
-use Rattle.std.proofs.Common.{rules}
 use Rattle.items.proofs.Reading.{setting_cut, setting_high, setting_there}
 use Rattle.items.proofs.set.Goals as goal
 

@@ -1,6 +1,5 @@
 -- `items::set_to_block` meets its contract: the tests are those of the definition, in its order, and the slot is that of the number.
 -- Assumes nothing.
-use Rattle.std.proofs.Common.{rules}
 use borrow.Author.Tests.{not-true, not-false}
 use Rattle.items.proofs.Reading.{to_block_cut, to_block_unknown, to_block_missing, to_block_there}
 use Rattle.items.proofs.set_to_block.Goals as goal

@@ -1,6 +1,5 @@
 -- `items::skip` meets its contract: a counter that is set and a sum that is an address, or the fault.
 -- Assumes nothing.
-use Rattle.std.proofs.Common.{rules}
 use Rattle.items.proofs.Reading.{skipping_unset, skipping_high, skipping_there}
 use Rattle.items.proofs.skip.Goals as goal
 

@@ -1,6 +1,5 @@
 -- `mover::judge` meets its contract: the old bases are at fault, or the new ones decide.
 -- Assumes nothing.
-use Rattle.std.proofs.Common.{rules}
 use Rattle.mover.proofs.Judging.{sides_old, sides_new}
 use Rattle.mover.proofs.judge.Goals as goal
 

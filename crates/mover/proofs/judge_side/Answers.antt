@@ -1,7 +1,6 @@
 -- `mover::judge_side` meets its contract: the walk wrote nothing; where it refused, the map is cleared and the side is named.
 -- Assumes nothing.
 use mathlib.Core.Path.{◌∙◌}
-use Rattle.std.proofs.Common.{rules}
 use Rattle.events.proofs.Events.{cleared}
 use Rattle.moves.specs.Sources.{source_of, judged_at}
 use Rattle.mover.proofs.Judging.{side_refused, side_accepted}

@@ -1,7 +1,6 @@
 -- `mover::move_handler` meets its contract: each length by itself, and the move where all are right.
 -- Assumes nothing.
 use mathlib.Core.Path.{refl}
-use Rattle.std.proofs.Common.{rules}
 use Rattle.mover.proofs.Judging.{moved_memory, moved_map, moved_scratch, moved_sized}
 use Rattle.mover.proofs.move_handler.Goals as goal
 

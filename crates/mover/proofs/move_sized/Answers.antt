@@ -2,7 +2,6 @@
 -- are in their ranges.
 -- Assumes nothing.
 use mathlib.Core.Path.{◌∙◌}
-use Rattle.std.proofs.Common.{rules}
 use Rattle.events.proofs.Events.{cleared}
 use Rattle.moves.specs.Sources.{source_of}
 use Rattle.mover.proofs.Judging.{judged_allows, judged_ranges, done_refused, done_moved}

@@ -1,6 +1,5 @@
 -- `mover::walk_side` meets its contract: either walk reports what a move looks at, and writes nothing.
 -- Assumes nothing.
-use Rattle.std.proofs.Common.{rules}
 use Rattle.mover.proofs.Judging.{walked_file, walked_index}
 use Rattle.mover.proofs.walk_side.Goals as goal
 

@@ -1,6 +1,5 @@
 -- `names::look_up` meets its contract: each arm is one line of the definition, at what the two searches found.
 -- Assumes nothing.
-use Rattle.std.proofs.Common.{rules}
 use Rattle.names.proofs.Turns.{own_holds, lent_holds, none_holds}
 use Rattle.names.proofs.look_up.Goals as goal
 

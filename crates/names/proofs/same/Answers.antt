@@ -1,12 +1,10 @@
 -- `names::same` meets its contract: the bytes up to `i` are the same in both, so the answer is that for the rest.
 -- Assumes nothing.
 use mathlib.Core.Path.{◌≡◌, refl, sym, ◌∙◌}
-use Prim.Native.Nat.{◌≤◌, ◌-◌}
 use native.Mathlib.Omega.{arith}
 use Rattle.std.proofs.Common.{rules}
-use lib.ListN.{length, drop}
+use lib.ListN.{length}
 use Rattle.names.proofs.Turns.{same_more, same_not, same_all}
-use Rattle.names.specs.Names.{same}
 use Rattle.names.proofs.same.Goals as goal
 
 pub loop-i-init : goal.loop-i-init

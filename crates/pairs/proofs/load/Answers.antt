@@ -1,7 +1,6 @@
 -- `pairs::load` meets its contract: the lengths of the address lists decide, then the words in them.
 -- Assumes nothing.
 use native.Mathlib.Omega.{arith}
-use Rattle.std.proofs.Common.{rules}
 use borrow.Author.Tests.{eq-eqb}
 use Rattle.pairs.proofs.Pairs.{loads_odd, loads_many, loads_other}
 use Rattle.pairs.proofs.load.Goals as goal

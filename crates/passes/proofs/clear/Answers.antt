@@ -1,12 +1,11 @@
 -- `passes::clear` meets its contract: up to `i` the addresses are zero, and from there on what they were.
 -- Assumes nothing.
-use mathlib.Core.List.{◌++◌, append-nil}
+use mathlib.Core.List.{append-nil}
 use mathlib.Core.Path.{◌≡◌, refl}
-use Prim.Native.Nat.{◌≤◌, ◌-◌}
 use native.Mathlib.Omega.{arith}
 use borrow.Author.Fill.{fill_more}
 use Rattle.std.proofs.Common.{rules}
-use lib.ListN.{length, replicate, drop, length-set}
+use lib.ListN.{length, length-set}
 use lib.Seq.{drop-length}
 use Rattle.passes.proofs.clear.Goals as goal
 

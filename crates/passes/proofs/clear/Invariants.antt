@@ -1,13 +1,9 @@
 -- `passes::clear` meets its contract: up to `i` the addresses are zero, and from there on what they were.
 -- Assumes nothing.
-use mathlib.Core.List.{◌++◌, append-nil}
-use mathlib.Core.Path.{◌≡◌, refl}
+use mathlib.Core.List.{◌++◌}
+use mathlib.Core.Path.{◌≡◌}
 use Prim.Native.Nat.{◌≤◌, ◌-◌}
-use native.Mathlib.Omega.{arith}
-use borrow.Author.Fill.{fill_more}
-use Rattle.std.proofs.Common.{rules}
-use lib.ListN.{length, replicate, drop, length-set}
-use lib.Seq.{drop-length}
+use lib.ListN.{length, replicate, drop}
 use Rattle.passes.proofs.clear.Given as goal
 
 abbrev pub invariant-loop-i : goal.invariant-loop-i

@@ -1,7 +1,6 @@
 -- `passes::finish` meets its contract: the rest of each room is a lent part of it that is filled with zeros.
 -- Assumes nothing.
 use native.Mathlib.Omega.{arith}
-use Rattle.std.proofs.Common.{rules}
 use Rattle.passes.proofs.Finishing.{rest_cleared, reported_as}
 use Rattle.passes.proofs.finish.Goals as goal
 

@@ -1,7 +1,5 @@
 -- `passes::start` meets its contract: the marks decide, and then the word there.
 -- Assumes nothing.
-use Rattle.std.proofs.Common.{rules}
-use borrow.Author.Tests.{not-true, not-false}
 use Rattle.passes.proofs.Finishing.{start_absent, start_there}
 use Rattle.passes.proofs.start.Goals as goal
 

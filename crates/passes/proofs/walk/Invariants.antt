@@ -1,11 +1,9 @@
 -- `passes::walk` meets its contract: the definition's walk has come to the cursor, with the buffers as what it did left them (`Going`).
 -- Assumes nothing.
-use mathlib.Core.Path.{◌≡◌, refl, sym, ◌∙◌}
-use Prim.Native.Nat.{◌+◌, ◌-◌, ◌≤◌}
-use native.Mathlib.Omega.{arith}
-use Rattle.std.proofs.Common.{rules}
+use mathlib.Core.Path.{◌≡◌}
+use Prim.Native.Nat.{◌-◌}
 use lib.ListN.{length}
-use Rattle.passes.proofs.Going.{Going, going_first, going_done, found_fits, name_fits, room_fits, going_stops, going_falls, going_counts, going_on}
+use Rattle.passes.proofs.Going.{Going}
 use Rattle.passes.specs.Walk.{inputs}
 use Rattle.passes.specs.Buffers.{buffers}
 use Rattle.passes.proofs.walk.Given as goal

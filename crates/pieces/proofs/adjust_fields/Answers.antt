@@ -1,14 +1,10 @@
 -- `pieces::adjust_fields` meets its contract: the definition's list of fields has come to the field at hand, with the memory and the map that
 -- the fields before it left (`Adjusting`).
 -- Assumes nothing.
-use mathlib.Core.Path.{◌≡◌}
-use Prim.Native.Nat.{◌+◌, ◌-◌, ◌≤◌}
 use native.Mathlib.Omega.{arith}
 use Rattle.std.proofs.Common.{rules}
-use lib.ListN.{length, drop}
 use Rattle.fields.proofs.Listing.{item_some, item_le, next_field, last_field}
-use Rattle.fields.specs.Fields.{item_size, fields_of}
-use Rattle.pieces.proofs.Fields.{Adjusting, adjusting_none, adjusting_more, adjusting_fails, adjusting_end}
+use Rattle.pieces.proofs.Fields.{adjusting_none, adjusting_more, adjusting_fails, adjusting_end}
 use Rattle.pieces.proofs.adjust_fields.Goals as goal
 
 pub loop-i-init : goal.loop-i-init

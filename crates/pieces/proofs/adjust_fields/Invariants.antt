@@ -3,12 +3,9 @@
 -- Assumes nothing.
 use mathlib.Core.Path.{◌≡◌}
 use Prim.Native.Nat.{◌+◌, ◌-◌, ◌≤◌}
-use native.Mathlib.Omega.{arith}
-use Rattle.std.proofs.Common.{rules}
 use lib.ListN.{length, drop}
-use Rattle.fields.proofs.Listing.{item_some, item_le, next_field, last_field}
 use Rattle.fields.specs.Fields.{item_size, fields_of}
-use Rattle.pieces.proofs.Fields.{Adjusting, adjusting_none, adjusting_more, adjusting_fails, adjusting_end}
+use Rattle.pieces.proofs.Fields.{Adjusting}
 use Rattle.pieces.proofs.adjust_fields.Given as goal
 
 abbrev pub invariant-loop-i : goal.invariant-loop-i

@@ -1,6 +1,5 @@
 -- `pieces::amount` meets its contract: each arm is the amount of its fixup.
 -- Assumes nothing.
-use Rattle.std.proofs.Common.{rules}
 use Rattle.pieces.specs.Pieces.{amount_of}
 use Rattle.pieces.proofs.amount.Goals as goal
 

@@ -1,7 +1,6 @@
 -- `pieces::apply` meets its contract: each kind of record comes to what its part comes to, and lies in the file.
 -- Assumes nothing.
 use native.Mathlib.Omega.{arith}
-use Rattle.std.proofs.Common.{rules}
 use Rattle.pieces.proofs.Applying.{applied_code, applied_fixups, applied_end, applied_faulty, lent_fits}
 use Rattle.pieces.proofs.apply.Goals as goal
 

@@ -1,6 +1,5 @@
 -- `pieces::end` meets its contract: the two tests are those of the definition, in its order.
 -- Assumes nothing.
-use Rattle.std.proofs.Common.{rules}
 use borrow.Author.Tests.{le-leb, lt-leb}
 use Rattle.answer.specs.Checks.{need}
 use Rattle.pieces.specs.AtBases.{ending}

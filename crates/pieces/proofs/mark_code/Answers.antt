@@ -3,8 +3,6 @@
 -- Assumes nothing.
 use mathlib.Core.Path.{sym, ◌∙◌}
 use native.Mathlib.Omega.{arith}
-use Rattle.std.proofs.Common.{rules}
-use borrow.Author.Tests.{not-true, not-false}
 use Rattle.events.proofs.Events.{length_run}
 use Rattle.pieces.proofs.Checks.{placing_high, placing_taken, placing_marked}
 use Rattle.pieces.proofs.mark_code.Goals as goal

@@ -3,7 +3,6 @@
 -- Assumes nothing.
 use mathlib.Core.Path.{sym, ◌∙◌}
 use native.Mathlib.Omega.{arith}
-use Rattle.std.proofs.Common.{rules}
 use Rattle.pieces.proofs.Checks.{adjusting_outside, adjusting_twice, adjusting_marked}
 use Rattle.pieces.proofs.mark_field.Goals as goal
 

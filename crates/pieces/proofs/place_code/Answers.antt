@@ -1,7 +1,6 @@
 -- `pieces::place_code` meets its contract: the code is marked, and written where its marks were not refused.
 -- Assumes nothing.
 use native.Mathlib.Omega.{arith}
-use Rattle.std.proofs.Common.{rules}
 use Rattle.pieces.proofs.Checks.{placing_refused, placing_room, placing_done}
 use Rattle.pieces.proofs.place_code.Goals as goal
 

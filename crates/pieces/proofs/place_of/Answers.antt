@@ -1,7 +1,6 @@
 -- `pieces::place_of` meets its contract: each arm is the sum for its kind.
 -- Assumes nothing.
 use native.Mathlib.Omega.{arith}
-use Rattle.std.proofs.Common.{rules}
 use Rattle.pieces.proofs.place_of.Goals as goal
 
 pub returns-in-Main : goal.returns-in-Main

@@ -1,6 +1,5 @@
 -- `pieces::start` meets its contract: the sum fits in an address, as the caller has seen.
 -- Assumes nothing.
-use Rattle.std.proofs.Common.{rules}
 use Rattle.pieces.proofs.start.Goals as goal
 
 pub returns-in-Fixed : goal.returns-in-Fixed

@@ -1,6 +1,5 @@
 -- `pieces::write_field` meets its contract: the part of memory that is lent comes back with the field adjusted.
 -- Assumes nothing.
-use Rattle.std.proofs.Common.{rules}
 use Rattle.pieces.proofs.Checks.{added}
 use Rattle.pieces.proofs.write_field.Goals as goal
 

@@ -2,7 +2,6 @@
 -- Assumes nothing.
 use mathlib.Core.Path.{sym, ap, ◌∙◌}
 use Prim.Native.Nat.{ℕ, ◌+◌}
-use Rattle.std.proofs.Common.{rules}
 use Rattle.records.specs.Types.{fixup_type}
 use Rattle.records.specs.declared.Kind.{Kind}
 use Rattle.records.proofs.fixup_type.Goals as goal

@@ -1,6 +1,5 @@
 -- `records::length_allowed` meets its contract: each side of a test is the side of the definition's test.
 -- Assumes nothing.
-use Rattle.std.proofs.Common.{rules}
 use borrow.Author.Tests.{eq-eqb, ne_eqb, le-leb, lt-leb}
 use Rattle.records.proofs.length_allowed.Goals as goal
 

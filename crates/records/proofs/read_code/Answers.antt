@@ -1,6 +1,5 @@
 -- `records::read_code` meets its contract: each return is the branch of the definition that the tests before it choose.
 -- Assumes nothing.
-use Rattle.std.proofs.Common.{rules}
 use borrow.Author.Tests.{le-leb, lt-leb}
 use Rattle.answer.specs.Checks.{need}
 use Rattle.records.specs.Records.{read_code}

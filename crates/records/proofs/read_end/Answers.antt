@@ -10,7 +10,6 @@ use Rattle.records.specs.Records.{entry_of, read_end}
 use Rattle.records.specs.declared.Entry.{Entry}
 use Rattle.records.specs.declared.Record.TheVariants.{End}
 use Rattle.words.specs.Numbers.{value}
-use Rattle.std.proofs.Common.{rules}
 use Rattle.records.proofs.read_end.Goals as goal
 
 -- an end record whose flag is known

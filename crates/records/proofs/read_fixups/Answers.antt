@@ -1,7 +1,6 @@
 -- `records::read_fixups` meets its contract: the length byte and the kind decide, or the items.
 -- Assumes nothing.
-use Rattle.std.proofs.Common.{rules}
-use borrow.Author.Tests.{le-leb, lt-leb, not-true, not-false}
+use borrow.Author.Tests.{le-leb, lt-leb}
 use Rattle.answer.specs.Checks.{need}
 use Rattle.records.specs.Records.{read_fixups}
 use Rattle.records.proofs.read_fixups.Goals as goal

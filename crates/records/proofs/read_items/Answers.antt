@@ -1,7 +1,6 @@
 -- `records::read_items` meets its contract: each return is the branch of the definition that the tests before it choose.
 -- Assumes nothing.
-use Rattle.std.proofs.Common.{rules}
-use borrow.Author.Tests.{le-leb, lt-leb, not-true, not-false}
+use borrow.Author.Tests.{le-leb, lt-leb}
 use Rattle.answer.specs.Checks.{need}
 use Rattle.records.specs.Records.{read_items}
 use Rattle.records.proofs.read_items.Goals as goal

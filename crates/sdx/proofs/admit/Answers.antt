@@ -1,8 +1,6 @@
 -- `sdx::admit` meets its contract: its tests are those of the definition, in their order.
 -- Assumes nothing.
 use mathlib.Core.Path.{sym, ◌∙◌}
-use Rattle.std.proofs.Common.{rules}
-use borrow.Author.Tests.{not-true, not-false}
 use Rattle.sdx.proofs.Calling.{admit_range, admit_long, admit_opening}
 use Rattle.sdx.proofs.admit.Goals as goal
 

@@ -4,8 +4,6 @@
 use mathlib.Core.Bool.{true}
 use mathlib.Core.Path.{◌≡◌, sym, ◌∙◌}
 use native.Mathlib.Omega.{arith}
-use Rattle.std.proofs.Common.{rules}
-use borrow.Author.Tests.{not-true, not-false}
 use Rattle.events.proofs.Events.{cleared}
 use Rattle.passes.specs.Buffers.{buffers}
 use Rattle.passes.specs.Walk.{inputs}

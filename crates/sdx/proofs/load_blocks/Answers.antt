@@ -3,7 +3,6 @@
 -- Assumes nothing.
 use mathlib.Core.Path.{◌∙◌}
 use native.Mathlib.Omega.{arith}
-use Rattle.std.proofs.Common.{rules}
 use Rattle.sdx.proofs.Calling.{blocks_refused, blocks_accepted}
 use Rattle.sdx.proofs.load_blocks.Goals as goal
 
@@ -27,8 +26,7 @@ walk-again-requires c =
 pub finish-requires : goal.finish-requires
 finish-requires c =
     let k = c.check-checked in
-    let n = k.ensures.bounded.counts _ c.in-Finished.is in
-    (
+    let n = k.ensures.bounded.counts _ c.in-Finished.is in (
       n.0,
       n.1,
       n.2,

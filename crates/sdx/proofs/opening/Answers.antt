@@ -1,6 +1,5 @@
 -- `sdx::opening` meets its contract: its tests are those of the definition.
 -- Assumes nothing.
-use Rattle.std.proofs.Common.{rules}
 use Rattle.sdx.proofs.Calling.{opening_cut, opening_wrong, opening_right}
 use Rattle.sdx.proofs.opening.Goals as goal
 

@@ -1,7 +1,6 @@
 -- `transfers::carry` meets its contract: what is gathered in the scratch and taken from there by the map is the move.
 -- Assumes nothing.
 use mathlib.Core.Path.{◌∙◌}
-use Rattle.std.proofs.Common.{rules}
 use Rattle.events.proofs.Events.{cleared}
 use Rattle.moves.specs.Sources.{source_of}
 use Rattle.transfers.proofs.Overlay.{length_map, overlaid_moved}

@@ -1,12 +1,9 @@
 -- `transfers::commit` meets its contract: up to `x` the bytes are chosen by the map, and from there on they are as they were (`Overlaying`).
 -- Assumes nothing.
-use mathlib.Core.Logic.{⊎_elim}
-use mathlib.Core.Path.{◌≡◌, refl}
+use mathlib.Core.Path.{◌≡◌}
 use Prim.Native.Nat.{◌≤◌, ◌-◌}
-use native.Mathlib.Omega.{arith}
-use Rattle.std.proofs.Common.{rules}
-use lib.ListN.{length, length-set}
-use Rattle.transfers.proofs.Overlay.{Overlaying, overlaying_none, overlaying_marked, overlaying_clear, overlaying_end}
+use lib.ListN.{length}
+use Rattle.transfers.proofs.Overlay.{Overlaying}
 use Rattle.transfers.proofs.commit.Given as goal
 
 abbrev pub invariant-loop-x : goal.invariant-loop-x

@@ -1,6 +1,5 @@
 -- `transfers::gather` meets its contract: what either format gathers is what the ruling on it says.
 -- Assumes nothing.
-use Rattle.std.proofs.Common.{rules}
 use Rattle.transfers.proofs.gather.Goals as goal
 
 pub gather_file-requires : goal.gather_file-requires

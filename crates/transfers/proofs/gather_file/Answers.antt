@@ -2,14 +2,11 @@
 -- far (`Gathering`).
 -- Assumes nothing.
 use borrow.Enum.Refused.{opened}
-use mathlib.Core.Path.{◌≡◌, ap, ◌∙◌}
-use Prim.Native.Nat.{◌-◌}
+use mathlib.Core.Path.{ap, ◌∙◌}
 use native.Mathlib.Omega.{arith}
-use Rattle.std.proofs.Common.{rules}
-use lib.ListN.{length}
 use Rattle.acx.proofs.Cursors.{tracks_inside, tracks_counts, tracks_further, tracks_ends_by}
 use Rattle.acx.specs.Walk.{opening_size}
-use Rattle.transfers.proofs.Gathering.{Walkable, walkable, Gathering, gathering_first, gathering_end, gathering_onward, gathering_on, gathering_sound, gathering_sizes, found_is, next_old, next_new}
+use Rattle.transfers.proofs.Gathering.{walkable, gathering_first, gathering_end, gathering_onward, gathering_on, gathering_sound, gathering_sizes, found_is, next_old, next_new}
 use Rattle.transfers.proofs.gather_file.Goals as goal
 
 pub loop-entry-init : goal.loop-entry-init

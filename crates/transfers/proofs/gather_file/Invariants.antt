@@ -1,14 +1,10 @@
 -- `transfers::gather_file` meets its contract: the definition's walks at both pairs of bases have come to the cursors, and the scratch holds the pieces so
 -- far (`Gathering`).
 -- Assumes nothing.
-use mathlib.Core.Path.{◌≡◌, ap, ◌∙◌}
+use mathlib.Core.Path.{◌≡◌}
 use Prim.Native.Nat.{◌-◌}
-use native.Mathlib.Omega.{arith}
-use Rattle.std.proofs.Common.{rules}
 use lib.ListN.{length}
-use Rattle.acx.proofs.Cursors.{tracks_inside, tracks_counts, tracks_further, tracks_ends_by}
-use Rattle.acx.specs.Walk.{opening_size}
-use Rattle.transfers.proofs.Gathering.{Walkable, walkable, Gathering, gathering_first, gathering_end, gathering_onward, gathering_on, gathering_sound, gathering_sizes, found_is, next_old, next_new}
+use Rattle.transfers.proofs.Gathering.{Walkable, Gathering}
 use Rattle.transfers.proofs.gather_file.Given as goal
 
 abbrev pub invariant-loop-entry : goal.invariant-loop-entry

@@ -1,11 +1,9 @@
 -- `transfers::gather_index` meets its contract: the entries have led to the offset, and the scratch holds the pieces so far (`Gathering`).
 -- Assumes nothing.
-use mathlib.Core.Path.{◌≡◌, ◌∙◌}
+use mathlib.Core.Path.{◌≡◌}
 use Prim.Native.Nat.{◌-◌}
-use native.Mathlib.Omega.{arith}
-use Rattle.std.proofs.Common.{rules}
 use lib.ListN.{length}
-use Rattle.transfers.proofs.Entries.{Gathering, gathering_first, gathering_end, gathering_fault, gathering_code, gathering_lent, gathering_on}
+use Rattle.transfers.proofs.Entries.{Gathering}
 use Rattle.transfers.proofs.gather_index.Given as goal
 
 abbrev pub invariant-loop-kind : goal.invariant-loop-kind

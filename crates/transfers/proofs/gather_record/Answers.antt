@@ -1,7 +1,6 @@
 -- `transfers::gather_record` meets its contract: the part of the scratch that is lent comes back with the code in it, or with its fields changed.
 -- Assumes nothing.
 use native.Mathlib.Omega.{arith}
-use Rattle.std.proofs.Common.{rules}
 use Rattle.transfers.proofs.Gathering.{gathers_lent, gathers_code, gathers_fields, gathers_end, gathers_fault, gathers_sound}
 use Rattle.transfers.proofs.gather_record.Goals as goal
 

@@ -1,13 +1,8 @@
 -- `transfers::shift_fields` meets its contract: the definition's list of fields has come to the field at hand (`Shifting`).
 -- Assumes nothing.
-use mathlib.Core.Path.{◌≡◌}
-use Prim.Native.Nat.{◌≤◌, ◌-◌}
 use native.Mathlib.Omega.{arith}
-use Rattle.std.proofs.Common.{rules}
-use lib.ListN.{length, drop}
 use Rattle.fields.proofs.Listing.{item_some, item_le, next_field, last_field}
-use Rattle.fields.specs.Fields.{item_size, fields_of}
-use Rattle.transfers.proofs.Shifting.{Shifting, shifting_none, shifting_here, shifting_more, shifting_end}
+use Rattle.transfers.proofs.Shifting.{shifting_none, shifting_here, shifting_more, shifting_end}
 use Rattle.transfers.proofs.shift_fields.Goals as goal
 
 pub loop-i-init : goal.loop-i-init

@@ -2,12 +2,9 @@
 -- Assumes nothing.
 use mathlib.Core.Path.{◌≡◌}
 use Prim.Native.Nat.{◌≤◌, ◌-◌}
-use native.Mathlib.Omega.{arith}
-use Rattle.std.proofs.Common.{rules}
 use lib.ListN.{length, drop}
-use Rattle.fields.proofs.Listing.{item_some, item_le, next_field, last_field}
 use Rattle.fields.specs.Fields.{item_size, fields_of}
-use Rattle.transfers.proofs.Shifting.{Shifting, shifting_none, shifting_here, shifting_more, shifting_end}
+use Rattle.transfers.proofs.Shifting.{Shifting}
 use Rattle.transfers.proofs.shift_fields.Given as goal
 
 abbrev pub invariant-loop-i : goal.invariant-loop-i

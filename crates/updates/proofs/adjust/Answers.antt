@@ -2,8 +2,6 @@
 -- carried out.
 -- Assumes nothing.
 use mathlib.Core.Path.{sym, ◌∙◌}
-use Rattle.std.proofs.Common.{rules}
-use borrow.Author.Tests.{not-true, not-false}
 use Rattle.updates.proofs.Adjusting.{adjusting_unloaded, adjusting_twice, adjusting_done}
 use Rattle.updates.proofs.adjust.Goals as goal
 

@@ -1,6 +1,5 @@
 -- `updates::advance` meets its contract: each arm is the cursor after its item.
 -- Assumes nothing.
-use Rattle.std.proofs.Common.{rules}
 use Rattle.updates.proofs.advance.Goals as goal
 
 pub returns-in-Faulty : goal.returns-in-Faulty

@@ -1,6 +1,5 @@
 -- `updates::apply` meets its contract: an item that adjusts comes to what its word comes to, and every other does nothing.
 -- Assumes nothing.
-use Rattle.std.proofs.Common.{rules}
 use Rattle.updates.proofs.Adjusting.{applied_wrong, applied_end, applied_move, applied_adjust}
 use Rattle.updates.proofs.apply.Goals as goal
 

@@ -1,12 +1,9 @@
 -- `updates::body` meets its contract: the definition's walk has come to the cursor, with the memory and the map of its events (`Going`).
 -- Assumes nothing.
 use borrow.Enum.Refused.{opened}
-use mathlib.Core.Path.{◌≡◌, ◌∙◌}
-use Prim.Native.Nat.{◌-◌}
+use mathlib.Core.Path.{◌∙◌}
 use native.Mathlib.Omega.{arith}
-use Rattle.std.proofs.Common.{rules}
-use lib.ListN.{length}
-use Rattle.updates.proofs.Going.{Going, item_fits, going_first, going_fails, going_ends, going_onward, going_further, going_on}
+use Rattle.updates.proofs.Going.{item_fits, going_first, going_fails, going_ends, going_onward, going_further, going_on}
 use Rattle.updates.proofs.body.Goals as goal
 
 pub loop-fault-init : goal.loop-fault-init

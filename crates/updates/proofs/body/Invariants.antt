@@ -1,11 +1,9 @@
 -- `updates::body` meets its contract: the definition's walk has come to the cursor, with the memory and the map of its events (`Going`).
 -- Assumes nothing.
-use mathlib.Core.Path.{◌≡◌, ◌∙◌}
+use mathlib.Core.Path.{◌≡◌}
 use Prim.Native.Nat.{◌-◌}
-use native.Mathlib.Omega.{arith}
-use Rattle.std.proofs.Common.{rules}
 use lib.ListN.{length}
-use Rattle.updates.proofs.Going.{Going, item_fits, going_first, going_fails, going_ends, going_onward, going_further, going_on}
+use Rattle.updates.proofs.Going.{Going}
 use Rattle.updates.proofs.body.Given as goal
 
 abbrev pub invariant-loop-fault : goal.invariant-loop-fault

@@ -1,6 +1,5 @@
 -- `words::add_to_word` meets its contract: the word read, the supplied addition and the word stored are one replacement.
 -- Assumes nothing.
-use Rattle.std.proofs.Common.{rules}
 use Rattle.words.proofs.Changes.{read_and_stored}
 use Rattle.words.specs.Numbers.{on}
 use Rattle.words.proofs.add_to_word.Goals as goal

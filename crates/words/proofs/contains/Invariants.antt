@@ -1,8 +1,6 @@
 -- `words::contains` meets its contract: none of the bytes up to `i` is the one, so the answer is that for the rest.
 -- Assumes nothing.
-use Rattle.std.proofs.Common.{◌≡◌, ◌-◌, ◌≤◌, length, drop, sym, refl, ◌∙◌, arith, rules}
-use lib.Seq.{drop-length}
-use Rattle.words.proofs.Turns.{contains_more, contains_found}
+use Rattle.std.proofs.Common.{◌≡◌, ◌-◌, ◌≤◌, length, drop}
 use Rattle.words.specs.Runs.{contains}
 use Rattle.words.proofs.contains.Given as goal
 

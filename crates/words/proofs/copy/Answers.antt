@@ -1,6 +1,6 @@
 -- `words::copy` meets its contract: up to `i` the run holds what `from` holds, and from there on what it held.
 -- Assumes nothing.
-use Rattle.std.proofs.Common.{◌≡◌, ◌-◌, ◌≤◌, ◌++◌, length, take, drop, refl, arith, length-set, rules}
+use Rattle.std.proofs.Common.{◌≡◌, length, refl, arith, length-set, rules}
 use Rattle.words.proofs.Turns.{copy_more, copy_all}
 use Rattle.words.proofs.copy.Goals as goal
 

@@ -1,7 +1,6 @@
 -- `words::decode_words` meets its contract: up to `i` the list holds the words of the bytes, and from there on what it held.
 -- Assumes nothing.
-use Rattle.std.proofs.Common.{◌≡◌, ◌-◌, ◌/◌, ◌≤◌, length, refl, arith, length-set, rules}
-use Rattle.words.proofs.Turns.{decode_more}
+use Rattle.std.proofs.Common.{◌≡◌, ◌-◌, ◌≤◌, length}
 use Rattle.words.specs.Numbers.{decoded}
 use Rattle.words.specs.Runs.{put}
 use Rattle.words.proofs.decode_words.Given as goal

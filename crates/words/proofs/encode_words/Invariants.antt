@@ -1,10 +1,8 @@
 -- `words::encode_words` meets its contract: up to word `i` the buffer holds the words, and from there on what it held; and each word so far has
 -- room in its bytes.
 -- Assumes nothing.
-use Rattle.std.proofs.Common.{◌≡◌, ℕ, ◌-◌, ◌*◌, ◌^◌, ◌<◌, ◌≤◌, List, ◌++◌, length, get_or, take, drop, refl, ap, ◌∙◌, arith, rules}
-use Rattle.words.proofs.Numbers.{reads_back}
-use Rattle.words.proofs.Turns.{below_more, encode_all, encode_more}
-use Rattle.words.specs.Numbers.{store, encoded}
+use Rattle.std.proofs.Common.{◌≡◌, ℕ, ◌-◌, ◌*◌, ◌^◌, ◌<◌, ◌≤◌, ◌++◌, length, get_or, take, drop}
+use Rattle.words.specs.Numbers.{encoded}
 use Rattle.words.proofs.encode_words.Given as goal
 
 abbrev pub invariant-loop-i : goal.invariant-loop-i

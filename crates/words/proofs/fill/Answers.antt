@@ -1,6 +1,6 @@
 -- `words::fill` meets its contract: up to `i` the run holds the byte, and from there on what it held.
 -- Assumes nothing.
-use Rattle.std.proofs.Common.{◌≡◌, ◌-◌, ◌≤◌, ◌++◌, length, drop, replicate, refl, append-nil, arith, length-set, rules}
+use Rattle.std.proofs.Common.{◌≡◌, length, refl, append-nil, arith, length-set, rules}
 use borrow.Author.Fill.{fill_more}
 use lib.Seq.{drop-length}
 use Rattle.words.proofs.fill.Goals as goal

@@ -1,8 +1,6 @@
 -- `words::fill` meets its contract: up to `i` the run holds the byte, and from there on what it held.
 -- Assumes nothing.
-use Rattle.std.proofs.Common.{◌≡◌, ◌-◌, ◌≤◌, ◌++◌, length, drop, replicate, refl, append-nil, arith, length-set, rules}
-use borrow.Author.Fill.{fill_more}
-use lib.Seq.{drop-length}
+use Rattle.std.proofs.Common.{◌≡◌, ◌-◌, ◌≤◌, ◌++◌, length, drop, replicate}
 use Rattle.words.proofs.fill.Given as goal
 
 abbrev pub invariant-loop-i : goal.invariant-loop-i

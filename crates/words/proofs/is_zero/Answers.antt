@@ -1,6 +1,6 @@
 -- `words::is_zero` meets its contract: all zero are the bytes up to `i`, so the answer is that for the rest.
 -- Assumes nothing.
-use Rattle.std.proofs.Common.{◌≡◌, ◌-◌, ◌≤◌, length, drop, sym, refl, ◌∙◌, arith, rules}
+use Rattle.std.proofs.Common.{◌≡◌, length, sym, refl, ◌∙◌, arith, rules}
 use lib.Seq.{drop-length}
 use Rattle.words.proofs.Turns.{zero_more, zero_not}
 use Rattle.words.specs.Runs.{all_zero}

@@ -1,6 +1,6 @@
 -- `words::put_big_word` meets its contract: its stores are those of the two digits in turn, high byte first.
 -- Assumes nothing.
-use Rattle.std.proofs.Common.{add-one, arith, length-set, rules}
+use Rattle.std.proofs.Common.{add-one, arith, length-set}
 use Rattle.words.proofs.Big.{big_digits_word}
 use Rattle.words.specs.Numbers.{big_store}
 use Rattle.words.specs.Runs.{put}

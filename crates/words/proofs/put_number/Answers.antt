@@ -1,6 +1,6 @@
 -- `words::put_number` meets its contract: its stores are those of the four digits in turn.
 -- Assumes nothing.
-use Rattle.std.proofs.Common.{add-one, arith, length-set, rules}
+use Rattle.std.proofs.Common.{add-one, arith, length-set}
 use native.Mathlib.Numerals.{add-two, add-three}
 use Rattle.words.specs.Numbers.{store, digits}
 use Rattle.words.specs.Runs.{put}

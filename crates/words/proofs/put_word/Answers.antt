@@ -1,6 +1,6 @@
 -- `words::put_word` meets its contract: its stores are those of the two digits in turn.
 -- Assumes nothing.
-use Rattle.std.proofs.Common.{add-one, arith, length-set, rules}
+use Rattle.std.proofs.Common.{add-one, arith, length-set}
 use Rattle.words.specs.Numbers.{store, digits}
 use Rattle.words.specs.Runs.{put}
 use Rattle.words.proofs.put_word.Goals as goal

@@ -1,6 +1,6 @@
 -- `words::take_off` meets its contract: a width of 1 or 2 is that of a byte or of a word.
 -- Assumes nothing.
-use Rattle.std.proofs.Common.{◌≡◌, arith, rules}
+use Rattle.std.proofs.Common.{◌≡◌, arith}
 use Rattle.words.proofs.take_off.Goals as goal
 
 pub returns-then-width-eq1 : goal.returns-then-width-eq1
