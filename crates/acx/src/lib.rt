@@ -17,14 +17,14 @@ use pieces::Bases;
 use records::{Entry, Last, Record};
 
 // Disk form has an opening, device form none.
-#[derive(Drop)]
+#[derive(Clone, Copy)]
 pub enum Form {
     Disk,
     Device,
 }
 
 // Where a walk stands: the next record's offset; the last code record, its place and its size; what was placed and adjusted so far.
-#[derive(Drop)]
+#[derive(Clone, Copy)]
 pub struct Cursor {
     pub at: usize,
     pub last: Last,

@@ -5,7 +5,7 @@ ghost use Rattle.answer.specs.declared.Outcome.TheVariants.{Refused};
 ghost use Rattle.answer.specs.Report.{number_of, numbers_of, number_returned, answer_length, Written};
 
 // What is wrong: a variant for each row of the table "Numbers a bench can show", in its order, and for each number that document 02 adds to it.
-#[derive(Drop)]
+#[derive(Clone, Copy)]
 pub enum Fault {
     WrongBuffer,
     SettingOutOfRange,
@@ -32,14 +32,14 @@ pub enum Fault {
 }
 
 // Where a program starts.
-#[derive(Drop)]
+#[derive(Clone, Copy)]
 pub enum Start {
     Absent,
     At(u16),
 }
 
 // How a call ends. The side of a refusal is 1 where the mover's new bases are at fault, else 0.
-#[derive(Drop)]
+#[derive(Clone, Copy)]
 pub enum Outcome {
     Accepted {
         start: Start,

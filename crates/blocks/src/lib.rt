@@ -18,7 +18,7 @@ pub const FIRST_MARKER: u16 = 0xFFFA;
 
 // Where a walk through the blocks stands: the next block's offset, low, the relocatable blocks and the new names so far, and the blocks by
 // their numbers.
-#[derive(Drop)]
+#[derive(Clone, Copy)]
 pub struct Cursor {
     pub at: usize,
     pub low: u16,
@@ -28,7 +28,7 @@ pub struct Cursor {
 }
 
 // What the words of an update body grow by: the address of a block less its offset, or that of a name, lent or the file's own.
-#[derive(Drop)]
+#[derive(Clone, Copy)]
 pub enum Source {
     Number(usize),
     LentName(usize),
@@ -37,7 +37,7 @@ pub enum Source {
 
 // What a block says: data for an address; data, or an empty room, for low; a body; a new name with its address; or a fault, with the offset of the
 // first byte at fault.
-#[derive(Drop)]
+#[derive(Clone, Copy)]
 pub enum Block {
     Plain {
         address: u16,

@@ -20,7 +20,7 @@ use pieces::Bases;
 use records::{Entry, Kind, Last, Record};
 
 // How far the room is filled: where the last entry begins, and where the next one would.
-#[derive(Drop)]
+#[derive(Clone, Copy)]
 pub struct Front {
     pub entry: usize,
     pub used: usize,

@@ -12,7 +12,7 @@ pub const VERSION: u8 = 1;
 
 // An entry: a code record of `size` code bytes, whose fixups are the `length` bytes of the index from `from` on; the end record, with the offset after
 // it; or a fault.
-#[derive(Drop)]
+#[derive(Clone, Copy)]
 pub enum IndexEntry {
     Code {
         kind: Kind,

@@ -5,7 +5,7 @@ ghost use Rattle.fields.specs.Fields.{item_size, width_of, fields_of};
 
 // What a fixup puts on its field: the main base on a byte, the zero-page base on a byte, the main base on a word, and on a high byte the
 // high byte of LSB + main base.
-#[derive(Drop)]
+#[derive(Clone, Copy)]
 pub enum Fixup {
     LowByte,
     ZeroPageByte,
@@ -14,7 +14,7 @@ pub enum Fixup {
 }
 
 // An address field: what is put on it, its index among the code bytes, and the low byte beside a high one (else zero).
-#[derive(Drop)]
+#[derive(Clone, Copy)]
 pub struct Field {
     pub fixup: Fixup,
     pub index: usize,

@@ -11,7 +11,7 @@ pub const LAST_NUMBER: usize = 7;
 const SKIP: usize = 250;
 
 // The slot of a relocatable block: whether there is one of this number, its address, its offset and its size.
-#[derive(Drop)]
+#[derive(Clone, Copy)]
 pub struct Slot {
     pub taken: bool,
     pub address: u16,
@@ -20,14 +20,14 @@ pub struct Slot {
 }
 
 // The counter of a body.
-#[derive(Drop)]
+#[derive(Clone, Copy)]
 pub enum Counter {
     Unset,
     Set(u16),
 }
 
 // What an item says: a fault and its offset; the body's end, a counter that only moves, or one where a word is adjusted, and where the next item begins.
-#[derive(Drop)]
+#[derive(Clone, Copy)]
 pub enum Item {
     Faulty(Fault, usize),
     End(usize),

@@ -16,7 +16,7 @@ use records::{Entry, Kind, Record};
 const ZERO_PAGE: usize = 256;
 
 // What the addresses of relocatable records count from.
-#[derive(Drop)]
+#[derive(Clone, Copy)]
 pub struct Bases {
     pub main: u16,
     pub zero: u16,

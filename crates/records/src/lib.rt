@@ -8,7 +8,7 @@ use answer::Fault;
 use fields::Fixup;
 
 // What a code record's address counts from: the main base, the zero-page base, or nothing.
-#[derive(Drop)]
+#[derive(Clone, Copy)]
 pub enum Kind {
     Main,
     ZeroPage,
@@ -16,14 +16,14 @@ pub enum Kind {
 }
 
 // The last code record before a record: there is none, or its kind.
-#[derive(Drop)]
+#[derive(Clone, Copy)]
 pub enum Last {
     Nothing,
     Of(Kind),
 }
 
 // Where an end record lets the program start.
-#[derive(Drop)]
+#[derive(Clone, Copy)]
 pub enum Entry {
     Nowhere,
     Fixed(u16),
@@ -44,7 +44,7 @@ pub enum RecordType {
 
 // A record: its code bytes or its items are the `size` bytes of the file from `from` on, and the next record begins after them; or a fault, with the
 // offset of the first byte at fault.
-#[derive(Drop)]
+#[derive(Clone, Copy)]
 pub enum Record {
     Code {
         kind: Kind,
