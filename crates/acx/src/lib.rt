@@ -1,6 +1,8 @@
 // The ACX loader: the records of a file checked and carried out at a pair of bases, over a lent memory and map.
 // A file is walked twice. The first walk only checks it, and marks the map as it goes; the second also writes memory. So a refusal has
 // touched no byte of memory.
+#![tactic(auto)]
+
 ghost use Rattle.std.specs.Prelude.{true, ◌≡◌, ◌≤◌, ◌<◌, length};
 ghost use Rattle.answer.specs.Report.{address as address_of};
 ghost use Rattle.answer.specs.declared.Outcome.TheVariants.{Accepted};

@@ -1,5 +1,7 @@
 // What a call reports: accepted with its counts, or refused with one fault; and the nine numbers in which the answer says so.
 // It knows no file format. The numbers of the faults stand in one place, specs/Report.antt.
+#![tactic(auto)]
+
 ghost use Rattle.std.specs.Prelude.{◌≡◌, ◌<◌, length};
 ghost use Rattle.answer.specs.declared.Outcome.TheVariants.{Refused};
 ghost use Rattle.answer.specs.Report.{number_of, numbers_of, number_returned, answer_length, Written};

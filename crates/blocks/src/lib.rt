@@ -1,4 +1,6 @@
 // The blocks of an SDX file, read: what the block at a cursor says, or its first fault.
+#![tactic(auto)]
+
 ghost use Rattle.std.specs.Prelude.{◌≡◌, ◌+◌, ◌<◌, ◌≤◌, length};
 ghost use Rattle.blocks.specs.Blocks.{read_plain, data_size, read_room, read_relocatable, read_update, read_names, read_address, read_new_name, read as read_of, amount_of};
 ghost use Rattle.blocks.specs.Bounds.{Packed, Listed, InMemory};

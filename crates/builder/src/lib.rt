@@ -1,5 +1,7 @@
 // The builder of fixup indexes. A file is checked as a load checks it, with its map; then it is walked twice more: once to see how long its index is,
 // and, where that fits, once to write it. Nothing is written into the room before that is known.
+#![tactic(auto)]
+
 ghost use Rattle.std.specs.Prelude.{true, [], ◌∷◌, ◌≡◌, ◌+◌, ◌*◌, ◌/◌, ◌<◌, ◌≤◌, length};
 ghost use Rattle.words.specs.Runs.{put};
 ghost use Rattle.answer.specs.Report.{IsAccepted};

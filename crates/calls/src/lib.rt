@@ -1,5 +1,7 @@
 // The calls that C makes, on byte buffers: each is a call of a loader, of the mover or of the builder that also writes the answer.
 // They take whatever comes. The answer's length is looked at first: where it is wrong, nothing is done and nothing written.
+#![tactic(auto)]
+
 ghost use Rattle.std.specs.Prelude.{◌≡◌, length};
 ghost use Rattle.pieces.specs.Pieces.{bases_at};
 ghost use Rattle.moves.specs.Call.{call_of};

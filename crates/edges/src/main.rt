@@ -1,5 +1,7 @@
 // Runs the loaders at the edges that document 01 marks "Run, not proved", on both sides of each, and prints their answers. The file `stdout`
 // holds what was printed, once it was read beside the document.
+#![tactic(auto)]
+
 ghost use Rattle.std.specs.Prelude.{◌≡◌, IfOk};
 ghost use Rattle.answer.specs.Report.{numbers_of};
 ghost use Rattle.edges.specs.Edges.{sdx_numbers, acx_numbers};

@@ -1,4 +1,6 @@
 // One block of an SDX file carried out: data placed, room reserved, words adjusted, a new name stored; and the cursor after it.
+#![tactic(auto)]
+
 ghost use Rattle.std.specs.Prelude.{◌≡◌, ◌+◌, ◌<◌, ◌≤◌, length};
 ghost use Rattle.blocks.specs.Blocks.{data_size};
 ghost use Rattle.blocks.specs.Bounds.{InMemory, Fits};

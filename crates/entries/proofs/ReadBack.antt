@@ -162,10 +162,10 @@ module _ (index : List ℕ) (at : ℕ) (o : Outline) (rest : List ℕ) (is : dro
   its_type = refl
 
   -- read as code
-  read_code : (n : ℕ) → n ≡ 4 + 3 * length o.fields → Encodable o
+  read_code_lem : (n : ℕ) → n ≡ 4 + 3 * length o.fields → Encodable o
       → read_code index at n o.kind ≡ Code o.kind o.address o.size (at + 6) (3 * length o.fields)
   unfolding read_code need
-  read_code n e y =
+  read_code_lem n e y =
       let k : ℕ = 3 * length o.fields in
       let pos : 0 < 3 = omega arith in
       let third : n % 3 ≡ 1 = omega (arith, div-add-mod n 3, mod-lt n pos) in
@@ -177,7 +177,7 @@ module _ (index : List ℕ) (at : ℕ) (o : Outline) (rest : List ℕ) (is : dro
   code_back y short =
       entry_read index at (code_bytes o) rest is (omega (arith, length_code_bytes o)) short
       ∙ ap (read_as index at (length (code_bytes o))) (its_type ∙ code_type_back o.kind)
-      ∙ read_code (length (code_bytes o)) (length_code_bytes o) y
+      ∙ read_code_lem (length (code_bytes o)) (length_code_bytes o) y
 
 -- ---- the end entry
 

@@ -1,4 +1,6 @@
 // Entries of a fixup index, read with no base in mind: what stands at an offset of the index, and which field a fixup of an entry lists.
+#![tactic(auto)]
+
 ghost use Rattle.std.specs.Prelude.{◌≡◌, ◌+◌, ◌≤◌, length, get_or};
 ghost use Rattle.records.specs.Records.{type_of};
 ghost use Rattle.entries.specs.Entries.{read_code, read_end, read as read_of, lsb_for, listed, InBytes};
@@ -29,7 +31,7 @@ pub enum IndexEntry {
 }
 
 // What a fixup of an entry lists: a field, or nothing where its kind does not suit the code.
-#[derive(Drop)]
+#[derive(Clone, Copy)]
 pub enum Listed {
     Suited(Field),
     Unsuited,

@@ -1,5 +1,7 @@
 // The events of a load carried out, in the map and, where `write` is true, in memory: bytes placed, addresses reserved, words adjusted.
 // It knows no file format.
+#![tactic(auto)]
+
 ghost use Rattle.std.specs.Prelude.{[], ◌∷◌, ◌≡◌, ◌+◌, ◌≤◌, length};
 ghost use Rattle.events.specs.Events.{place as place_of, reserve as reserve_of, adjust, marks, Reached};
 
@@ -19,7 +21,7 @@ pub const RESERVED: u8 = 2;
 pub const ADJUSTED: u8 = 3;
 
 // What became of a part of the work: it passed, or failed with a fault at an offset of the file.
-#[derive(Drop)]
+#[derive(Clone, Copy)]
 pub enum Check {
     Passed,
     Failed(Fault, usize),

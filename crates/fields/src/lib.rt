@@ -1,4 +1,6 @@
 // The address fields that a fixup record lists.
+#![tactic(auto)]
+
 ghost use Rattle.std.specs.Prelude.{[], ◌∷◌, ◌≡◌, ◌+◌, ◌<◌, ◌≤◌, length};
 ghost use Rattle.words.specs.Runs.{part};
 ghost use Rattle.fields.specs.Fields.{item_size, width_of, fields_of};

@@ -1,4 +1,6 @@
 // A fixup index, entry by entry, checked at a pair of bases over a lent map. No memory is looked at: an index has no code.
+#![tactic(auto)]
+
 ghost use Rattle.std.specs.Prelude.{◌≡◌, ◌+◌, ◌%◌, ◌≤◌, length};
 ghost use Rattle.acx.specs.Walk.{reported};
 ghost use Rattle.events.specs.Events.{blank, Noted};
@@ -16,7 +18,7 @@ use records::Kind;
 const FORMLESS: u32 = 0;
 
 // Where a walk stands: the next entry's offset; what was placed and adjusted so far.
-#[derive(Drop)]
+#[derive(Clone, Copy)]
 pub struct Cursor {
     pub at: usize,
     pub placed: usize,

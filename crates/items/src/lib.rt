@@ -1,4 +1,6 @@
 // One item of an SDX update body, read with no map in mind: it moves a counter through memory, or lists the word there, or ends the body.
+#![tactic(auto)]
+
 ghost use Rattle.std.specs.Prelude.{◌≡◌, ◌≤◌, length};
 ghost use Rattle.items.specs.Items.{adding, setting, setting_to_block, skipping, read as read_of};
 

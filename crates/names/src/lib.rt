@@ -1,4 +1,6 @@
 // Names of eight bytes, one after the other in a list, and the search for the newest definition of one.
+#![tactic(auto)]
+
 ghost use Rattle.std.specs.Prelude.{◌≡◌, length};
 ghost use Rattle.names.specs.Names.{same as same_of, name_size, newest, look_up};
 
@@ -6,14 +8,14 @@ ghost use Rattle.names.specs.Names.{same as same_of, name_size, newest, look_up}
 pub const NAME: usize = 8;
 
 // Where a name stands in a list.
-#[derive(Drop)]
+#[derive(Clone, Copy)]
 pub enum Found {
     Nowhere,
     At(usize),
 }
 
 // Which definition of a name holds: none, one of this file's own, or one of the lent list, by its index there.
-#[derive(Drop)]
+#[derive(Clone, Copy)]
 pub enum Definition {
     Missing,
     Own(usize),

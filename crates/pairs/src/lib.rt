@@ -1,6 +1,8 @@
 // An SDX load whose address lists are byte pairs, low byte first, as C lends them. It takes whatever comes.
 // The new addresses go into words of its own, and from there into the lent pairs only where the load was accepted: so a refusal has not touched
 // them.
+#![tactic(auto)]
+
 ghost use Rattle.std.specs.Prelude.{Bool, ◌≡◌, ◌≤◌, length};
 ghost use Rattle.passes.specs.Buffers.{buffers};
 ghost use Rattle.passes.specs.Walk.{inputs};

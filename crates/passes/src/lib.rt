@@ -1,5 +1,7 @@
 // A pass over all blocks of an SDX file. The first only checks: it marks the map as it goes, and has buffers of its own for new names. The second
 // also writes memory and the new-name buffers that are lent. So a refusal has touched neither.
+#![tactic(auto)]
+
 ghost use Rattle.std.specs.Prelude.{◌≡◌, ◌*◌, ◌≤◌, length, replicate};
 ghost use Rattle.events.specs.Events.{blank};
 ghost use Rattle.passes.specs.Walk.{inputs, blocks_of};
@@ -19,7 +21,7 @@ pub const ADDRESSES: usize = 32;
 const START: usize = 0x02E0;
 
 // What a walk to the file's end comes to: low, the number of new names, the bytes placed and the fields adjusted.
-#[derive(Drop)]
+#[derive(Clone, Copy)]
 pub struct Totals {
     pub low: u16,
     pub named: usize,
@@ -28,7 +30,7 @@ pub struct Totals {
 }
 
 // How a walk ends: with a fault at an offset, or at the file's end.
-#[derive(Drop)]
+#[derive(Clone, Copy)]
 pub enum WalkEnd {
     Stopped(Fault, usize),
     Finished(Totals),

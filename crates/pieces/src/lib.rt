@@ -1,4 +1,6 @@
 // The pieces of a handler at a pair of bases: where code goes and what is put on a field; one record checked against the map and carried out.
+#![tactic(auto)]
+
 ghost use Rattle.std.specs.Prelude.{[], ◌∷◌, ◌≡◌, ◌+◌, ◌<◌, ◌≤◌, length, replicate};
 ghost use Rattle.answer.specs.Report.{address as address_of};
 ghost use Rattle.events.specs.Events.{place as placement, play_if, Noted, Did};

@@ -1,5 +1,7 @@
 // ACX records, read with no base in mind: what stands at an offset of a file.
 // Where a record goes and whether it fits is the business of the crates `pieces` and `acx`.
+#![tactic(auto)]
+
 ghost use Rattle.std.specs.Prelude.{◌≡◌, ◌+◌, ◌<◌, ◌≤◌, length};
 ghost use Rattle.records.specs.Types.{code_type, main_fixup_type, fixup_type};
 ghost use Rattle.records.specs.Records.{type_of, entry_of, suits as suits_of, length_allowed, read_code, read_items, read_fixups, read_end, read as read_of};
@@ -34,7 +36,7 @@ pub enum Entry {
 pub const END_TYPE: u8 = 0x0B;
 
 // What a record's type byte says. Fixups have the relocatable code that they are for; `suits` says what they may follow.
-#[derive(Drop)]
+#[derive(Clone, Copy)]
 pub enum RecordType {
     Code(Kind),
     Fixups(Kind, Fixup),

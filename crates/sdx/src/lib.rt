@@ -1,4 +1,6 @@
 // The SDX loader: the buffers, the settings, the file's length and its opening checked, and then its blocks loaded between low and high.
+#![tactic(auto)]
+
 ghost use Rattle.std.specs.Prelude.{true, [], ◌≡◌, ◌*◌, ◌≤◌, length};
 ghost use Rattle.events.specs.Events.{blank};
 ghost use Rattle.events.specs.declared.Check.TheVariants.{Passed};

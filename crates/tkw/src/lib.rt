@@ -1,4 +1,6 @@
 // The functions that C calls, as include/tekoweapa.h declares them, and nothing else: each hands its buffers on.
+#![tactic(auto)]
+
 ghost use Rattle.pieces.specs.Pieces.{bases_at};
 ghost use Rattle.moves.specs.Call.{call_of};
 ghost use Rattle.moves.specs.Sources.{file_in, the_index};

@@ -1,6 +1,8 @@
 // The bytes of a handler taken from their old places to the new ones, by way of the scratch: all at once, so that old and new places may
 // overlap in any way. They are gathered from memory into the scratch, where they lie at their new places and have their fields adjusted, and
 // only then go into memory.
+#![tactic(auto)]
+
 ghost use Rattle.std.specs.Prelude.{[], ◌∷◌, ◌≡◌, ◌+◌, ◌≤◌, length};
 ghost use Rattle.words.specs.Numbers.{on, off, change};
 ghost use Rattle.words.specs.Runs.{part, put};

@@ -1,4 +1,6 @@
 // Update bodies: the items that move a counter through memory and adjust the words there, over a lent memory and map.
+#![tactic(auto)]
+
 ghost use Rattle.std.specs.Prelude.{◌≡◌, ℕ, ◌+◌, ◌≤◌, length};
 ghost use Rattle.events.specs.Events.{Did};
 ghost use Rattle.items.specs.declared.Item.TheVariants.{Adjust};
@@ -10,14 +12,14 @@ use events::Check;
 use items::{Counter, Item, Slot};
 
 // How a body ends: at a fault and its offset, or with the offset after it and the number of words adjusted.
-#[derive(Drop)]
+#[derive(Clone, Copy)]
 pub enum Ended {
     Broken(Fault, usize),
     Done { next: usize, adjusted: usize },
 }
 
 // Where a body stands: the next item's offset, the counter, and the words adjusted so far.
-#[derive(Drop)]
+#[derive(Clone, Copy)]
 pub struct Cursor {
     pub at: usize,
     pub counter: Counter,

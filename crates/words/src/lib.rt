@@ -1,6 +1,8 @@
 // Bytes and words in a buffer: reading, storing, filling, copying, adjusting. Words are low byte first, but for `big_word_at` and `put_big_word`.
 // A leaf: it knows no file format. Each `requires` is a bound that the caller has looked at; the crates above know these functions only by
 // what they promise, in the terms of specs/.
+#![tactic(auto)]
+
 ghost use Rattle.std.specs.Prelude.{◌≡◌, ◌+◌, ◌*◌, ◌/◌, ◌^◌, ◌<◌, ◌≤◌, length, replicate};
 ghost use Rattle.words.specs.Runs.{put, all_zero, contains as contains_of};
 ghost use Rattle.words.specs.Numbers.{value, store, big_value, big_store, on, off, change, encoded, decoded};

@@ -1,0 +1,97 @@
+-- `passes::walk` meets its contract: the definition's walk has come to the cursor, with the buffers as what it did left them (`Going`).
+-- Assumes nothing.
+use mathlib.Core.Path.{◌≡◌, refl, sym, ◌∙◌}
+use Prim.Native.Nat.{◌+◌, ◌-◌, ◌≤◌}
+use native.Mathlib.Omega.{arith}
+use Rattle.std.proofs.Common.{rules}
+use lib.ListN.{length}
+use Rattle.passes.proofs.Going.{Going, going_first, going_done, found_fits, name_fits, room_fits, going_stops, going_falls, going_counts, going_on}
+use Rattle.passes.specs.Walk.{inputs}
+use Rattle.passes.specs.Buffers.{buffers}
+use Rattle.passes.proofs.walk.Goals as goal
+
+pub loop-cursor-init : goal.loop-cursor-init
+loop-cursor-init c =
+    let top : c.args.high ≤ 65535 = omega arith in (
+      c.requires.2,
+      c.requires.3,
+      c.requires.4,
+      c.requires.5,
+      rw (c.first_cursor-cursor.ensures, c.requires.6)
+          (going_first (record { short = c.requires.0; top = top; known = c.requires.1; clear = refl; room = c.requires.4; spots = c.requires.5 })),
+    )
+
+pub returns-then-cursor-file : goal.returns-then-cursor-file
+returns-then-cursor-file c =
+    let l = c.loop-cursor.invariant in
+    rw c.total.ensures (going_done l.4 c.if-cursor-file.true)
+
+pub overflow_mul-size : goal.overflow_mul-size
+overflow_mul-size c = let few = c.loop-cursor.invariant.4.counted.few in omega (arith, few)
+
+pub slice_bounds-read-end : goal.slice_bounds-read-end
+slice_bounds-read-end c = let l = c.loop-cursor.invariant in omega (arith, l.2, l.4.counted.few)
+
+pub read-found-requires : goal.read-found-requires
+read-found-requires c =
+    let l = c.loop-cursor.invariant in
+    (l.4.lent.short, l.4.passed.inside, l.4.tabled.packed)
+
+pub slice_bounds-own-end : goal.slice_bounds-own-end
+slice_bounds-own-end c = let l = c.loop-cursor.invariant in omega (arith, l.3, l.4.counted.few)
+
+pub apply-end-requires : goal.apply-end-requires
+apply-end-requires c =
+    let l = c.loop-cursor.invariant in
+    (l.4.lent.short, c.read-found.ensures.in_memory, found_fits l.4 c.read-found.ensures.value, l.0, l.1)
+
+pub returns-in-Broken : goal.returns-in-Broken
+returns-in-Broken c =
+    going_stops c.loop-cursor.invariant.4 c.read-found.ensures.value c.if-cursor-file.false c.apply-end.ensures _ _
+    c.in-Broken.is
+
+pub store_name-requires : goal.store_name-requires
+store_name-requires c =
+    let l = c.loop-cursor.invariant in
+    (name_fits l.4 c.read-found.ensures.value, l.2, l.3)
+
+-- both counts with the block's own stay within the file
+sums : (c : tie.After-placed-by invariant_loop decreases_loop)
+    → ((stood (was_read c)).loop.bytes + c.placed_by.result ≤ 65536) × ((stood (was_read c)).loop.fields + (was_done c).end2.given.0.1.0 ≤ 65536)
+sums c =
+    let r = was_read c in
+    let x = (stood r).loop.invariant.4 in
+    let d = (was_done c).before.before.before.before.before.before.apply.ensures in
+    let k = going_counts x r.read.ensures.0 r.before.before.before.if1.left d _ _ (was_done c).end2.given.1 in
+    (omega (arith, k.0, x.lent.short, c.placed_by.ensures), omega (arith, k.1, x.lent.short))
+
+pub overflow_add-bytes : goal.overflow_add-bytes
+overflow_add-bytes c = omega (arith, (sums c).0)
+
+pub overflow_add-fields : goal.overflow_add-fields
+overflow_add-fields c = omega (arith, (sums c).1)
+
+pub advance-cursor-requires : goal.advance-cursor-requires
+advance-cursor-requires c =
+    let x = c.loop-cursor.invariant.4 in
+    let count = x.tabled.few in
+    let named = x.counted.few in
+    (omega (arith, count), omega (arith, named), room_fits x c.read-found.ensures.value)
+
+pub loop-cursor-smaller : goal.loop-cursor-smaller
+loop-cursor-smaller c =
+    rw c.advance-cursor.ensures
+    (going_falls c.loop-cursor.invariant.4 c.read-found.ensures.value c.if-cursor-file.false c.apply-end.ensures _ _
+    c.in-Done.is)
+
+pub loop-cursor-preserved : goal.loop-cursor-preserved
+loop-cursor-preserved c =
+    let l = c.loop-cursor.invariant in (
+      c.apply-end.auto.memory ∙ l.0,
+      c.apply-end.auto.map ∙ l.1,
+      c.store_name.auto.new_names ∙ l.2,
+      c.store_name.auto.new_addresses ∙ l.3,
+      rw (c.advance-cursor.ensures, c.placed_by-bytes.ensures)
+          (going_on l.4 c.read-found.ensures.value c.if-cursor-file.false c.apply-end.ensures _ _ c.in-Done.is _ _
+          c.store_name.ensures),
+    )

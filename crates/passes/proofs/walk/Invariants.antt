@@ -1,0 +1,21 @@
+-- `passes::walk` meets its contract: the definition's walk has come to the cursor, with the buffers as what it did left them (`Going`).
+-- Assumes nothing.
+use mathlib.Core.Path.{◌≡◌, refl, sym, ◌∙◌}
+use Prim.Native.Nat.{◌+◌, ◌-◌, ◌≤◌}
+use native.Mathlib.Omega.{arith}
+use Rattle.std.proofs.Common.{rules}
+use lib.ListN.{length}
+use Rattle.passes.proofs.Going.{Going, going_first, going_done, found_fits, name_fits, room_fits, going_stops, going_falls, going_counts, going_on}
+use Rattle.passes.specs.Walk.{inputs}
+use Rattle.passes.specs.Buffers.{buffers}
+use Rattle.passes.proofs.walk.Given as goal
+
+abbrev pub invariant-loop-cursor : goal.invariant-loop-cursor
+invariant-loop-cursor l =
+    (length l.memory ≡ 65536) × (length l.map ≡ 65536) × (length l.new_names ≡ 256) × (length l.new_addresses ≡ 32)
+    × Going l.file (inputs l.lent_names l.lent_addresses l.low l.high) l.write (buffers l.initial.memory l.initial.map l.initial.new_names l.initial.new_addresses) l.cursor l.bytes l.fields
+    (buffers l.memory l.map l.new_names l.new_addresses)
+
+abbrev pub decreases-loop-cursor : goal.decreases-loop-cursor
+decreases-loop-cursor l =
+    length l.file - l.cursor.at
