@@ -1,5 +1,5 @@
 # make demo            build what is needed, and show a load, live moves and a refusal on the shipped examples
-# make test            the gate (.ci/run): prove every crate from nothing, try the must-fail edits, run all tests
+# make test            the gate (.ci/run): prove every crate, try the must-fail edits, run all tests
 # make lib             build/libtekoweapa.a: the library for C, declared in include/tekoweapa.h
 # make control         build/tekoweapa: the control program
 # make c-tests         the tests in C alone (tests/run)
