@@ -18,7 +18,7 @@ returns-in-Refused c =
     let k = c.decode_words in
     loads_refused a.file.now (inputs c.args.known_names.now c.args.known_addresses.now a.low a.high)
     (buffers a.memory.now a.map.now a.new_names.now a.new_addresses.now) _ _ _ _ c.requires.0 c.requires.2
-    (known_front c.args.known_addresses.now k.new.0 _ k.ensures (omega (arith, c.requires.1))) c.load-outcome.ensures
+    (known_front c.args.known_addresses.now k.new.words _ k.ensures (omega (arith, c.requires.1))) c.load-outcome.ensures
     _ _ _ c.in-Refused.is refl
 
 pub returns : goal.returns
@@ -27,5 +27,5 @@ returns c =
     let k = c.decode_words in
     loads_accepted a.file.now (inputs c.args.known_names.now c.args.known_addresses.now a.low a.high)
     (buffers a.memory.now a.map.now a.new_names.now a.new_addresses.now) _ _ _ _ c.requires.0 c.requires.2
-    (known_front c.args.known_addresses.now k.new.0 _ k.ensures (omega (arith, c.requires.1))) c.load-outcome.ensures
+    (known_front c.args.known_addresses.now k.new.words _ k.ensures (omega (arith, c.requires.1))) c.load-outcome.ensures
     _ _ _ _ _ c.in_default.is c.encode_words.ensures.0 c.encode_words.ensures.1

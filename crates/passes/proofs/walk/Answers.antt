@@ -56,20 +56,17 @@ store_name-requires c =
     (name_fits l.4 c.read-found.ensures.value, l.2, l.3)
 
 -- both counts with the block's own stay within the file
-sums : (c : tie.After-placed-by invariant_loop decreases_loop)
-    → ((stood (was_read c)).loop.bytes + c.placed_by.result ≤ 65536) × ((stood (was_read c)).loop.fields + (was_done c).end2.given.0.1.0 ≤ 65536)
-sums c =
-    let r = was_read c in
-    let x = (stood r).loop.invariant.4 in
-    let d = (was_done c).before.before.before.before.before.before.apply.ensures in
-    let k = going_counts x r.read.ensures.0 r.before.before.before.if1.left d _ _ (was_done c).end2.given.1 in
-    (omega (arith, k.0, x.lent.short, c.placed_by.ensures), omega (arith, k.1, x.lent.short))
-
 pub overflow_add-bytes : goal.overflow_add-bytes
-overflow_add-bytes c = omega (arith, (sums c).0)
+overflow_add-bytes c =
+    let l = c.loop-cursor.invariant.4 in
+    let k = going_counts l c.read-found.ensures.value c.if-cursor-file.false c.apply-end.ensures _ _ c.in-Done.is in
+    omega (arith, k.0, l.lent.short, c.placed_by-bytes.ensures)
 
 pub overflow_add-fields : goal.overflow_add-fields
-overflow_add-fields c = omega (arith, (sums c).1)
+overflow_add-fields c =
+    let l = c.loop-cursor.invariant.4 in
+    let k = going_counts l c.read-found.ensures.value c.if-cursor-file.false c.apply-end.ensures _ _ c.in-Done.is in
+    omega (arith, k.1, l.lent.short)
 
 pub advance-cursor-requires : goal.advance-cursor-requires
 advance-cursor-requires c =
