@@ -1,5 +1,5 @@
 # make demo            build what is needed, and show a load, live moves and a refusal on the shipped examples
-# make test            the gate (.ci/run): prove every crate from nothing, try the must-fail edits, run all tests
+# make test            the gate (.ci/run): prove every crate, try the must-fail edits, run all tests
 # make lib             build/libtekoweapa.a: the library for C, declared in include/tekoweapa.h
 # make control         build/tekoweapa: the control program
 # make c-tests         the tests in C alone (tests/run)
@@ -22,9 +22,10 @@ PROGRAM := build/tekoweapa
 PICTURE := docs/map.png
 
 LIBRARY := build/libtekoweapa.a
-RATTLE := $(shell find crates -name '*.rt' -o -name '*.antt')
+# What rt makes lies in the crates' out/ folders.
+RATTLE := $(shell find crates -name out -prune -o \( -name '*.rt' -o -name '*.antt' \) -print)
 
-# rt works in one target/ folder, so no two rules that run it may run at the same time.
+# rt keeps its work in the crates' folders, so no two rules that run it may run at the same time.
 .NOTPARALLEL:
 # A library cut short by a full disk must not pass for a new one.
 .DELETE_ON_ERROR:
@@ -53,7 +54,7 @@ picture: $(PROGRAM)
 	$(PROGRAM) sdx examples/score.sdx --names examples/names.txt --picture "$(PICTURE)" --quiet
 
 proofs:
-	@rt check
+	@rt all check
 
 sizes:
 	@python3 tests/sizes.py
@@ -63,7 +64,7 @@ times:
 
 clean:
 	rm -rf build
-	@[ ! -d target ] || echo "target/ stays: what rt has proved and built takes minutes to make again; 'rm -rf target' removes it"
+	@[ -z "$(wildcard crates/*/out)" ] || echo "crates/*/out stay: what rt has proved and built takes minutes to make again; 'rm -rf crates/*/out' removes them"
 
 $(LIBRARY): $(RATTLE) crates.txt
 	@bash build-library $@

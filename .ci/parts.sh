@@ -2,6 +2,11 @@
 passed=0
 failed=0
 
+# The two numbers of a line 'N passed, M failed', which rt may end with a remark in parentheses.
+counts() {
+    sed -nE 's/^([0-9]+) passed, ([0-9]+) failed( \(.*\))?$/\1 \2/p'
+}
+
 # Runs a part, and adds up the counts of its last line; a part that fails without saying so counts as one failure.
 part() { # TITLE COMMAND..
     local title=$1 log status p f
@@ -10,7 +15,7 @@ part() { # TITLE COMMAND..
     log=$(mktemp)
     "$@" 2>&1 | tee "$log"
     status=${PIPESTATUS[0]}
-    read -r p f < <(tail -n 1 "$log" | sed -nE 's/^([0-9]+) passed, ([0-9]+) failed$/\1 \2/p')
+    read -r p f < <(tail -n 1 "$log" | counts)
     rm -f "$log"
     if [ -z "${f:-}" ] || [ $((p + f)) -eq 0 ]; then
         echo "$title: its last line does not count the tests that it ran (exit status $status)"

@@ -29,7 +29,8 @@ TOTAL = "all of these"
 def crates():
     """The names of the crates, in the order of crates.txt."""
     listed = (line.split("#")[0] for line in (ROOT / "crates.txt").read_text().splitlines())
-    return [line.split(":")[0].strip() for line in listed if line.strip()]
+    # 'NAME staticlib' is the crate NAME
+    return [line.split(":")[0].split()[0] for line in listed if line.strip()]
 
 
 def texts(folder, suffix):

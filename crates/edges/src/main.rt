@@ -2,12 +2,12 @@
 // holds what was printed, once it was read beside the document.
 #![tactic(auto)]
 
-ghost use Rattle.std.specs.Prelude.{◌≡◌};
+ghost use Rattle.std.specs.Prelude.{◌≡◌, IfOk};
 ghost use Rattle.answer.specs.Report.{numbers_of};
 ghost use Rattle.edges.specs.Edges.{sdx_numbers, acx_numbers};
 
 use answer::{Numbers, Outcome};
-use libc::STDOUT_FILENO;
+use std::io;
 
 // Low and high where a case does not turn on them.
 const LOW: u32 = 7936;
@@ -64,35 +64,61 @@ const AT_65534: [u8; 10] = *b"\x01\x04\xFE\xFF\x01\x02\x0B\x00\x00\x00";
 // "place + n" past the end of memory: the same at 65,535.
 const AT_65535: [u8; 10] = *b"\x01\x04\xFF\xFF\x01\x02\x0B\x00\x00\x00";
 
-fn main() {
-    load_sdx(b"high = low + length", &THREE_BYTES, 7936, 7939);
-    load_sdx(b"high = low + length - 1", &THREE_BYTES, 7936, 7938);
-    load_sdx(b"plain start 65534, end 65535", &LAST_TWO, LOW, HIGH);
-    load_sdx(b"plain start 65535, end 65535", &LAST_ONE, LOW, HIGH);
-    load_sdx(b"plain start 65535, end 65534", &END_BELOW, LOW, HIGH);
+fn main(rt: HostRuntime) -> io::Result<()> {
+    load_sdx(&rt, b"high = low + length", &THREE_BYTES, 7936, 7939)?;
+    load_sdx(&rt, b"high = low + length - 1", &THREE_BYTES, 7936, 7938)?;
+    load_sdx(&rt, b"plain start 65534, end 65535", &LAST_TWO, LOW, HIGH)?;
+    load_sdx(&rt, b"plain start 65535, end 65535", &LAST_ONE, LOW, HIGH)?;
+    load_sdx(&rt, b"plain start 65535, end 65534", &END_BELOW, LOW, HIGH)?;
     load_sdx(
+        &rt,
         b"plain start 65534, end 65535, a byte short",
         &BYTE_SHORT,
         LOW,
         HIGH,
-    );
-    load_sdx(b"FD sets the counter to 65534", &SET_65534, LOW, HIGH);
-    load_sdx(b"FD sets the counter to 65535", &SET_65535, LOW, HIGH);
-    load_sdx(b"FA adds 250 to the counter, to 65534", &ADDS, 65284, 65535);
-    load_sdx(b"FA adds 250 to the counter, to 65535", &ADDS, 65285, 65535);
-    load_sdx(b"FF adds 250 to the counter, to 65535", &SKIP, 65285, 65535);
-    load_sdx(b"FF adds 250 to the counter, to 65536", &SKIP, 65286, 65535);
-    load_acx(b"zero page, place + n = 256", &ZERO_AT_126, MAIN_BASE);
-    load_acx(b"zero page, place + n = 257", &ZERO_AT_127, MAIN_BASE);
-    load_acx(b"main, place + n = 65536", &MAIN_AT_0, 65534);
-    load_acx(b"main, place + n = 65537", &MAIN_AT_0, 65535);
-    load_acx(b"absolute, place + n = 65536", &AT_65534, MAIN_BASE);
-    load_acx(b"absolute, place + n = 65537", &AT_65535, MAIN_BASE);
+    )?;
+    load_sdx(&rt, b"FD sets the counter to 65534", &SET_65534, LOW, HIGH)?;
+    load_sdx(&rt, b"FD sets the counter to 65535", &SET_65535, LOW, HIGH)?;
+    load_sdx(
+        &rt,
+        b"FA adds 250 to the counter, to 65534",
+        &ADDS,
+        65284,
+        65535,
+    )?;
+    load_sdx(
+        &rt,
+        b"FA adds 250 to the counter, to 65535",
+        &ADDS,
+        65285,
+        65535,
+    )?;
+    load_sdx(
+        &rt,
+        b"FF adds 250 to the counter, to 65535",
+        &SKIP,
+        65285,
+        65535,
+    )?;
+    load_sdx(
+        &rt,
+        b"FF adds 250 to the counter, to 65536",
+        &SKIP,
+        65286,
+        65535,
+    )?;
+    load_acx(&rt, b"zero page, place + n = 256", &ZERO_AT_126, MAIN_BASE)?;
+    load_acx(&rt, b"zero page, place + n = 257", &ZERO_AT_127, MAIN_BASE)?;
+    load_acx(&rt, b"main, place + n = 65536", &MAIN_AT_0, 65534)?;
+    load_acx(&rt, b"main, place + n = 65537", &MAIN_AT_0, 65535)?;
+    load_acx(&rt, b"absolute, place + n = 65536", &AT_65534, MAIN_BASE)?;
+    load_acx(&rt, b"absolute, place + n = 65537", &AT_65535, MAIN_BASE)?;
+    Ok(())
 }
 
 // Loads an SDX file with no known names into memory of zeros, prints what is reported, and gives it back.
-fn load_sdx(name: &[u8], file: &[u8], low: u32, high: u32) -> Numbers
-    ensures { result ≡ sdx_numbers file.now low high }
+fn load_sdx(rt: &impl Print, name: &[u8], file: &[u8], low: u32, high: u32) -> io::Result<Numbers>
+    ensures { IfOk result (λ numbers. numbers ≡ sdx_numbers file.now low high) }
 {
     let known_addresses = [0u16; 0];
     let mut memory = [0u8; 65536];
@@ -110,43 +136,43 @@ fn load_sdx(name: &[u8], file: &[u8], low: u32, high: u32) -> Numbers
         &mut new_names,
         &mut new_addresses,
     );
-    print_outcome(name, outcome)
+    print_outcome(rt, name, outcome)
 }
 
 // Loads an ACX file in device form, likewise.
-fn load_acx(name: &[u8], file: &[u8], main_base: u32) -> Numbers
-    ensures { result ≡ acx_numbers file.now main_base }
+fn load_acx(rt: &impl Print, name: &[u8], file: &[u8], main_base: u32) -> io::Result<Numbers>
+    ensures { IfOk result (λ numbers. numbers ≡ acx_numbers file.now main_base) }
 {
     let mut memory = [0u8; 65536];
     let mut map = [0u8; 65536];
     let outcome = acx::load(1, file, main_base, ZERO_BASE, &mut memory, &mut map);
-    print_outcome(name, outcome)
+    print_outcome(rt, name, outcome)
 }
 
 // Prints a line, what was loaded and the nine numbers of the answer, and gives these back.
-fn print_outcome(name: &[u8], outcome: Outcome) -> Numbers
-    ensures { result ≡ numbers_of outcome }
+fn print_outcome(rt: &impl Print, name: &[u8], outcome: Outcome) -> io::Result<Numbers>
+    ensures { IfOk result (λ numbers. numbers ≡ numbers_of outcome) }
 {
     let numbers = answer::numbers(outcome);
-    io::write_all(STDOUT_FILENO, name);
-    print(b": number ", numbers[0]);
-    print(b" offset ", numbers[1]);
-    print(b" side ", numbers[2]);
-    print(b" start ", numbers[3]);
-    print(b" ", numbers[4]);
-    print(b" placed ", numbers[5]);
-    print(b" adjusted ", numbers[6]);
-    print(b" names ", numbers[7]);
-    print(b" low ", numbers[8]);
-    io::write_all(STDOUT_FILENO, b"\n");
-    numbers
+    rt.write_all(name)?;
+    print(rt, b": number ", numbers[0])?;
+    print(rt, b" offset ", numbers[1])?;
+    print(rt, b" side ", numbers[2])?;
+    print(rt, b" start ", numbers[3])?;
+    print(rt, b" ", numbers[4])?;
+    print(rt, b" placed ", numbers[5])?;
+    print(rt, b" adjusted ", numbers[6])?;
+    print(rt, b" names ", numbers[7])?;
+    print(rt, b" low ", numbers[8])?;
+    rt.write_all(b"\n")?;
+    Ok(numbers)
 }
 
 // Prints a number after its name, and gives it back.
-fn print(text: &[u8], number: u32) -> u32
-    ensures { result ≡ number }
+fn print(rt: &impl Print, text: &[u8], number: u32) -> io::Result<u32>
+    ensures { IfOk result (λ n. n ≡ number) }
 {
-    io::write_all(STDOUT_FILENO, text);
-    io::print_decimal(STDOUT_FILENO, number as u64);
-    number
+    rt.write_all(text)?;
+    rt.print(number)?;
+    Ok(number)
 }
