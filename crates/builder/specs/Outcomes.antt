@@ -54,7 +54,7 @@ pub record Exactly (form : ℕ) (b : Bases) (file : List ℕ) (right : Bool) (r 
   pub all : right ≡ true → (ps : List Piece) (entry : Entry) → Accepts form b file ps entry → length (index_of ps entry) ≤ room_size
       → r ≡ Accepted (start_of b entry) (total size ps) (total (λ p. length p.fields) ps) 0 (length (index_of ps entry))
 
--- The claim: of every call that keeps the builder's contract. (answerSized: a C answer, if one is lent, has its length.)
+-- The claim: of every call that keeps the builder's contract. (answer_sized: a C answer, if one is lent, has its length.)
 abbrev pub Claim : Type 0
 Claim =
     (form : ℕ) (b : Bases) (file : List ℕ) (answer_sized : Bool) (p q : List ℕ) (r : Outcome) (p' q' : List ℕ)

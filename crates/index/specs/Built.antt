@@ -1,5 +1,5 @@
 -- Which index is built from which file, and what that comes to: "an index built from a file stands for that file and its loads" (document 02, wish 5).
--- Proved in proofs/Built.antt: `one_Index : OneIndexClaim`, `gives_back : GivesBackClaim` and `agrees : AgreesClaim`.
+-- Proved in proofs/Built.antt: `one_index : OneIndexClaim`, `gives_back : GivesBackClaim` and `agrees : AgreesClaim`.
 -- Assumes nothing.
 use Rattle.std.specs.Prelude.{true, List, map, ◌≡◌, ℕ, ◌≤◌, length}
 use Rattle.acx.specs.Call.{in_range}

@@ -3,7 +3,7 @@
 use Rattle.std.specs.Prelude.{ℕ, ◌+◌, ◌<◌, ◌≤◌, Bool, true, false, ◌&&◌, ◌||◌, List, [], ◌∷◌, take, drop, ◌==◌, slice_index}
 use Rattle.std.proofs.lemmas.List.Edits.{sets}
 
--- every element is a byte (past the end `get_or` gives 0, so no index is out of range)
+-- every element is a byte (past the end `slice_index` gives 0, so no index is out of range)
 abbrev pub Bytes : List ℕ → Type 0
 Bytes l = (x : ℕ) → slice_index l x < 256
 
