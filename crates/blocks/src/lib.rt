@@ -150,6 +150,7 @@ fn read_relocatable(file: &[u8], high: u16, cursor: Cursor) -> Block
 }
 
 // The room of a relocatable block: a number and a block left, the data in the file, and the place in memory.
+#[tactic(auto, unfolding(crate::specs::Blocks::read_room, answer::specs::Checks::need, items::specs::Items::slot_at))]
 fn read_room(file: &[u8], high: u16, cursor: Cursor, number: usize, reserves: bool) -> Block
     requires { (length file.now ≤ 65536) × (cursor.at + 8 ≤ length file.now) × (number < 8) }
     ensures { result ≡ read_room file.now high cursor number reserves }

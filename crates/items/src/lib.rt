@@ -56,6 +56,7 @@ pub fn read(file: &[u8], table: [Slot; 8], at: usize, counter: Counter) -> Item
 }
 
 // 00 to FB: the amount on the counter, where a word is then adjusted.
+#[tactic(auto, unfolding(crate::specs::Items::adding, answer::specs::Checks::need))]
 fn add(at: usize, amount: u8, counter: Counter) -> Item
     requires { at ≤ 65536 }
     ensures { result ≡ adding at amount counter }
@@ -76,6 +77,7 @@ fn add(at: usize, amount: u8, counter: Counter) -> Item
 }
 
 // FD: the counter set by a word, and the word there adjusted.
+#[tactic(auto, unfolding(crate::specs::Items::setting, answer::specs::Checks::need))]
 fn set(file: &[u8], at: usize) -> Item
     requires { (at ≤ length file.now) × (length file.now ≤ 65536) }
     ensures { result ≡ setting file.now at }

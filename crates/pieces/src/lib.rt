@@ -262,6 +262,7 @@ fn write_field(
 }
 
 // Checks the end record, whose address stands at `at`, and which ends at `next` of a file of `length` bytes.
+#[tactic(auto, unfolding(crate::specs::AtBases::ending, answer::specs::Checks::need))]
 pub fn end(at: usize, bases: Bases, entry: Entry, next: usize, length: usize) -> Check
     ensures { result ≡ (ending at bases entry next length).answer }
 {

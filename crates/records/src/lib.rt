@@ -140,6 +140,7 @@ fn main_fixup_type(fixup: Fixup) -> u8
 }
 
 // Reads a code record.
+#[tactic(auto, unfolding(crate::specs::Records::read_code, answer::specs::Checks::need))]
 fn read_code(file: &[u8], at: usize, kind: Kind) -> Record
     requires { (at < length file.now) × (length file.now ≤ 65536) }
     ensures { result ≡ read_code file.now at kind }

@@ -86,6 +86,7 @@ fn is_sized(
 }
 
 // Checks what comes before the first block: the settings, the file's length, its opening.
+#[tactic(auto, unfolding(crate::specs::Call::admitting, answer::specs::Checks::need))]
 fn admit(file: &[u8], low: u32, high: u32) -> Check
     ensures { result ≡ admitting file.now (inputs [] [] low high) }
 {
@@ -109,6 +110,7 @@ fn in_range(low: u32, high: u32) -> bool
 }
 
 // Whether the file opens with a marker.
+#[tactic(auto, unfolding(crate::specs::Call::opening, answer::specs::Checks::need))]
 fn opening(file: &[u8]) -> Check
     ensures { result ≡ opening_of file.now }
 {

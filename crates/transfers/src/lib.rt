@@ -44,6 +44,7 @@ pub fn carry(
 }
 
 // Puts the scratch's bytes into memory, at every address that the map marks.
+#[tactic(auto, using(crate::proofs::Overlay::overlaying_marked, crate::proofs::Overlay::overlaying_clear))]
 fn commit(map: &[u8], scratch: &[u8], memory: &mut [u8])
     requires { (length memory.old ≡ 65536) × (length map.now ≡ 65536) × (length scratch.now ≡ 65536) }
     ensures { Overlaid map.now scratch.now memory.old memory.new }
