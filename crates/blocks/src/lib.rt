@@ -65,6 +65,7 @@ pub enum Block {
 }
 
 // The block at the cursor.
+#[tactic(auto, using(crate::proofs::Reading::names_in_memory, crate::proofs::Reading::new_name_in_memory, crate::proofs::Reading::update_in_memory, crate::proofs::Reading::relocatable_in_memory), unfolding(crate::specs::Blocks::read, answer::specs::Checks::need, answer::specs::Checks::pick))]
 pub fn read(file: &[u8], high: u16, lent: &[u8], own: &[u8], cursor: Cursor) -> Block
     requires { (length file.now ≤ 65536) × (cursor.at ≤ length file.now) × Packed cursor.table }
     ensures value { result ≡ read_of file.now high lent.now own.now cursor }
