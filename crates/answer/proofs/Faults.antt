@@ -7,10 +7,9 @@ use Prim.Native.Nat.{ℕ, ◌≤◌, ◌<◌}
 use native.Mathlib.Omega.{arith}
 use borrow.Author.Tests.{le-leb, lt-leb, leb-true, eq-eqb, ne_eqb}
 use lib.Dec.{leb, eqb}
-use Rattle.answer.specs.Report.{number_of, Located}
+use Rattle.answer.specs.Report.{Outcome, refusal, number_of, Located}
 use Rattle.answer.specs.declared.Fault.{Fault}
-use Rattle.answer.specs.declared.Outcome.{Outcome}
-use Rattle.answer.specs.declared.Outcome.TheVariants.{Accepted, Refused}
+use Rattle.std.proofs.Common.{Ok, Err}
 
 -- whether a fault is 1, 2 or 3
 abbrev pub is_early : Fault → Bool
@@ -71,25 +70,25 @@ early_located len fault e =
 
 -- an outcome that is not refused, or so
 abbrev pub Decided : ℕ → Outcome → Type 0
-Decided len (Accepted start placed adjusted names low) = Unit {0}
-Decided len (Refused fault offset side) = OfFile len fault offset
+Decided len (Ok a) = Unit {0}
+Decided len (Err r) = OfFile len r.fault r.offset
 
 -- (the same as a record)
 pub record ByFile (len : ℕ) (r : Outcome) : Type 0 where
   pub decided : Decided len r
 
 -- the fault of an outcome that a file decides
-pub fault_of : {len : ℕ} {r : Outcome} {fault : Fault} {offset side : ℕ} → ByFile len r → r ≡ Refused fault offset side → OfFile len fault offset
-fault_of {len} {r} {fault} {offset} {side} h e = let g : Decided len (Refused fault offset side) = rw e at h.decided in g
+pub fault_of : {len : ℕ} {r : Outcome} {fault : Fault} {offset side : ℕ} → ByFile len r → r ≡ refusal fault offset side → OfFile len fault offset
+fault_of {len} {r} {fault} {offset} {side} h e = let g : Decided len (refusal fault offset side) = rw e at h.decided in g
 
 -- is neither 1, 2 nor 3
-pub late_not : {len : ℕ} {r : Outcome} {fault : Fault} {offset side : ℕ} → ByFile len r → r ≡ Refused fault offset side → is_early fault ≡ true → ⊥
+pub late_not : {len : ℕ} {r : Outcome} {fault : Fault} {offset side : ℕ} → ByFile len r → r ≡ refusal fault offset side → is_early fault ≡ true → ⊥
 late_not h e f = false≢true (sym (fault_of h e).late ∙ f)
 
 -- an outcome that lies so, if it is refused
 abbrev pub Lying : ℕ → Outcome → Type 0
-Lying len (Accepted start placed adjusted names low) = Unit {0}
-Lying len (Refused fault offset side) = Located len fault offset
+Lying len (Ok a) = Unit {0}
+Lying len (Err r) = Located len r.fault r.offset
 
 -- (the same as a record)
 pub record Lies (len : ℕ) (r : Outcome) : Type 0 where
@@ -97,9 +96,9 @@ pub record Lies (len : ℕ) (r : Outcome) : Type 0 where
 
 -- one that a file decides does
 pub by_file_lies : {len : ℕ} (r : Outcome) → ByFile len r → Lies len r
-by_file_lies (Accepted start placed adjusted names low) h = record { lies = tt }
-by_file_lies (Refused fault offset side) h = record { lies = of_file_located h.decided }
+by_file_lies (Ok a) h = record { lies = tt }
+by_file_lies (Err r) h = record { lies = of_file_located h.decided }
 
 -- where a refusal lies that does
-pub located_as : {len : ℕ} {r : Outcome} {fault : Fault} {offset side : ℕ} → Lies len r → r ≡ Refused fault offset side → Located len fault offset
-located_as {len} {r} {fault} {offset} {side} h e = let g : Lying len (Refused fault offset side) = rw e at h.lies in g
+pub located_as : {len : ℕ} {r : Outcome} {fault : Fault} {offset side : ℕ} → Lies len r → r ≡ refusal fault offset side → Located len fault offset
+located_as {len} {r} {fault} {offset} {side} h e = let g : Lying len (refusal fault offset side) = rw e at h.lies in g

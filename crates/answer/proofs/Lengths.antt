@@ -7,13 +7,12 @@ use native.Mathlib.Omega.{arith}
 use lib.ListN.{length, get_or}
 use Rattle.words.proofs.Numbers.{length_encoded, reads_back}
 use Rattle.words.specs.Numbers.{encoded, decoded}
-use Rattle.answer.specs.Report.{numbers_of, answer_length, answer_bytes, Written}
-use Rattle.answer.specs.declared.Outcome.{Outcome}
-use Rattle.answer.specs.declared.Outcome.TheVariants.{Accepted, Refused}
+use Rattle.answer.specs.Report.{Outcome, numbers_of, answer_length, answer_bytes, Written}
+use Rattle.std.proofs.Common.{Ok, Err}
 
 pub length_numbers : (outcome : Outcome) → length (numbers_of outcome) ≡ 9
-length_numbers (Accepted start placed adjusted names low) = refl
-length_numbers (Refused fault offset side) = refl
+length_numbers (Ok a) = refl
+length_numbers (Err r) = refl
 
 pub length_answer : (outcome : Outcome) → length (answer_bytes outcome) ≡ answer_length
 unfolding answer_bytes

@@ -8,23 +8,20 @@ use native.Mathlib.Omega.{arith}
 use borrow.Author.Tests.{leb-true}
 use lib.Dec.{leb}
 use lib.ListN.{get_or}
-use Rattle.answer.specs.Report.{number_of, numbers_of}
+use Rattle.answer.specs.Report.{Outcome, acceptance, refusal, present, address, number_of, numbers_of}
 use Rattle.answer.specs.declared.Fault.{Fault}
 use Rattle.answer.specs.declared.Fault.TheVariants.{WrongBuffer, SettingOutOfRange, FileTooLong, WrongOpening, CutShort, NotKnown, BlockTaken, BlockMissing, LengthNotAllowed, DoesNotFit, CounterUnusable, FieldNotLoaded, AdjustedTwice, NameUnknown, TooManyNames, NameOutsideBlock, PiecesOverlap, FixupUnsuited, BytesAfterEnd, StartTooHigh, WrongVersion, IndexTooLong}
-use Rattle.answer.specs.declared.Start.{Start}
-use Rattle.answer.specs.declared.Start.TheVariants.{Absent, At}
-use Rattle.answer.specs.declared.Outcome.{Outcome}
-use Rattle.answer.specs.declared.Outcome.TheVariants.{Accepted, Refused}
+use Rattle.std.proofs.Common.{Option, Some, None, Ok, Err}
 
 -- whether it is a refusal
 abbrev pub is_refused : Outcome → Bool
-is_refused (Accepted start placed adjusted names low) = false
-is_refused (Refused fault offset side) = true
+is_refused (Ok a) = false
+is_refused (Err r) = true
 
 -- the fault of a refusal
 abbrev pub fault_in : Outcome → Fault
-fault_in (Accepted start placed adjusted names low) = WrongBuffer
-fault_in (Refused fault offset side) = fault
+fault_in (Ok a) = WrongBuffer
+fault_in (Err r) = r.fault
 
 -- ---- by their numbers
 
@@ -90,29 +87,32 @@ pub number_bounds : (f : Fault) → (1 ≤ number_of f) × (number_of f ≤ 25)
 number_bounds f = (leb-true _ _ (numbered f).0, leb-true _ _ (numbered f).1)
 
 -- the start that is reported as present or not, at an address
-abbrev start_from : ℕ → ℕ → Start
-start_from zero a = Absent
-start_from (suc n) a = At a
+abbrev start_from : ℕ → ℕ → Option ℕ
+start_from zero a = None
+start_from (suc n) a = Some a
 
 -- the outcome with nine numbers
 abbrev outcome_by : ℕ → List ℕ → Outcome
-outcome_by zero ns = Accepted (start_from (get_or ns 3 0) (get_or ns 4 0)) (get_or ns 5 0) (get_or ns 6 0) (get_or ns 7 0) (get_or ns 8 0)
-outcome_by (suc n) ns = Refused (fault_with (suc n)) (get_or ns 1 0) (get_or ns 2 0)
+outcome_by zero ns = acceptance (start_from (get_or ns 3 0) (get_or ns 4 0)) (get_or ns 5 0) (get_or ns 6 0) (get_or ns 7 0) (get_or ns 8 0)
+outcome_by (suc n) ns = refusal (fault_with (suc n)) (get_or ns 1 0) (get_or ns 2 0)
 
 abbrev outcome_with : List ℕ → Outcome
 outcome_with ns = outcome_by (get_or ns 0 0) ns
 
-refused_by : (n : ℕ) (ns : List ℕ) → 1 ≤ n → outcome_by n ns ≡ Refused (fault_with n) (get_or ns 1 0) (get_or ns 2 0)
+start_back : (s : Option ℕ) → start_from (present s) (address s) ≡ s
+start_back None = refl
+start_back (Some a) = refl
+
+refused_by : (n : ℕ) (ns : List ℕ) → 1 ≤ n → outcome_by n ns ≡ refusal (fault_with n) (get_or ns 1 0) (get_or ns 2 0)
 refused_by zero ns h = absurd (omega arith)
 refused_by (suc n) ns h = refl
 
 -- it is the one whose numbers they are
 outcome_back : (o : Outcome) → outcome_with (numbers_of o) ≡ o
-outcome_back (Accepted Absent placed adjusted names low) = refl
-outcome_back (Accepted (At a) placed adjusted names low) = refl
-outcome_back (Refused fault offset side) =
-    refused_by (number_of fault) (numbers_of (Refused fault offset side)) (number_bounds fault).0
-    ∙ ap (λ (f : Fault). Refused f offset side) (numbered fault).2
+outcome_back (Ok a) = ap (λ (s : Option ℕ). acceptance s a.placed a.adjusted a.new_names a.low) (start_back a.start)
+outcome_back (Err r) =
+    refused_by (number_of r.fault) (numbers_of (Err r)) (number_bounds r.fault).0
+    ∙ ap (λ (f : Fault). refusal f r.offset r.side) (numbered r.fault).2
 
 -- so two outcomes with the same numbers are one
 pub numbers_one : (o k : Outcome) → numbers_of o ≡ numbers_of k → o ≡ k

@@ -1,13 +1,21 @@
 -- What a call reports, in numbers (document 01, "What the bench lends" and "Numbers a bench can show").
 -- Assumes nothing.
-use Rattle.std.specs.Prelude.{List, [], ◌∷◌, ◌≡◌, ℕ, ◌^◌, ◌≤◌, ◌<◌, get_or}
+use Rattle.std.specs.Prelude.{List, [], ◌∷◌, ◌≡◌, ℕ, ◌^◌, ◌≤◌, ◌<◌, get_or, Option, Some, None, Result, Ok, Err}
 use Rattle.words.specs.Numbers.{encoded, decoded}
 use Rattle.answer.specs.declared.Fault.{Fault}
 use Rattle.answer.specs.declared.Fault.TheVariants.{WrongBuffer, SettingOutOfRange, FileTooLong, WrongOpening, CutShort, NotKnown, BlockTaken, BlockMissing, LengthNotAllowed, DoesNotFit, CounterUnusable, FieldNotLoaded, AdjustedTwice, NameUnknown, TooManyNames, NameOutsideBlock, PiecesOverlap, FixupUnsuited, BytesAfterEnd, StartTooHigh, WrongVersion, IndexTooLong}
-use Rattle.answer.specs.declared.Start.{Start}
-use Rattle.answer.specs.declared.Start.TheVariants.{Absent, At}
-use Rattle.answer.specs.declared.Outcome.{Outcome}
-use Rattle.answer.specs.declared.Outcome.TheVariants.{Accepted, Refused}
+use Rattle.answer.specs.declared.Acceptance.{Acceptance}
+use Rattle.answer.specs.declared.Refusal.{Refusal}
+
+-- how a call ends: accepted with its counts, or refused with one fault
+abbrev pub Outcome : Type 0
+Outcome = Result Acceptance Refusal
+
+abbrev pub acceptance : Option ℕ → ℕ → ℕ → ℕ → ℕ → Outcome
+acceptance start placed adjusted names low = Ok (record { start = start; placed = placed; adjusted = adjusted; new_names = names; low = low })
+
+abbrev pub refusal : Fault → ℕ → ℕ → Outcome
+refusal fault offset side = Err (record { fault = fault; offset = offset; side = side })
 
 -- the table "Numbers a bench can show"; 24 and 25 by document 02, wish 5
 abbrev pub number_of : Fault → ℕ
@@ -35,35 +43,34 @@ number_of WrongVersion = 24  -- another version of the index
 number_of IndexTooLong = 25  -- the index wouldn't fit
 
 -- "start present (1 or 0), start address", and "an absent number is zero wherever it is reported or written"
-abbrev pub present : Start → ℕ
-present Absent = 0
-present (At a) = 1
+abbrev pub present : Option ℕ → ℕ
+present None = 0
+present (Some a) = 1
 
-abbrev pub address : Start → ℕ
-address Absent = 0
-address (At a) = a
+abbrev pub address : Option ℕ → ℕ
+address None = 0
+address (Some a) = a
 
 -- "nine four-byte numbers, low byte first, in the order number, offset, side, start present (1 or 0), start address, placed, adjusted, new
 -- names, low".
 -- "An acceptance reports number 0"; "a refusal reports its number and the offset .., all else zero"
 abbrev pub numbers_of : Outcome → List ℕ
-numbers_of (Accepted start placed adjusted names low) =
-    0 ∷ 0 ∷ 0 ∷ present start ∷ address start ∷ placed ∷ adjusted ∷ names ∷ low ∷ []
-numbers_of (Refused fault offset side) = number_of fault ∷ offset ∷ side ∷ 0 ∷ 0 ∷ 0 ∷ 0 ∷ 0 ∷ 0 ∷ []
+numbers_of (Ok a) = 0 ∷ 0 ∷ 0 ∷ present a.start ∷ address a.start ∷ a.placed ∷ a.adjusted ∷ a.new_names ∷ a.low ∷ []
+numbers_of (Err r) = number_of r.fault ∷ r.offset ∷ r.side ∷ 0 ∷ 0 ∷ 0 ∷ 0 ∷ 0 ∷ 0 ∷ []
 
 -- the call was accepted
 abbrev pub IsAccepted : Outcome → Type 0
-IsAccepted (Accepted start placed adjusted names low) = Unit {0}
-IsAccepted (Refused fault offset side) = ⊥
+IsAccepted (Ok a) = Unit {0}
+IsAccepted (Err r) = ⊥
 
 -- the counts of an outcome, "an absent number is zero"
 abbrev pub placed_of : Outcome → ℕ
-placed_of (Accepted start placed adjusted names low) = placed
-placed_of (Refused fault offset side) = 0
+placed_of (Ok a) = a.placed
+placed_of (Err r) = 0
 
 abbrev pub adjusted_of : Outcome → ℕ
-adjusted_of (Accepted start placed adjusted names low) = adjusted
-adjusted_of (Refused fault offset side) = 0
+adjusted_of (Ok a) = a.adjusted
+adjusted_of (Err r) = 0
 
 -- "the number is also returned"
 abbrev pub number_returned : Outcome → ℕ

@@ -3,59 +3,63 @@
 #![tactic(auto)]
 
 ghost use Rattle.std.specs.Prelude.{◌≡◌, ◌<◌, length};
-ghost use Rattle.answer.specs.declared.Outcome.TheVariants.{Refused};
-ghost use Rattle.answer.specs.Report.{number_of, numbers_of, number_returned, answer_length, Written};
+ghost use Rattle.answer.specs.Report.{refusal, number_of, numbers_of, number_returned, answer_length, Written};
 
-// What is wrong: a variant for each row of the table "Numbers a bench can show", in its order, and for each number that document 02 adds to it.
+// What is wrong: a variant for each row of the table "Numbers a bench can show", in its order and with its number, and for each number that
+// document 02 adds to it.
 #[derive(Clone, Copy)]
 pub enum Fault {
-    WrongBuffer,
-    SettingOutOfRange,
-    FileTooLong,
-    WrongOpening,
-    CutShort,
-    NotKnown,
-    BlockTaken,
-    BlockMissing,
-    LengthNotAllowed,
-    DoesNotFit,
-    CounterUnusable,
-    FieldNotLoaded,
-    AdjustedTwice,
-    NameUnknown,
-    TooManyNames,
-    NameOutsideBlock,
-    PiecesOverlap,
-    FixupUnsuited,
-    BytesAfterEnd,
-    StartTooHigh,
-    WrongVersion,
-    IndexTooLong,
+    WrongBuffer = 1,
+    SettingOutOfRange = 2,
+    FileTooLong = 3,
+    WrongOpening = 4,
+    CutShort = 5,
+    NotKnown = 6,
+    BlockTaken = 7,
+    BlockMissing = 8,
+    LengthNotAllowed = 9,
+    DoesNotFit = 10,
+    CounterUnusable = 11,
+    FieldNotLoaded = 12,
+    AdjustedTwice = 13,
+    NameUnknown = 14,
+    TooManyNames = 15,
+    NameOutsideBlock = 16,
+    PiecesOverlap = 17,
+    FixupUnsuited = 18,
+    BytesAfterEnd = 19,
+    StartTooHigh = 20,
+    WrongVersion = 24,
+    IndexTooLong = 25,
 }
 
-// Where a program starts.
+// What a part of the work found wrong: a fault, and the offset of the first byte at fault.
 #[derive(Clone, Copy)]
-pub enum Start {
-    Absent,
-    At(u16),
+pub struct Failure {
+    pub fault: Fault,
+    pub offset: usize,
 }
 
-// How a call ends. The side of a refusal is 1 where the mover's new bases are at fault, else 0.
+// What an accepted call comes to: where the program starts, the bytes placed, the fields adjusted, the new names, and low.
 #[derive(Clone, Copy)]
-pub enum Outcome {
-    Accepted {
-        start: Start,
-        placed: u32,
-        adjusted: u32,
-        new_names: u32,
-        low: u32,
-    },
-    Refused {
-        fault: Fault,
-        offset: u32,
-        side: u32,
-    },
+pub struct Acceptance {
+    pub start: Option<u16>,
+    pub placed: u32,
+    pub adjusted: u32,
+    pub new_names: u32,
+    pub low: u32,
 }
+
+// Why a call is refused. The side is 1 where the mover's new bases are at fault, else 0: a number, as the answer has it.
+#[derive(Clone, Copy)]
+pub struct Refusal {
+    pub fault: Fault,
+    pub offset: u32,
+    pub side: u32,
+}
+
+// How a call ends.
+pub type Outcome = Result<Acceptance, Refusal>;
 
 // The numbers of an answer: number, offset, side, start present, start address, placed, adjusted, new names, low.
 pub type Numbers = [u32; 9];
@@ -63,43 +67,20 @@ pub type Numbers = [u32; 9];
 // A refusal with a fault and its offset, at side 0.
 pub fn refused(fault: Fault, offset: usize) -> Outcome
     requires { offset < 4294967296 }
-    ensures { result ≡ Refused fault offset 0 }
+    ensures { result ≡ refusal fault offset 0 }
 {
-    Outcome::Refused {
+    Err(Refusal {
         fault,
         offset: offset as u32,
         side: 0,
-    }
+    })
 }
 
 // The number of a fault.
 pub fn fault_number(fault: Fault) -> u32
     ensures { result ≡ number_of fault }
 {
-    match fault {
-        Fault::WrongBuffer => 1,
-        Fault::SettingOutOfRange => 2,
-        Fault::FileTooLong => 3,
-        Fault::WrongOpening => 4,
-        Fault::CutShort => 5,
-        Fault::NotKnown => 6,
-        Fault::BlockTaken => 7,
-        Fault::BlockMissing => 8,
-        Fault::LengthNotAllowed => 9,
-        Fault::DoesNotFit => 10,
-        Fault::CounterUnusable => 11,
-        Fault::FieldNotLoaded => 12,
-        Fault::AdjustedTwice => 13,
-        Fault::NameUnknown => 14,
-        Fault::TooManyNames => 15,
-        Fault::NameOutsideBlock => 16,
-        Fault::PiecesOverlap => 17,
-        Fault::FixupUnsuited => 18,
-        Fault::BytesAfterEnd => 19,
-        Fault::StartTooHigh => 20,
-        Fault::WrongVersion => 24,
-        Fault::IndexTooLong => 25,
-    }
+    fault as u32
 }
 
 // The nine numbers of an outcome.
@@ -107,21 +88,25 @@ pub fn numbers(outcome: Outcome) -> Numbers
     ensures { result ≡ numbers_of outcome }
 {
     match outcome {
-        Outcome::Accepted {
-            start,
-            placed,
-            adjusted,
-            new_names,
-            low,
-        } => match start {
-            Start::Absent => [0, 0, 0, 0, 0, placed, adjusted, new_names, low],
-            Start::At(address) => [0, 0, 0, 1, address as u32, placed, adjusted, new_names, low],
+        Ok(
+            Acceptance {
+                start,
+                placed,
+                adjusted,
+                new_names,
+                low,
+            },
+        ) => match start {
+            None => [0, 0, 0, 0, 0, placed, adjusted, new_names, low],
+            Some(address) => [0, 0, 0, 1, address as u32, placed, adjusted, new_names, low],
         },
-        Outcome::Refused {
-            fault,
-            offset,
-            side,
-        } => [fault_number(fault), offset, side, 0, 0, 0, 0, 0, 0],
+        Err(
+            Refusal {
+                fault,
+                offset,
+                side,
+            },
+        ) => [fault_number(fault), offset, side, 0, 0, 0, 0, 0, 0],
     }
 }
 

@@ -4,17 +4,17 @@ use mathlib.Core.Bool.{false}
 use mathlib.Core.List.{List}
 use mathlib.Core.Path.{◌≡◌}
 use Prim.Native.Nat.{ℕ, zero, suc, ◌≤◌}
+use Rattle.std.proofs.Common.{Ok, Err}
 use Rattle.answer.proofs.Faults.{is_early, PlaceOf, OfFile, of_file_located}
 use Rattle.answer.specs.declared.Fault.{Fault}
-use Rattle.events.specs.Events.{Event, marks, Ran}
+use Rattle.answer.specs.Checks.{failure}
+use Rattle.events.specs.Events.{Event, marks, Ran, Check}
 use Rattle.events.specs.Walk.{Turn, ends, leads, onward, walk, from}
-use Rattle.events.specs.declared.Check.{Check}
-use Rattle.events.specs.declared.Check.TheVariants.{Passed, Failed}
 
 -- a check passed, or failed with a fault of the file
 abbrev pub CheckFaults : ℕ → Check → Type 0
-CheckFaults len Passed = Unit {0}
-CheckFaults len (Failed fault offset) = OfFile len fault offset
+CheckFaults len (Ok done) = Unit {0}
+CheckFaults len (Err e) = OfFile len e.fault e.offset
 
 -- (the same as a record)
 pub record Checks (len : ℕ) (c : Check) : Type 0 where
@@ -25,12 +25,12 @@ abbrev pub Faults : ℕ → Ran Check → Type 0
 Faults len o = Checks len o.answer
 
 -- a check failed with a fault that is not 1, 2 or 3, at its place
-pub fails : {len : ℕ} {fault : Fault} {offset : ℕ} → is_early fault ≡ false → PlaceOf len fault offset → Checks len (Failed fault offset)
+pub fails : {len : ℕ} {fault : Fault} {offset : ℕ} → is_early fault ≡ false → PlaceOf len fault offset → Checks len (failure fault offset)
 fails l w = record { faults = record { late = l; place = w } }
 
 -- so where it failed, the offset is one of the file's, or its length
-pub check_within : {len : ℕ} {c : Check} {fault : Fault} {offset : ℕ} → Checks len c → c ≡ Failed fault offset → offset ≤ len
-check_within {len} {c} {fault} {offset} h e = let g : CheckFaults len (Failed fault offset) = rw e at h.faults in (of_file_located g).within
+pub check_within : {len : ℕ} {c : Check} {fault : Fault} {offset : ℕ} → Checks len c → c ≡ failure fault offset → offset ≤ len
+check_within {len} {c} {fault} {offset} h e = let g : CheckFaults len (failure fault offset) = rw e at h.faults in (of_file_located g).within
 
 -- what holds of the answer with which a turn ends its walk, if it does
 abbrev pub Ending : {S A : Type 0} → (A → Type 0) → Turn S A → Type 0

@@ -6,11 +6,10 @@ use mathlib.Core.Path.{◌≡◌, refl, sym, ap, ◌∙◌, subst}
 use Prim.Native.Nat.{ℕ, ◌<◌}
 use Rattle.events.proofs.Checks.{passed_is}
 use Rattle.events.proofs.Walks.{walk_begins, walk_goes_on, walk_ends, EndsAt, walk_keeps}
-use Rattle.events.specs.Events.{Event, marks, blank, Ran}
+use Rattle.std.proofs.Common.{Ok}
+use Rattle.events.specs.Events.{Event, marks, blank, Ran, Check}
 use Rattle.events.specs.Trace.{Trace, at_start, after_step, NextStep}
 use Rattle.events.specs.Walk.{Turn, ends, leads, after, from}
-use Rattle.events.specs.declared.Check.{Check}
-use Rattle.events.specs.declared.Check.TheVariants.{Passed}
 
 module _ {S A : Type 0} (turn : S → List ℕ → Ran (Turn S A)) (last : S → A) (measure : S → ℕ)
     (falls : (s z : S) (map : List ℕ) → (turn s map).answer ≡ leads z → measure z < measure s) (p : List ℕ)
@@ -45,13 +44,13 @@ module _ {S R : Type 0} (Onward : R → Type 0) (there : S → R) (checked : S �
     pub found : R
     pub is : there s ≡ found
     pub on : Onward found
-    pub passed : (checked s map).answer ≡ Passed
+    pub passed : (checked s map).answer ≡ Ok tt
     pub to : stepped s found ≡ z
 
   -- turns by steps
   pub record BySteps {A : Type 0} (turn : S → List ℕ → Ran (Turn S A)) : Type 0 where
     pub does : (s : S) (map : List ℕ) → (turn s map).events ≡ (checked s map).events
-    pub on : (s : S) (map : List ℕ) (r : R) → there s ≡ r → Onward r → (checked s map).answer ≡ Passed → (turn s map).answer ≡ leads (stepped s r)
+    pub on : (s : S) (map : List ℕ) (r : R) → there s ≡ r → Onward r → (checked s map).answer ≡ Ok tt → (turn s map).answer ≡ leads (stepped s r)
     pub led : (s : S) (map : List ℕ) (z : S) → (turn s map).answer ≡ leads z → Led s map z
 
 module _ {S R A : Type 0} {Onward : R → Type 0} {there : S → R} {checked : S → List ℕ → Ran Check} {stepped : S → R → S}
@@ -91,10 +90,10 @@ module _ {S R A : Type 0} {Onward : R → Type 0} {there : S → R} {checked : S
 
     -- where each step's events are those more that its state tells of
     module _ (told : S → List Event)
-        (told_on : (s : S) (map : List ℕ) (r : R) → there s ≡ r → Onward r → (checked s map).answer ≡ Passed
+        (told_on : (s : S) (map : List ℕ) (r : R) → there s ≡ r → Onward r → (checked s map).answer ≡ Ok tt
         → told (stepped s r) ≡ told s ++ (checked s map).events)
         (P : S → Type 0)
-        (keeps : (s : S) (r : R) → P s → there s ≡ r → Onward r → (checked s (marks (told s) blank)).answer ≡ Passed → P (stepped s r)) where
+        (keeps : (s : S) (r : R) → P s → there s ≡ r → Onward r → (checked s (marks (told s) blank)).answer ≡ Ok tt → P (stepped s r)) where
       -- a state that a walk has come to by its events, with P
       pub record Held (s : S) (es : List Event) : Type 0 where
         pub held : P s

@@ -1,12 +1,12 @@
 -- What a load does, as a list of events in their order; and what they leave in memory, in the map and in the counts.
 -- Assumes nothing.
-use Rattle.std.specs.Prelude.{Bool, true, false, List, [], ◌∷◌, ◌≡◌, ℕ, ◌+◌, length, replicate}
+use Rattle.std.specs.Prelude.{Bool, true, false, List, [], ◌∷◌, ◌≡◌, ℕ, ◌+◌, length, replicate, Result, Ok}
+use Rattle.answer.specs.Checks.{failure}
+use Rattle.answer.specs.declared.Failure.{Failure}
 use Rattle.answer.specs.declared.Fault.{Fault}
 use Rattle.words.specs.Numbers.{on, change}
 use Rattle.words.specs.Runs.{put}
 use Rattle.events.specs.Sizes.{memory_size}
-use Rattle.events.specs.declared.Check.{Check}
-use Rattle.events.specs.declared.Check.TheVariants.{Passed, Failed}
 
 -- "these events": bytes placed from an address on; so many addresses reserved; a field of so many bytes at an address adjusted by an amount
 pub data Event : Type 0 where
@@ -69,12 +69,16 @@ pub record Ran (A : Type 0) : Type 0 where
   pub answer : A
   pub events : List Event
 
+-- what became of a check: it passed, or failed with a fault at an offset of the file
+abbrev pub Check : Type 0
+Check = Result (Unit {0}) Failure
+
 -- a check that failed, with no event; one that passed, with its events
 abbrev pub failed : Fault → ℕ → Ran Check
-failed fault offset = record { answer = Failed fault offset; events = [] }
+failed fault offset = record { answer = failure fault offset; events = [] }
 
 abbrev pub passed : List Event → Ran Check
-passed es = record { answer = Passed; events = es }
+passed es = record { answer = Ok tt; events = es }
 
 -- memory after the events where they are carried out, and as it was where the file is only checked
 abbrev pub play_if : Bool → List Event → List ℕ → List ℕ

@@ -1,8 +1,7 @@
 -- How a file is gone through, step by step: the words in which a format says that a file follows its rules. No count of turns is in it.
 -- Assumes nothing.
 use Rattle.std.specs.Prelude.{List, [], ◌++◌, ◌≡◌, ℕ}
-use Rattle.events.specs.Events.{Event, marks, blank, Ran, passed}
-use Rattle.events.specs.declared.Check.{Check}
+use Rattle.events.specs.Events.{Event, marks, blank, Ran, Check, passed}
 
 -- Steps from a first state on, each after the events of those before it: `Step y es z fs` says that the step at y, after the events es, leads on
 -- to z by the events fs.

@@ -2,10 +2,8 @@
 -- The turns are counted down, so that there is an end in any case; `from_turn` (proofs/Walks.antt) is the equation to read where each turn
 -- brings its state's measure down, and nothing after it looks at the count.
 -- Assumes nothing.
-use Rattle.std.specs.Prelude.{List, [], ◌++◌, ℕ, zero, suc, ◌-◌, length}
-use Rattle.events.specs.Events.{Event, marks, Ran}
-use Rattle.events.specs.declared.Check.{Check}
-use Rattle.events.specs.declared.Check.TheVariants.{Passed, Failed}
+use Rattle.std.specs.Prelude.{List, [], ◌++◌, ℕ, zero, suc, ◌-◌, length, Ok, Err}
+use Rattle.events.specs.Events.{Event, marks, Ran, Check}
 
 -- what a turn comes to: it ends the walk with an answer, or leads to another state
 pub data Turn (S A : Type 0) : Type 0 where
@@ -18,8 +16,8 @@ after es rest = record { answer = rest.answer; events = es ++ rest.events }
 
 -- a part of the work, and another after it where it passed, over the map as it left it
 abbrev pub and_then : List ℕ → Check → List Event → (List ℕ → Ran Check) → Ran Check
-and_then map Passed es next = after es (next (marks es map))
-and_then map (Failed fault offset) es next = record { answer = Failed fault offset; events = es }
+and_then map (Ok done) es next = after es (next (marks es map))
+and_then map (Err failure) es next = record { answer = Err failure; events = es }
 
 -- how a walk goes on after a turn with these events
 abbrev pub onward : {S A : Type 0} → (S → List ℕ → Ran A) → List ℕ → List Event → Turn S A → Ran A

@@ -5,7 +5,7 @@
 ghost use Rattle.std.specs.Prelude.{[], ◌∷◌, ◌≡◌, ◌+◌, ◌≤◌, length};
 ghost use Rattle.events.specs.Events.{place as place_of, reserve as reserve_of, adjust, marks, Reached};
 
-use answer::Fault;
+use answer::Failure;
 
 // The length of memory and of the map.
 pub const MEMORY: usize = 65536;
@@ -21,11 +21,7 @@ pub const RESERVED: u8 = 2;
 pub const ADJUSTED: u8 = 3;
 
 // What became of a part of the work: it passed, or failed with a fault at an offset of the file.
-#[derive(Clone, Copy)]
-pub enum Check {
-    Passed,
-    Failed(Fault, usize),
-}
+pub type Check = Result<(), Failure>;
 
 // Places bytes from `at` on.
 pub fn place(bytes: &[u8], at: usize, write: bool, memory: &mut [u8], map: &mut [u8])
