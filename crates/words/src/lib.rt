@@ -38,28 +38,14 @@ pub fn big_word_at(bytes: &[u8], at: usize) -> u16
 pub fn is_zero(bytes: &[u8]) -> bool
     ensures { result ≡ all_zero bytes.now }
 {
-    let mut i = 0;
-    while i < bytes.len() {
-        if bytes[i] != 0 {
-            return false;
-        }
-        i += 1;
-    }
-    true
+    bytes.iter().all(|byte| *byte == 0)
 }
 
 // Whether one of the bytes is `byte`.
 pub fn contains(bytes: &[u8], byte: u8) -> bool
     ensures { result ≡ contains_of byte bytes.now }
 {
-    let mut i = 0;
-    while i < bytes.len() {
-        if bytes[i] == byte {
-            return true;
-        }
-        i += 1;
-    }
-    false
+    bytes.contains(&byte)
 }
 
 // Puts the word into the two bytes at `at`, in which it has room.
@@ -120,11 +106,7 @@ pub fn encode_words(bytes: &mut [u8], words: &[u16])
 pub fn fill(bytes: &mut [u8], byte: u8)
     ensures { bytes.new ≡ replicate (length bytes.old) byte }
 {
-    let mut i = 0;
-    while i < bytes.len() {
-        bytes[i] = byte;
-        i += 1;
-    }
+    bytes.fill(byte);
 }
 
 // Puts all of `from` into a run as long.
@@ -132,11 +114,7 @@ pub fn copy(to: &mut [u8], from: &[u8])
     requires { length from.now ≡ length to.old }
     ensures { to.new ≡ from.now }
 {
-    let mut i = 0;
-    while i < from.len() {
-        to[i] = from[i];
-        i += 1;
-    }
+    to.copy_from_slice(from);
 }
 
 // Adds the amount to the number of `width` bytes at `at`, a byte or a word: "modulo 65,536 for words, 256 for bytes".
