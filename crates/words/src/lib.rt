@@ -19,9 +19,7 @@ pub fn word_at(bytes: &[u8], at: usize) -> u16
     requires { at + 2 ≤ length bytes.now }
     ensures { result ≡ value 2 bytes.now at }
 {
-    let low = wide(bytes[at]);
-    let high = wide(bytes[at + 1]);
-    (low + 256 * high) as u16
+    u16::from_le_bytes([bytes[at], bytes[at + 1]])
 }
 
 // The word at `at`, high byte first.
@@ -29,9 +27,7 @@ pub fn big_word_at(bytes: &[u8], at: usize) -> u16
     requires { at + 2 ≤ length bytes.now }
     ensures { result ≡ big_value 2 bytes.now at }
 {
-    let high = wide(bytes[at]);
-    let low = wide(bytes[at + 1]);
-    (256 * high + low) as u16
+    u16::from_be_bytes([bytes[at], bytes[at + 1]])
 }
 
 // Whether every byte is zero.
@@ -53,8 +49,7 @@ pub fn put_word(bytes: &mut [u8], at: usize, word: u16)
     requires { at + 2 ≤ length bytes.old }
     ensures { (bytes.new ≡ store 2 bytes.old at word) × (word < 256 ^ 2) }
 {
-    bytes[at] = (word % 256) as u8;
-    bytes[at + 1] = (word / 256 % 256) as u8;
+    bytes[at..at + 2].copy_from_slice(&word.to_le_bytes());
 }
 
 // Puts the word into the two bytes at `at`, in which it has room, high byte first.
@@ -62,8 +57,7 @@ pub fn put_big_word(bytes: &mut [u8], at: usize, word: u16)
     requires { at + 2 ≤ length bytes.old }
     ensures { (bytes.new ≡ big_store 2 bytes.old at word) × (word < 256 ^ 2) }
 {
-    bytes[at] = (word / 256 % 256) as u8;
-    bytes[at + 1] = (word % 256) as u8;
+    bytes[at..at + 2].copy_from_slice(&word.to_be_bytes());
 }
 
 // Puts the number into the four bytes at `at`, in which it has room.
@@ -71,10 +65,7 @@ pub fn put_number(bytes: &mut [u8], at: usize, number: u32)
     requires { at + 4 ≤ length bytes.old }
     ensures { (bytes.new ≡ store 4 bytes.old at number) × (number < 256 ^ 4) }
 {
-    bytes[at] = (number % 256) as u8;
-    bytes[at + 1] = (number / 256 % 256) as u8;
-    bytes[at + 2] = (number / 256 / 256 % 256) as u8;
-    bytes[at + 3] = (number / 256 / 256 / 256 % 256) as u8;
+    bytes[at..at + 4].copy_from_slice(&number.to_le_bytes());
 }
 
 // Puts the words of a list of byte pairs at the front of `words`.
