@@ -69,27 +69,24 @@ pub fn put_number(bytes: &mut [u8], at: usize, number: u32)
 }
 
 // Puts the words of a list of byte pairs at the front of `words`.
+#[tactic(auto, using(crate::proofs::Turns::decode_more), unfolding(crate::specs::Numbers::decoded, crate::specs::Runs::put))]
 pub fn decode_words(words: &mut [u16], bytes: &[u8])
     requires { length bytes.now / 2 ≤ length words.old }
     ensures { words.new ≡ put words.old 0 (decoded 2 (length bytes.now / 2) bytes.now) }
 {
-    let count = bytes.len() / 2;
-    let mut i = 0;
-    while i < count {
+    for i in 0..bytes.len() / 2 {
         words[i] = word_at(bytes, 2 * i);
-        i += 1;
     }
 }
 
 // Puts all words into a list of byte pairs, from which they read back.
+#[tactic(auto, using(crate::proofs::Turns::encode_more), unfolding(crate::specs::Numbers::encoded))]
 pub fn encode_words(bytes: &mut [u8], words: &[u16])
     requires { length bytes.old ≡ 2 * length words.now }
     ensures { (bytes.new ≡ encoded 2 words.now) × (decoded 2 (length words.now) bytes.new ≡ words.now) }
 {
-    let mut i = 0;
-    while i < words.len() {
-        put_word(bytes, 2 * i, words[i]);
-        i += 1;
+    for (i, word) in words.iter().enumerate() {
+        put_word(bytes, 2 * i, *word);
     }
 }
 
