@@ -1,6 +1,6 @@
--- Looking through all bytes; and one turn, and the end, of the loops that write or read numbers in a row.
+-- Looking through all bytes; and one turn, and the end, of loops that copy, that look for a byte and that write or read numbers in a row.
 -- Assumes nothing.
-use Rattle.std.proofs.Common.{◌≡◌, ℕ, zero, suc, ◌+◌, ◌*◌, ◌<◌, ◌≤◌, Bool, ◌&&◌, ◌||◌, List, [], ◌∷◌, ◌++◌, length, get_or, take, drop, set, refl, ap, ◌∙◌, subst, append_assoc, append-nil, le_of_suc-le-suc, not-suc-le-zero, mul-suc, add-one, arith, length-append, length-drop, length-take-le, drop-cons, take-suc, drop-drop, take_at, eq-eqb, ne_eqb}
+use Rattle.std.proofs.Common.{◌≡◌, ℕ, zero, suc, ◌+◌, ◌*◌, ◌<◌, ◌≤◌, true, false, List, [], ◌∷◌, ◌++◌, length, get_or, take, drop, set, refl, ap, ◌∙◌, subst, append_assoc, append-nil, le_of_suc-le-suc, not-suc-le-zero, mul-suc, add-one, arith, length-append, length-drop, length-take-le, drop-cons, take-suc, drop-drop, take_at, eq-eqb, ne_eqb, Bool, ◌&&◌, ◌||◌}
 use Rattle.std.specs.Prelude.{◌==◌}
 use Rattle.std.specs.List.{list_all, list_any}
 use native.Mathlib.Decide.{dec_lt}
@@ -22,6 +22,46 @@ pub any_is : (v : ℕ) (l : List ℕ) → list_any (λ b. b == v) l ≡ contains
 unfolding contains
 any_is v [] = refl
 any_is v (b ∷ l) = ap (λ (r : Bool). b == v || r) (any_is v l)
+
+-- ---- copying
+
+one_copied : (s d : List ℕ) (i : ℕ) → i < length s → i < length d → set (take i s ++ drop i d) i (get_or s i 0) ≡ take (suc i) s ++ drop (suc i) d
+one_copied [] d i h k = absurd (not-suc-le-zero h)
+one_copied (x ∷ xs) [] i h k = absurd (not-suc-le-zero k)
+one_copied (x ∷ xs) (y ∷ ys) zero h k = refl
+one_copied (x ∷ xs) (y ∷ ys) (suc i) h k = ap (λ (l : List ℕ). x ∷ l) (one_copied xs ys i (le_of_suc-le-suc h) (le_of_suc-le-suc k))
+
+-- a turn copies one byte more
+pub copy_more : (s d : List ℕ) (i : ℕ) → i < length s → i < length d → set (take i s ++ drop i d) i (get_or s i 0) ≡ take (i + 1) s ++ drop (i + 1) d
+copy_more s d i h k = rw add-one (one_copied s d i h k)
+
+-- at the end all of it is copied
+pub copy_all : (s d : List ℕ) → length s ≡ length d → take (length s) s ++ drop (length s) d ≡ s
+copy_all s d e = rw take-length (rw (e, drop-length, append-nil))
+
+-- ---- looking for a byte other than zero
+
+-- a zero leaves the rest to decide
+pub zero_more : (l : List ℕ) (i : ℕ) → i < length l → get_or l i 0 ≡ 0 → all_zero (drop i l) ≡ all_zero (drop (i + 1) l)
+unfolding all_zero
+zero_more l i h e = rw (add-one, drop-cons l i 0 h, eq-eqb _ 0 e)
+
+-- any other byte decides
+pub zero_not : (l : List ℕ) (i : ℕ) → i < length l → (get_or l i 0 ≡ 0 → ⊥) → all_zero (drop i l) ≡ false
+unfolding all_zero
+zero_not l i h e = rw (drop-cons l i 0 h, ne_eqb _ 0 e)
+
+-- ---- looking for a byte
+
+-- another byte leaves the rest to decide
+pub contains_more : (v : ℕ) (l : List ℕ) (i : ℕ) → i < length l → (get_or l i 0 ≡ v → ⊥) → contains v (drop i l) ≡ contains v (drop (i + 1) l)
+unfolding contains
+contains_more v l i h e = rw (add-one, drop-cons l i 0 h, ne_eqb _ v e)
+
+-- the byte itself decides
+pub contains_found : (v : ℕ) (l : List ℕ) (i : ℕ) → i < length l → get_or l i 0 ≡ v → contains v (drop i l) ≡ true
+unfolding contains
+contains_found v l i h e = rw (drop-cons l i 0 h, eq-eqb _ v e)
 
 -- ---- writing numbers of k bytes in a row
 

@@ -111,54 +111,17 @@ pub fn add(bytes: &mut [u8], at: usize, width: usize, amount: u16)
     ensures { bytes.new ≡ change width (on width amount) bytes.old at }
 {
     if width == 1 {
-        add_to_byte(bytes, at, amount);
+        bytes[at] = bytes[at].wrapping_add((amount % 256) as u8);
         return;
     }
-    add_to_word(bytes, at, amount);
+    let word = word_at(bytes, at);
+    put_word(bytes, at, word.wrapping_add(amount));
 }
 
-// Takes the amount off the number of `width` bytes at `at`, likewise.
+// Takes the amount off the number of `width` bytes at `at`, likewise: adds what makes 65,536 of the amount.
 pub fn take_off(bytes: &mut [u8], at: usize, width: usize, amount: u16)
     requires { (at + width ≤ length bytes.old) × (1 ≤ width) × (width ≤ 2) }
     ensures { bytes.new ≡ change width (off width amount) bytes.old at }
 {
-    if width == 1 {
-        take_off_byte(bytes, at, amount);
-        return;
-    }
-    take_off_word(bytes, at, amount);
-}
-
-// Adds the amount to the byte at `at`.
-fn add_to_byte(bytes: &mut [u8], at: usize, amount: u16)
-    requires { at + 1 ≤ length bytes.old }
-    ensures { bytes.new ≡ change 1 (on 1 amount) bytes.old at }
-{
-    bytes[at] = std::num::wrapping_add_u8(bytes[at], (amount % 256) as u8);
-}
-
-// Adds the amount to the word at `at`.
-fn add_to_word(bytes: &mut [u8], at: usize, amount: u16)
-    requires { at + 2 ≤ length bytes.old }
-    ensures { bytes.new ≡ change 2 (on 2 amount) bytes.old at }
-{
-    let word = word_at(bytes, at);
-    put_word(bytes, at, std::num::wrapping_add_u16(word, amount));
-}
-
-// Takes the amount off the byte at `at`.
-fn take_off_byte(bytes: &mut [u8], at: usize, amount: u16)
-    requires { at + 1 ≤ length bytes.old }
-    ensures { bytes.new ≡ change 1 (off 1 amount) bytes.old at }
-{
-    bytes[at] = std::num::wrapping_sub_u8(bytes[at], (amount % 256) as u8);
-}
-
-// Takes the amount off the word at `at`.
-fn take_off_word(bytes: &mut [u8], at: usize, amount: u16)
-    requires { at + 2 ≤ length bytes.old }
-    ensures { bytes.new ≡ change 2 (off 2 amount) bytes.old at }
-{
-    let word = word_at(bytes, at);
-    put_word(bytes, at, std::num::wrapping_sub_u16(word, amount));
+    add(bytes, at, width, amount.wrapping_neg());
 }

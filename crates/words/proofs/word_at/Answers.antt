@@ -5,4 +5,4 @@ use Rattle.words.proofs.Numbers.{value_word}
 use Rattle.words.proofs.word_at.Goals as goal
 
 pub returns : goal.returns
-returns c = omega (arith, c.from_le_bytes.ensures, value_word c.args.bytes.now c.args.at)
+returns c = omega (arith, value_word c.args.bytes.now c.args.at)
