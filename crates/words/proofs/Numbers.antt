@@ -112,6 +112,14 @@ pub off_is : (k a v r : ℕ) → r < 256 ^ k → (r + a) % 256 ^ k ≡ v → r �
 unfolding on
 off_is k a v r h e = sym (off_on k a r h) ∙ ap (off k a) e
 
+-- of a byte and of a word: what makes 65,536 or nothing of the amount, put on, is the amount off
+pub on_rest : (k a r v : ℕ) → 1 ≤ k → k ≤ 2 → (r + a) % 65536 ≡ 0 → on k r v ≡ off k a v
+unfolding on off
+on_rest zero a r v h g e = absurd (omega arith)
+on_rest (suc zero) a r v h g e = omega arith
+on_rest (suc (suc zero)) a r v h g e = omega arith
+on_rest (suc (suc (suc k))) a r v h g e = absurd (omega arith)
+
 -- ---- numbers in a row
 
 -- each number takes k bytes

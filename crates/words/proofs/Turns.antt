@@ -1,12 +1,27 @@
--- One turn, and the end, of the loops that copy, that look for a byte and that write or read numbers in a row.
+-- Looking through all bytes; and one turn, and the end, of loops that copy, that look for a byte and that write or read numbers in a row.
 -- Assumes nothing.
-use Rattle.std.proofs.Common.{◌≡◌, ℕ, zero, suc, ◌+◌, ◌*◌, ◌<◌, ◌≤◌, true, false, List, [], ◌∷◌, ◌++◌, length, get_or, take, drop, set, refl, ap, ◌∙◌, subst, append_assoc, append-nil, le_of_suc-le-suc, not-suc-le-zero, mul-suc, add-one, arith, length-append, length-drop, length-take-le, drop-cons, take-suc, drop-drop, take_at, eq-eqb, ne_eqb}
+use Rattle.std.proofs.Common.{◌≡◌, ℕ, zero, suc, ◌+◌, ◌*◌, ◌<◌, ◌≤◌, true, false, List, [], ◌∷◌, ◌++◌, length, get_or, take, drop, set, refl, ap, ◌∙◌, subst, append_assoc, append-nil, le_of_suc-le-suc, not-suc-le-zero, mul-suc, add-one, arith, length-append, length-drop, length-take-le, drop-cons, take-suc, drop-drop, take_at, eq-eqb, ne_eqb, Bool, ◌&&◌, ◌||◌}
+use Rattle.std.specs.Prelude.{◌==◌}
+use Rattle.std.specs.List.{list_all, list_any}
 use native.Mathlib.Decide.{dec_lt}
 use lib.Seq.{take-length, drop-length, drop-append-add, sets-eq}
 use Rattle.words.proofs.Numbers.{length_digits, length_encoded, length_decoded}
 use Rattle.words.proofs.Runs.{put_append}
 use Rattle.words.specs.Numbers.{digits, value, store, encoded, decoded}
 use Rattle.words.specs.Runs.{put, all_zero, contains}
+
+-- ---- looking through all bytes
+
+-- the library's test of each byte asks what `all_zero` and `contains` ask
+pub all_is : (l : List ℕ) → list_all (λ b. b == 0) l ≡ all_zero l
+unfolding all_zero
+all_is [] = refl
+all_is (b ∷ l) = ap (λ (r : Bool). b == 0 && r) (all_is l)
+
+pub any_is : (v : ℕ) (l : List ℕ) → list_any (λ b. b == v) l ≡ contains v l
+unfolding contains
+any_is v [] = refl
+any_is v (b ∷ l) = ap (λ (r : Bool). b == v || r) (any_is v l)
 
 -- ---- copying
 

@@ -19,9 +19,7 @@ pub fn word_at(bytes: &[u8], at: usize) -> u16
     requires { at + 2 ≤ length bytes.now }
     ensures { result ≡ value 2 bytes.now at }
 {
-    let low = wide(bytes[at]);
-    let high = wide(bytes[at + 1]);
-    (low + 256 * high) as u16
+    u16::from_le_bytes([bytes[at], bytes[at + 1]])
 }
 
 // The word at `at`, high byte first.
@@ -29,37 +27,21 @@ pub fn big_word_at(bytes: &[u8], at: usize) -> u16
     requires { at + 2 ≤ length bytes.now }
     ensures { result ≡ big_value 2 bytes.now at }
 {
-    let high = wide(bytes[at]);
-    let low = wide(bytes[at + 1]);
-    (256 * high + low) as u16
+    u16::from_be_bytes([bytes[at], bytes[at + 1]])
 }
 
 // Whether every byte is zero.
 pub fn is_zero(bytes: &[u8]) -> bool
     ensures { result ≡ all_zero bytes.now }
 {
-    let mut i = 0;
-    while i < bytes.len() {
-        if bytes[i] != 0 {
-            return false;
-        }
-        i += 1;
-    }
-    true
+    bytes.iter().all(|byte| *byte == 0)
 }
 
 // Whether one of the bytes is `byte`.
 pub fn contains(bytes: &[u8], byte: u8) -> bool
     ensures { result ≡ contains_of byte bytes.now }
 {
-    let mut i = 0;
-    while i < bytes.len() {
-        if bytes[i] == byte {
-            return true;
-        }
-        i += 1;
-    }
-    false
+    bytes.contains(&byte)
 }
 
 // Puts the word into the two bytes at `at`, in which it has room.
@@ -67,8 +49,7 @@ pub fn put_word(bytes: &mut [u8], at: usize, word: u16)
     requires { at + 2 ≤ length bytes.old }
     ensures { (bytes.new ≡ store 2 bytes.old at word) × (word < 256 ^ 2) }
 {
-    bytes[at] = (word % 256) as u8;
-    bytes[at + 1] = (word / 256 % 256) as u8;
+    bytes[at..at + 2].copy_from_slice(&word.to_le_bytes());
 }
 
 // Puts the word into the two bytes at `at`, in which it has room, high byte first.
@@ -76,8 +57,7 @@ pub fn put_big_word(bytes: &mut [u8], at: usize, word: u16)
     requires { at + 2 ≤ length bytes.old }
     ensures { (bytes.new ≡ big_store 2 bytes.old at word) × (word < 256 ^ 2) }
 {
-    bytes[at] = (word / 256 % 256) as u8;
-    bytes[at + 1] = (word % 256) as u8;
+    bytes[at..at + 2].copy_from_slice(&word.to_be_bytes());
 }
 
 // Puts the number into the four bytes at `at`, in which it has room.
@@ -85,34 +65,28 @@ pub fn put_number(bytes: &mut [u8], at: usize, number: u32)
     requires { at + 4 ≤ length bytes.old }
     ensures { (bytes.new ≡ store 4 bytes.old at number) × (number < 256 ^ 4) }
 {
-    bytes[at] = (number % 256) as u8;
-    bytes[at + 1] = (number / 256 % 256) as u8;
-    bytes[at + 2] = (number / 256 / 256 % 256) as u8;
-    bytes[at + 3] = (number / 256 / 256 / 256 % 256) as u8;
+    bytes[at..at + 4].copy_from_slice(&number.to_le_bytes());
 }
 
 // Puts the words of a list of byte pairs at the front of `words`.
+#[tactic(auto, using(crate::proofs::Turns::decode_more), unfolding(crate::specs::Numbers::decoded, crate::specs::Runs::put))]
 pub fn decode_words(words: &mut [u16], bytes: &[u8])
     requires { length bytes.now / 2 ≤ length words.old }
     ensures { words.new ≡ put words.old 0 (decoded 2 (length bytes.now / 2) bytes.now) }
 {
-    let count = bytes.len() / 2;
-    let mut i = 0;
-    while i < count {
+    for i in 0..bytes.len() / 2 {
         words[i] = word_at(bytes, 2 * i);
-        i += 1;
     }
 }
 
 // Puts all words into a list of byte pairs, from which they read back.
+#[tactic(auto, using(crate::proofs::Turns::encode_more), unfolding(crate::specs::Numbers::encoded))]
 pub fn encode_words(bytes: &mut [u8], words: &[u16])
     requires { length bytes.old ≡ 2 * length words.now }
     ensures { (bytes.new ≡ encoded 2 words.now) × (decoded 2 (length words.now) bytes.new ≡ words.now) }
 {
-    let mut i = 0;
-    while i < words.len() {
-        put_word(bytes, 2 * i, words[i]);
-        i += 1;
+    for (i, word) in words.iter().enumerate() {
+        put_word(bytes, 2 * i, *word);
     }
 }
 
@@ -120,11 +94,7 @@ pub fn encode_words(bytes: &mut [u8], words: &[u16])
 pub fn fill(bytes: &mut [u8], byte: u8)
     ensures { bytes.new ≡ replicate (length bytes.old) byte }
 {
-    let mut i = 0;
-    while i < bytes.len() {
-        bytes[i] = byte;
-        i += 1;
-    }
+    bytes.fill(byte);
 }
 
 // Puts all of `from` into a run as long.
@@ -132,11 +102,7 @@ pub fn copy(to: &mut [u8], from: &[u8])
     requires { length from.now ≡ length to.old }
     ensures { to.new ≡ from.now }
 {
-    let mut i = 0;
-    while i < from.len() {
-        to[i] = from[i];
-        i += 1;
-    }
+    to.copy_from_slice(from);
 }
 
 // Adds the amount to the number of `width` bytes at `at`, a byte or a word: "modulo 65,536 for words, 256 for bytes".
@@ -145,54 +111,17 @@ pub fn add(bytes: &mut [u8], at: usize, width: usize, amount: u16)
     ensures { bytes.new ≡ change width (on width amount) bytes.old at }
 {
     if width == 1 {
-        add_to_byte(bytes, at, amount);
+        bytes[at] = bytes[at].wrapping_add((amount % 256) as u8);
         return;
     }
-    add_to_word(bytes, at, amount);
+    let word = word_at(bytes, at);
+    put_word(bytes, at, word.wrapping_add(amount));
 }
 
-// Takes the amount off the number of `width` bytes at `at`, likewise.
+// Takes the amount off the number of `width` bytes at `at`, likewise: adds what makes 65,536 of the amount.
 pub fn take_off(bytes: &mut [u8], at: usize, width: usize, amount: u16)
     requires { (at + width ≤ length bytes.old) × (1 ≤ width) × (width ≤ 2) }
     ensures { bytes.new ≡ change width (off width amount) bytes.old at }
 {
-    if width == 1 {
-        take_off_byte(bytes, at, amount);
-        return;
-    }
-    take_off_word(bytes, at, amount);
-}
-
-// Adds the amount to the byte at `at`.
-fn add_to_byte(bytes: &mut [u8], at: usize, amount: u16)
-    requires { at + 1 ≤ length bytes.old }
-    ensures { bytes.new ≡ change 1 (on 1 amount) bytes.old at }
-{
-    bytes[at] = std::num::wrapping_add_u8(bytes[at], (amount % 256) as u8);
-}
-
-// Adds the amount to the word at `at`.
-fn add_to_word(bytes: &mut [u8], at: usize, amount: u16)
-    requires { at + 2 ≤ length bytes.old }
-    ensures { bytes.new ≡ change 2 (on 2 amount) bytes.old at }
-{
-    let word = word_at(bytes, at);
-    put_word(bytes, at, std::num::wrapping_add_u16(word, amount));
-}
-
-// Takes the amount off the byte at `at`.
-fn take_off_byte(bytes: &mut [u8], at: usize, amount: u16)
-    requires { at + 1 ≤ length bytes.old }
-    ensures { bytes.new ≡ change 1 (off 1 amount) bytes.old at }
-{
-    bytes[at] = std::num::wrapping_sub_u8(bytes[at], (amount % 256) as u8);
-}
-
-// Takes the amount off the word at `at`.
-fn take_off_word(bytes: &mut [u8], at: usize, amount: u16)
-    requires { at + 2 ≤ length bytes.old }
-    ensures { bytes.new ≡ change 2 (off 2 amount) bytes.old at }
-{
-    let word = word_at(bytes, at);
-    put_word(bytes, at, std::num::wrapping_sub_u16(word, amount));
+    add(bytes, at, width, amount.wrapping_neg());
 }

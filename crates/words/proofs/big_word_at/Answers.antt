@@ -5,5 +5,4 @@ use Rattle.words.proofs.Big.{big_value_word}
 use Rattle.words.proofs.big_word_at.Goals as goal
 
 pub returns : goal.returns
-returns c =
-    omega (arith, big_value_word c.args.bytes.now c.args.at c.requires)
+returns c = omega (arith, big_value_word c.args.bytes.now c.args.at c.requires)

@@ -1,27 +1,13 @@
--- `words::is_zero` meets its contract: all zero are the bytes up to `i`, so the answer is that for the rest.
+-- `words::is_zero` meets its contract: the library's test asks of each byte what the definition asks.
 -- Assumes nothing.
-use Rattle.std.proofs.Common.{◌≡◌, length, sym, refl, ◌∙◌, arith, rules}
-use lib.Seq.{drop-length}
-use Rattle.words.proofs.Turns.{zero_more, zero_not}
-use Rattle.words.specs.Runs.{all_zero}
+use Rattle.std.proofs.Common.{◌∙◌, rules, tests}
+use Rattle.std.proofs.lemmas.Iterator.{YieldsList-from_slice}
+use Rattle.std.proofs.lemmas.Iterator.Search.{all_from_yields_List}
+use Rattle.std.specs.Prelude.{◌==◌}
+use Rattle.words.proofs.Turns.{all_is}
 use Rattle.words.proofs.is_zero.Goals as goal
 
-pub loop-i-init : goal.loop-i-init
-loop-i-init c = (search rules, refl)
-
-pub returns-then-bytes-i-ne0 : goal.returns-then-bytes-i-ne0
-returns-then-bytes-i-ne0 c =
-    let l = c.loop-i in
-    sym (l.invariant.1 ∙ zero_not c.args.bytes.now l.i (omega arith) c.if-bytes-i-ne0.true)
-
-pub loop-i-preserved : goal.loop-i-preserved
-loop-i-preserved c =
-    let l = c.loop-i in
-    (omega arith, l.invariant.1 ∙ zero_more c.args.bytes.now l.i (omega arith) c.if-bytes-i-ne0.false)
-
 pub returns : goal.returns
-unfolding all_zero
 returns c =
     let s = c.args.bytes.now in
-    let e : c.loop-i.i ≡ length s = omega arith in
-    sym (c.loop-i.invariant.1 ∙ rw (e, drop-length s))
+    all_from_yields_List (λ b. b == 0) _ _ _ c.all.ensures.ran (YieldsList-from_slice s cc) (λ x b q k. search (rules, tests)) ∙ all_is s

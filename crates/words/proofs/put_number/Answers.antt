@@ -1,20 +1,15 @@
--- `words::put_number` meets its contract: its stores are those of the four digits in turn.
+-- `words::put_number` meets its contract: the bytes that the library makes are the digits of the number.
 -- Assumes nothing.
-use Rattle.std.proofs.Common.{add-one, arith, length-set}
-use native.Mathlib.Numerals.{add-two, add-three}
+use Rattle.std.proofs.Common.{◌≡◌, ap, ◌∙◌, length, arith}
+use Rattle.std.proofs.lemmas.Grind.{common_steps}
+use Rattle.words.proofs.Lent.{back_is}
 use Rattle.words.specs.Numbers.{store, digits}
 use Rattle.words.specs.Runs.{put}
 use Rattle.words.proofs.put_number.Goals as goal
 
-pub bounds-bytes-at-2 : goal.bounds-bytes-at-2
-bounds-bytes-at-2 c = simp length-set (omega arith)
-
-pub bounds-bytes-at-3 : goal.bounds-bytes-at-3
-bounds-bytes-at-3 c = simp length-set (omega arith)
-
-pub bounds-bytes-at-4 : goal.bounds-bytes-at-4
-bounds-bytes-at-4 c = simp length-set (omega arith)
-
 pub returns : goal.returns
-unfolding store digits put
-returns c = (rw (add-one, add-two, add-three), omega arith)
+unfolding store digits
+returns c =
+    let s = c.args in
+    let made : c.copy_from_slice.new.self ≡ digits 4 s.number = grind (arith, common_steps) in
+    (back_is s.at 4 s.bytes.now _ c.requires (ap length made) ∙ ap (put s.bytes.now s.at) made, omega arith)

@@ -1,16 +1,13 @@
--- `words::take_off` meets its contract: a width of 1 or 2 is that of a byte or of a word.
+-- `words::take_off` meets its contract: what makes 65,536 of the amount, put on, is the amount off.
 -- Assumes nothing.
-use Rattle.std.proofs.Common.{◌≡◌, arith}
+use Rattle.std.proofs.Common.{◌∙◌, arith}
+use Rattle.words.proofs.Changes.{change_same}
+use Rattle.words.proofs.Numbers.{on_rest}
+use Rattle.words.specs.Numbers.{on, off}
 use Rattle.words.proofs.take_off.Goals as goal
-
-pub returns-then-width-eq1 : goal.returns-then-width-eq1
-returns-then-width-eq1 c =
-    let s = c.args in
-    let one : s.width ≡ 1 = omega arith in
-    rw one c.take_off_byte.ensures
 
 pub returns : goal.returns
 returns c =
     let s = c.args in
-    let two : s.width ≡ 2 = omega arith in
-    rw two c.take_off_word.ensures
+    c.add.ensures
+    ∙ change_same s.width (on s.width _) s.bytes.now s.at (off s.width s.amount) (on_rest s.width s.amount _ _ (omega arith) (omega arith) (omega arith))
