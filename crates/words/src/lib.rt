@@ -3,9 +3,13 @@
 // what they promise, in the terms of specs/.
 #![tactic(auto)]
 
+mod file;
+
 ghost use Rattle.std.specs.Prelude.{◌≡◌, ◌+◌, ◌*◌, ◌/◌, ◌^◌, ◌<◌, ◌≤◌, length, replicate};
 ghost use Rattle.words.specs.Runs.{put, all_zero, contains as contains_of};
 ghost use Rattle.words.specs.Numbers.{value, store, big_value, big_store, on, off, change, encoded, decoded};
+
+pub use file::File;
 
 // A byte as a `usize`: the one place that gives the bound which a cast of a byte asks for.
 pub fn wide(byte: u8) -> usize
