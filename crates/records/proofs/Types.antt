@@ -2,6 +2,7 @@
 -- Assumes nothing.
 use mathlib.Core.Bool.{true}
 use mathlib.Core.Path.{◌≡◌, refl}
+use Rattle.std.proofs.Common.{Some}
 use Rattle.fields.specs.declared.Fixup.{Fixup}
 use Rattle.fields.specs.declared.Fixup.TheVariants.{LowByte, ZeroPageByte, Word, HighByte}
 use Rattle.records.specs.Records.{type_of, suits, entry_of}
@@ -10,7 +11,6 @@ use Rattle.records.specs.declared.Entry.{Entry}
 use Rattle.records.specs.declared.Entry.TheVariants.{Nowhere, Fixed, Relative}
 use Rattle.records.specs.declared.Kind.{Kind}
 use Rattle.records.specs.declared.Kind.TheVariants.{Main, ZeroPage, Absolute}
-use Rattle.records.specs.declared.Last.TheVariants.{Of}
 use Rattle.records.specs.declared.RecordType.TheVariants.{Code, Fixups, End}
 
 pub code_type_back : (kind : Kind) → type_of (code_type kind) ≡ Code kind
@@ -25,7 +25,7 @@ fixups_for ZeroPage = ZeroPage
 fixups_for Absolute = Main
 
 -- it suits that code
-pub fixups_suit : (kind : Kind) → suits (fixups_for kind) (Of kind) ≡ true
+pub fixups_suit : (kind : Kind) → suits (fixups_for kind) (Some kind) ≡ true
 fixups_suit Main = refl
 fixups_suit ZeroPage = refl
 fixups_suit Absolute = refl

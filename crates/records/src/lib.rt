@@ -6,7 +6,7 @@ ghost use Rattle.std.specs.Prelude.{◌≡◌, ◌+◌, ◌<◌, ◌≤◌, leng
 ghost use Rattle.records.specs.Types.{code_type, main_fixup_type, fixup_type};
 ghost use Rattle.records.specs.Records.{type_of, entry_of, suits as suits_of, length_allowed, read_code, read_items, read_fixups, read_end, read as read_of};
 
-use answer::Fault;
+use answer::{Failure, Fault};
 use fields::Fixup;
 
 // What a code record's address counts from: the main base, the zero-page base, or nothing.
@@ -15,13 +15,6 @@ pub enum Kind {
     Main,
     ZeroPage,
     Absolute,
-}
-
-// The last code record before a record: there is none, or its kind.
-#[derive(Clone, Copy)]
-pub enum Last {
-    Nothing,
-    Of(Kind),
 }
 
 // Where an end record lets the program start.
@@ -44,8 +37,7 @@ pub enum RecordType {
     Unknown,
 }
 
-// A record: its code bytes or its items are the `size` bytes of the file from `from` on, and the next record begins after them; or a fault, with the
-// offset of the first byte at fault.
+// A record: its code bytes or its items are the `size` bytes of the file from `from` on, and the next record begins after them.
 #[derive(Clone, Copy)]
 pub enum Record {
     Code {
@@ -63,23 +55,28 @@ pub enum Record {
         entry: Entry,
         next: usize,
     },
-    Faulty(Fault, usize),
 }
 
-// Reads the record at `at`.
-pub fn read(file: &[u8], at: usize, last: Last) -> Record
+// Reads the record at `at`, where the last code record before it is of the kind `last`, or there is none. A failure has the offset of the first byte at fault.
+pub fn read(file: &[u8], at: usize, last: Option<Kind>) -> Result<Record, Failure>
     requires { length file.now ≤ 65536 }
     ensures { result ≡ read_of file.now at last }
 {
     if file.len() <= at {
-        return Record::Faulty(Fault::CutShort, file.len());
+        return Err(Failure {
+            fault: Fault::CutShort,
+            offset: file.len(),
+        });
     }
     let record_type = type_of(file[at]);
     match record_type {
         RecordType::Code(kind) => read_code(file, at, kind),
         RecordType::Fixups(kind, fixup) => read_fixups(file, at, last, kind, fixup),
         RecordType::End => read_end(file, at),
-        RecordType::Unknown => Record::Faulty(Fault::NotKnown, at),
+        RecordType::Unknown => Err(Failure {
+            fault: Fault::NotKnown,
+            offset: at,
+        }),
     }
 }
 
@@ -141,50 +138,71 @@ fn main_fixup_type(fixup: Fixup) -> u8
 
 // Reads a code record.
 #[tactic(auto, unfolding(crate::specs::Records::read_code, answer::specs::Checks::need))]
-fn read_code(file: &[u8], at: usize, kind: Kind) -> Record
+fn read_code(file: &[u8], at: usize, kind: Kind) -> Result<Record, Failure>
     requires { (at < length file.now) × (length file.now ≤ 65536) }
     ensures { result ≡ read_code file.now at kind }
 {
     if file.len() < at + 2 {
-        return Record::Faulty(Fault::CutShort, file.len());
+        return Err(Failure {
+            fault: Fault::CutShort,
+            offset: file.len(),
+        });
     }
     let length = words::wide(file[at + 1]);
     if length < 2 {
-        return Record::Faulty(Fault::LengthNotAllowed, at + 1);
+        return Err(Failure {
+            fault: Fault::LengthNotAllowed,
+            offset: at + 1,
+        });
     }
     if file.len() < at + 2 + length {
-        return Record::Faulty(Fault::CutShort, file.len());
+        return Err(Failure {
+            fault: Fault::CutShort,
+            offset: file.len(),
+        });
     }
-    Record::Code {
+    Ok(Record::Code {
         kind,
         address: words::word_at(file, at + 2),
         from: at + 4,
         size: length - 2,
-    }
+    })
 }
 
 // Reads a fixup record for the code records of a kind.
-fn read_fixups(file: &[u8], at: usize, last: Last, kind: Kind, fixup: Fixup) -> Record
+fn read_fixups(
+    file: &[u8],
+    at: usize,
+    last: Option<Kind>,
+    kind: Kind,
+    fixup: Fixup,
+) -> Result<Record, Failure>
     requires { (at < length file.now) × (length file.now ≤ 65536) }
     ensures { result ≡ read_fixups file.now at last kind fixup }
 {
     if file.len() < at + 2 {
-        return Record::Faulty(Fault::CutShort, file.len());
+        return Err(Failure {
+            fault: Fault::CutShort,
+            offset: file.len(),
+        });
     }
     let suited = suits(kind, last);
     if !suited {
-        return Record::Faulty(Fault::FixupUnsuited, at);
+        return Err(Failure {
+            fault: Fault::FixupUnsuited,
+            offset: at,
+        });
     }
     read_items(file, at, fixup)
 }
 
 // Whether a fixup for code of a kind may follow the last code record. Those for main code serve absolute code too.
-pub fn suits(kind: Kind, last: Last) -> bool
+pub fn suits(kind: Kind, last: Option<Kind>) -> bool
     ensures { result ≡ suits_of kind last }
 {
     match last {
-        Last::Nothing => false,
-        Last::Of(before) => match kind {
+        None => false,
+        Some(before) => match kind {
             Kind::Main => match before {
                 Kind::Main => true,
                 Kind::ZeroPage => false,
@@ -201,23 +219,29 @@ pub fn suits(kind: Kind, last: Last) -> bool
 }
 
 // Reads the items of a fixup record: their length, then the bytes themselves.
-fn read_items(file: &[u8], at: usize, fixup: Fixup) -> Record
+fn read_items(file: &[u8], at: usize, fixup: Fixup) -> Result<Record, Failure>
     requires { (at + 2 ≤ length file.now) × (length file.now ≤ 65536) }
     ensures { result ≡ read_items file.now at fixup }
 {
     let length = words::wide(file[at + 1]);
     let allowed = length_allowed(fixup, length);
     if !allowed {
-        return Record::Faulty(Fault::LengthNotAllowed, at + 1);
+        return Err(Failure {
+            fault: Fault::LengthNotAllowed,
+            offset: at + 1,
+        });
     }
     if file.len() < at + 2 + length {
-        return Record::Faulty(Fault::CutShort, file.len());
+        return Err(Failure {
+            fault: Fault::CutShort,
+            offset: file.len(),
+        });
     }
-    Record::Fixups {
+    Ok(Record::Fixups {
         fixup,
         from: at + 2,
         size: length,
-    }
+    })
 }
 
 // Whether a fixup record may have this length.
@@ -233,22 +257,28 @@ fn length_allowed(fixup: Fixup, length: usize) -> bool
 }
 
 // Reads the end record.
-fn read_end(file: &[u8], at: usize) -> Record
+fn read_end(file: &[u8], at: usize) -> Result<Record, Failure>
     requires { (at < length file.now) × (length file.now ≤ 65536) }
     ensures { result ≡ read_end file.now at }
 {
     if file.len() < at + 4 {
-        return Record::Faulty(Fault::CutShort, file.len());
+        return Err(Failure {
+            fault: Fault::CutShort,
+            offset: file.len(),
+        });
     }
     let flag = file[at + 1];
     if 2 < flag {
-        return Record::Faulty(Fault::NotKnown, at + 1);
+        return Err(Failure {
+            fault: Fault::NotKnown,
+            offset: at + 1,
+        });
     }
     let address = words::word_at(file, at + 2);
-    Record::End {
+    Ok(Record::End {
         entry: entry_of(flag, address),
         next: at + 4,
-    }
+    })
 }
 
 // The entry that a flag says, of an address.

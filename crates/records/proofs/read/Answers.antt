@@ -5,15 +5,15 @@ use mathlib.Core.Path.{◌≡◌, refl, sym, ap, ◌∙◌}
 use Prim.Native.Nat.{ℕ, ◌<◌}
 use borrow.Author.Tests.{lt-ltb, le-ltb}
 use lib.ListN.{length, get_or}
+use Rattle.std.proofs.Common.{Option}
 use Rattle.answer.specs.Checks.{need}
-use Rattle.records.specs.Records.{type_of, read_as, read as read_of}
-use Rattle.records.specs.declared.Last.{Last}
-use Rattle.records.specs.declared.Record.{Record}
+use Rattle.records.specs.Records.{Read, type_of, read_as, read as read_of}
+use Rattle.records.specs.declared.Kind.{Kind}
 use Rattle.records.specs.declared.RecordType.{RecordType}
 use Rattle.records.proofs.read.Goals as goal
 
 -- what its type says is what a record is read as
-as_type : (file : List ℕ) (at : ℕ) (last : Last) (t : RecordType) (r : Record) → at < length file → t ≡ type_of (get_or file at 0) → r ≡ read_as file at last t
+as_type : (file : List ℕ) (at : ℕ) (last : Option Kind) (t : RecordType) (r : Read) → at < length file → t ≡ type_of (get_or file at 0) → r ≡ read_as file at last t
     → r ≡ read_of file at last
 unfolding read_of need
 as_type file at last t r h e d = simp (lt-ltb _ _ h) (d ∙ ap (read_as file at last) e)

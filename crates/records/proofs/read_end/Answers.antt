@@ -5,6 +5,7 @@ use mathlib.Core.Path.{◌≡◌, ap, ◌∙◌}
 use Prim.Native.Nat.{ℕ, ◌+◌, ◌≤◌}
 use borrow.Author.Tests.{le-leb, lt-leb}
 use lib.ListN.{length, get_or}
+use Rattle.std.proofs.Common.{Ok}
 use Rattle.answer.specs.Checks.{need}
 use Rattle.records.specs.Records.{entry_of, read_end}
 use Rattle.records.specs.declared.Entry.{Entry}
@@ -15,10 +16,10 @@ use Rattle.records.proofs.read_end.Goals as goal
 -- an end record whose flag is known
 end_read : (file : List ℕ) (at address : ℕ) (entry : Entry) → at + 4 ≤ length file → get_or file (at + 1) 0 ≤ 2 → address ≡ value 2 file (at + 2)
     → entry ≡ entry_of (get_or file (at + 1) 0) address
-    → End entry (at + 4) ≡ read_end file at
+    → Ok (End entry (at + 4)) ≡ read_end file at
 unfolding read_end need
 end_read file at address entry h k ea ee =
-    simp (le-leb _ _ h, le-leb _ _ k) (ap (λ (e : Entry). End e (at + 4)) (ee ∙ ap (entry_of (get_or file (at + 1) 0)) ea))
+    simp (le-leb _ _ h, le-leb _ _ k) (ap (λ (e : Entry). Ok (End e (at + 4))) (ee ∙ ap (entry_of (get_or file (at + 1) 0)) ea))
 
 pub returns-then-file-at : goal.returns-then-file-at
 unfolding read_end need

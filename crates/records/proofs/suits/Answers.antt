@@ -2,17 +2,17 @@
 -- Assumes nothing.
 use mathlib.Core.Bool.{false}
 use mathlib.Core.Path.{◌≡◌, refl, sym, ap, ◌∙◌}
+use Rattle.std.proofs.Common.{None}
 use Rattle.records.specs.Records.{suits as suits_of}
 use Rattle.records.specs.declared.Kind.{Kind}
 use Rattle.records.specs.declared.Kind.TheVariants.{Main, ZeroPage, Absolute}
-use Rattle.records.specs.declared.Last.TheVariants.{Nothing}
 use Rattle.records.proofs.suits.Goals as goal
 
 -- before any code record nothing suits
-before_code : (kind : Kind) → suits_of kind Nothing ≡ false
+before_code : (kind : Kind) → suits_of kind None ≡ false
 before_code Main = refl
 before_code ZeroPage = refl
 before_code Absolute = refl
 
-pub returns-in-Nothing : goal.returns-in-Nothing
-returns-in-Nothing c = sym (ap (suits_of c.args.kind) c.in-Nothing.is ∙ before_code c.args.kind)
+pub returns-in-None : goal.returns-in-None
+returns-in-None c = sym (ap (suits_of c.args.kind) c.in-None.is ∙ before_code c.args.kind)
