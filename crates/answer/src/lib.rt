@@ -3,6 +3,7 @@
 #![tactic(auto)]
 
 ghost use Rattle.std.specs.Prelude.{◌≡◌, ◌<◌, length};
+ghost use Rattle.answer.specs.Checks.{found};
 ghost use Rattle.answer.specs.Report.{refusal, number_of, numbers_of, number_returned, answer_length, Written};
 
 // What is wrong: a variant for each row of the table "Numbers a bench can show", in its order and with its number, and for each number that
@@ -38,6 +39,18 @@ pub enum Fault {
 pub struct Failure {
     pub fault: Fault,
     pub offset: usize,
+}
+
+impl Fault {
+    // The failure of this fault at an offset.
+    pub fn at(self, offset: usize) -> Failure
+        ensures { result ≡ found self offset }
+    {
+        Failure {
+            fault: self,
+            offset,
+        }
+    }
 }
 
 // What an accepted call comes to: where the program starts, the bytes placed, the fields adjusted, the new names, and low.

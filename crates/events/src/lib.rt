@@ -10,6 +10,9 @@ use answer::Failure;
 // The length of memory and of the map.
 pub const MEMORY: usize = 65536;
 
+// What is lent with a byte for each address: memory, the map, the scratch, the room for an index.
+pub type Buffer = [u8; MEMORY];
+
 // The most bytes that a file has.
 pub const FILE: usize = 65536;
 

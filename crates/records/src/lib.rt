@@ -8,6 +8,7 @@ ghost use Rattle.records.specs.Records.{type_of, entry_of, suits as suits_of, le
 
 use answer::{Failure, Fault};
 use fields::Fixup;
+use words::File;
 
 // What a code record's address counts from: the main base, the zero-page base, or nothing.
 #[derive(Clone, Copy)]
@@ -58,25 +59,19 @@ pub enum Record {
 }
 
 // Reads the record at `at`, where the last code record before it is of the kind `last`, or there is none. A failure has the offset of the first byte at fault.
-pub fn read(file: &[u8], at: usize, last: Option<Kind>) -> Result<Record, Failure>
-    requires { length file.now ≤ 65536 }
+#[tactic(auto, unfolding(crate::specs::Records::read, answer::specs::Checks::need))]
+pub fn read(file: &File, at: usize, last: Option<Kind>) -> Result<Record, Failure>
     ensures { result ≡ read_of file.now at last }
 {
     if file.len() <= at {
-        return Err(Failure {
-            fault: Fault::CutShort,
-            offset: file.len(),
-        });
+        return Err(Fault::CutShort.at(file.len()));
     }
-    let record_type = type_of(file[at]);
+    let record_type = type_of(file.byte(at));
     match record_type {
         RecordType::Code(kind) => read_code(file, at, kind),
         RecordType::Fixups(kind, fixup) => read_fixups(file, at, last, kind, fixup),
         RecordType::End => read_end(file, at),
-        RecordType::Unknown => Err(Failure {
-            fault: Fault::NotKnown,
-            offset: at,
-        }),
+        RecordType::Unknown => Err(Fault::NotKnown.at(at)),
     }
 }
 
@@ -138,60 +133,46 @@ fn main_fixup_type(fixup: Fixup) -> u8
 
 // Reads a code record.
 #[tactic(auto, unfolding(crate::specs::Records::read_code, answer::specs::Checks::need))]
-fn read_code(file: &[u8], at: usize, kind: Kind) -> Result<Record, Failure>
-    requires { (at < length file.now) × (length file.now ≤ 65536) }
+fn read_code(file: &File, at: usize, kind: Kind) -> Result<Record, Failure>
+    requires { at < length file.now }
     ensures { result ≡ read_code file.now at kind }
 {
     if file.len() < at + 2 {
-        return Err(Failure {
-            fault: Fault::CutShort,
-            offset: file.len(),
-        });
+        return Err(Fault::CutShort.at(file.len()));
     }
-    let length = words::wide(file[at + 1]);
+    let length = file.byte(at + 1) as usize;
     if length < 2 {
-        return Err(Failure {
-            fault: Fault::LengthNotAllowed,
-            offset: at + 1,
-        });
+        return Err(Fault::LengthNotAllowed.at(at + 1));
     }
     if file.len() < at + 2 + length {
-        return Err(Failure {
-            fault: Fault::CutShort,
-            offset: file.len(),
-        });
+        return Err(Fault::CutShort.at(file.len()));
     }
     Ok(Record::Code {
         kind,
-        address: words::word_at(file, at + 2),
+        address: file.word(at + 2),
         from: at + 4,
         size: length - 2,
     })
 }
 
 // Reads a fixup record for the code records of a kind.
+#[tactic(auto, unfolding(crate::specs::Records::read_fixups, answer::specs::Checks::need))]
 fn read_fixups(
-    file: &[u8],
+    file: &File,
     at: usize,
     last: Option<Kind>,
     kind: Kind,
     fixup: Fixup,
 ) -> Result<Record, Failure>
-    requires { (at < length file.now) × (length file.now ≤ 65536) }
+    requires { at < length file.now }
     ensures { result ≡ read_fixups file.now at last kind fixup }
 {
     if file.len() < at + 2 {
-        return Err(Failure {
-            fault: Fault::CutShort,
-            offset: file.len(),
-        });
+        return Err(Fault::CutShort.at(file.len()));
     }
     let suited = suits(kind, last);
     if !suited {
-        return Err(Failure {
-            fault: Fault::FixupUnsuited,
-            offset: at,
-        });
+        return Err(Fault::FixupUnsuited.at(at));
     }
     read_items(file, at, fixup)
 }
@@ -219,23 +200,19 @@ pub fn suits(kind: Kind, last: Option<Kind>) -> bool
 }
 
 // Reads the items of a fixup record: their length, then the bytes themselves.
-fn read_items(file: &[u8], at: usize, fixup: Fixup) -> Result<Record, Failure>
-    requires { (at + 2 ≤ length file.now) × (length file.now ≤ 65536) }
+#[tactic(auto, unfolding(crate::specs::Records::read_items, answer::specs::Checks::need))]
+fn read_items(file: &File, at: usize, fixup: Fixup) -> Result<Record, Failure>
+    requires { at + 2 ≤ length file.now }
     ensures { result ≡ read_items file.now at fixup }
 {
-    let length = words::wide(file[at + 1]);
+    let end = file.len();
+    let length = file.byte(at + 1) as usize;
     let allowed = length_allowed(fixup, length);
     if !allowed {
-        return Err(Failure {
-            fault: Fault::LengthNotAllowed,
-            offset: at + 1,
-        });
+        return Err(Fault::LengthNotAllowed.at(at + 1));
     }
-    if file.len() < at + 2 + length {
-        return Err(Failure {
-            fault: Fault::CutShort,
-            offset: file.len(),
-        });
+    if end < at + 2 + length {
+        return Err(Fault::CutShort.at(end));
     }
     Ok(Record::Fixups {
         fixup,
@@ -257,24 +234,19 @@ fn length_allowed(fixup: Fixup, length: usize) -> bool
 }
 
 // Reads the end record.
-fn read_end(file: &[u8], at: usize) -> Result<Record, Failure>
-    requires { (at < length file.now) × (length file.now ≤ 65536) }
+#[tactic(auto, unfolding(crate::specs::Records::read_end, answer::specs::Checks::need))]
+fn read_end(file: &File, at: usize) -> Result<Record, Failure>
+    requires { at < length file.now }
     ensures { result ≡ read_end file.now at }
 {
     if file.len() < at + 4 {
-        return Err(Failure {
-            fault: Fault::CutShort,
-            offset: file.len(),
-        });
+        return Err(Fault::CutShort.at(file.len()));
     }
-    let flag = file[at + 1];
+    let flag = file.byte(at + 1);
     if 2 < flag {
-        return Err(Failure {
-            fault: Fault::NotKnown,
-            offset: at + 1,
-        });
+        return Err(Fault::NotKnown.at(at + 1));
     }
-    let address = words::word_at(file, at + 2);
+    let address = file.word(at + 2);
     Ok(Record::End {
         entry: entry_of(flag, address),
         next: at + 4,
