@@ -2,9 +2,12 @@
 // It knows no file format. The numbers of the faults stand in one place, specs/Report.antt.
 #![tactic(auto)]
 
-ghost use Rattle.std.specs.Prelude.{◌≡◌, ◌<◌, length};
+ghost use Rattle.std.specs.Prelude.{◌≡◌, ◌+◌, ◌<◌, ◌≤◌, length, IfOk, IfErr};
+ghost use Rattle.answer.specs.declared.Fault.TheVariants.{CutShort};
 ghost use Rattle.answer.specs.Checks.{found};
 ghost use Rattle.answer.specs.Report.{refusal, number_of, numbers_of, number_returned, answer_length, Written};
+
+use words::File;
 
 // What is wrong: a variant for each row of the table "Numbers a bench can show", in its order and with its number, and for each number that
 // document 02 adds to it.
@@ -51,6 +54,18 @@ impl Fault {
             offset,
         }
     }
+}
+
+// "bytes present (5)": that the `size` bytes from `at` on are there; else the file is cut short.
+pub fn present(file: &File, at: usize, size: usize) -> Result<(), Failure>
+    requires { (at ≤ length file.now) × (size ≤ 65536) }
+    ensures ok { IfOk result (λ done. (at + size ≤ length file.now) × (length file.now ≤ 65536)) }
+    ensures err { IfErr result (λ e. (e ≡ found CutShort (length file.now)) × (length file.now < at + size)) }
+{
+    if file.len() < at + size {
+        return Err(Fault::CutShort.at(file.len()));
+    }
+    Ok(())
 }
 
 // What an accepted call comes to: where the program starts, the bytes placed, the fields adjusted, the new names, and low.

@@ -4,7 +4,7 @@
 
 ghost use Rattle.std.specs.Prelude.{◌≡◌, ◌+◌, ◌<◌, ◌≤◌, length};
 ghost use Rattle.records.specs.Types.{code_type, main_fixup_type, fixup_type};
-ghost use Rattle.records.specs.Records.{type_of, entry_of, suits as suits_of, length_allowed, read_code, read_items, read_fixups, read_end, read as read_of};
+ghost use Rattle.records.specs.Records.{type_of, entry_of, suits as suits_of, length_allowed, read_code, read_fixups, read_end, read as read_of};
 
 use answer::{Failure, Fault};
 use fields::Fixup;
@@ -137,16 +137,12 @@ fn read_code(file: &File, at: usize, kind: Kind) -> Result<Record, Failure>
     requires { at < length file.now }
     ensures { result ≡ read_code file.now at kind }
 {
-    if file.len() < at + 2 {
-        return Err(Fault::CutShort.at(file.len()));
-    }
+    answer::present(file, at, 2)?;
     let length = file.byte(at + 1) as usize;
     if length < 2 {
         return Err(Fault::LengthNotAllowed.at(at + 1));
     }
-    if file.len() < at + 2 + length {
-        return Err(Fault::CutShort.at(file.len()));
-    }
+    answer::present(file, at, 2 + length)?;
     Ok(Record::Code {
         kind,
         address: file.word(at + 2),
@@ -156,7 +152,7 @@ fn read_code(file: &File, at: usize, kind: Kind) -> Result<Record, Failure>
 }
 
 // Reads a fixup record for the code records of a kind.
-#[tactic(auto, unfolding(crate::specs::Records::read_fixups, answer::specs::Checks::need))]
+#[tactic(auto, unfolding(crate::specs::Records::read_fixups, crate::specs::Records::read_items, answer::specs::Checks::need))]
 fn read_fixups(
     file: &File,
     at: usize,
@@ -167,14 +163,20 @@ fn read_fixups(
     requires { at < length file.now }
     ensures { result ≡ read_fixups file.now at last kind fixup }
 {
-    if file.len() < at + 2 {
-        return Err(Fault::CutShort.at(file.len()));
-    }
-    let suited = suits(kind, last);
-    if !suited {
+    answer::present(file, at, 2)?;
+    if !suits(kind, last) {
         return Err(Fault::FixupUnsuited.at(at));
     }
-    read_items(file, at, fixup)
+    let length = file.byte(at + 1) as usize;
+    if !length_allowed(fixup, length) {
+        return Err(Fault::LengthNotAllowed.at(at + 1));
+    }
+    answer::present(file, at, 2 + length)?;
+    Ok(Record::Fixups {
+        fixup,
+        from: at + 2,
+        size: length,
+    })
 }
 
 // Whether a fixup for code of a kind may follow the last code record. Those for main code serve absolute code too.
@@ -199,28 +201,6 @@ pub fn suits(kind: Kind, last: Option<Kind>) -> bool
     }
 }
 
-// Reads the items of a fixup record: their length, then the bytes themselves.
-#[tactic(auto, unfolding(crate::specs::Records::read_items, answer::specs::Checks::need))]
-fn read_items(file: &File, at: usize, fixup: Fixup) -> Result<Record, Failure>
-    requires { at + 2 ≤ length file.now }
-    ensures { result ≡ read_items file.now at fixup }
-{
-    let end = file.len();
-    let length = file.byte(at + 1) as usize;
-    let allowed = length_allowed(fixup, length);
-    if !allowed {
-        return Err(Fault::LengthNotAllowed.at(at + 1));
-    }
-    if end < at + 2 + length {
-        return Err(Fault::CutShort.at(end));
-    }
-    Ok(Record::Fixups {
-        fixup,
-        from: at + 2,
-        size: length,
-    })
-}
-
 // Whether a fixup record may have this length.
 fn length_allowed(fixup: Fixup, length: usize) -> bool
     ensures { result ≡ length_allowed fixup length }
@@ -239,9 +219,7 @@ fn read_end(file: &File, at: usize) -> Result<Record, Failure>
     requires { at < length file.now }
     ensures { result ≡ read_end file.now at }
 {
-    if file.len() < at + 4 {
-        return Err(Fault::CutShort.at(file.len()));
-    }
+    answer::present(file, at, 4)?;
     let flag = file.byte(at + 1);
     if 2 < flag {
         return Err(Fault::NotKnown.at(at + 1));
