@@ -24,7 +24,7 @@ returns c =
     (YieldsList-at c.take_while.ensures.source
     (YieldsList-from_take c.args.count
     (YieldsList-at c.take.ensures.source (YieldsList-from_slice rest (c.iter.ensures.rest ∙ whole)))
-    c.take.ensures.count))
+    (search rules)))
     c.take_while.ensures.closure c.take_while.ensures.done (λ x b q k. search (rules, tests)))
     ∙ length-prefix_len is_digit some
     ∙ leading_is is_digit some in
