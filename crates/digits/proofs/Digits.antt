@@ -1,15 +1,17 @@
 -- The value of a digit of each kind; how great a digit, a byte and a word can be, whatever the characters; and one byte more in a sum.
 -- Assumes nothing.
 use mathlib.Core.Bool.{true, false, ◌&&◌}
-use mathlib.Core.List.{List}
-use mathlib.Core.Path.{◌≡◌, refl}
-use Prim.Native.Nat.{ℕ, ◌+◌, ◌-◌, ◌*◌, ◌≤◌, ◌<◌}
+use mathlib.Core.List.{List, map}
+use mathlib.Core.Path.{◌≡◌, refl, ap, ◌∙◌}
+use Prim.Native.Nat.{ℕ, zero, suc, ◌+◌, ◌-◌, ◌*◌, ◌≤◌, ◌<◌}
 use native.Mathlib.Decide.{dec_le}
 use native.Mathlib.Numerals.{add-one}
 use native.Mathlib.Omega.{arith}
 use borrow.Author.Tests.{le-leb, lt-leb, leb-true, ltb-true}
 use lib.Dec.{leb}
 use lib.ListN.{get_or}
+use Rattle.std.specs.List.{sum, sum_by, range_with_len}
+use Rattle.std.proofs.lemmas.List.Sums.{sum-map, sum_by-cons}
 use Rattle.answer.proofs.Checks.{on_pick, and_true, and_false}
 use Rattle.answer.specs.Checks.{pick}
 use Rattle.digits.specs.Digits.{digit_of, is_digit, byte_at, word_at, sum_at}
@@ -80,3 +82,25 @@ word_most file at = omega (arith, byte_most file at, byte_most file (at + 2))
 pub sum_more : (file : List ℕ) (at i : ℕ) → sum_at file at (i + 1) ≡ sum_at file at i + byte_at file (at + 2 * i)
 unfolding sum_at
 sum_more file at i = rw add-one refl
+
+-- a sum of n bytes is at most n times 272
+pub sum_most : (file : List ℕ) (at n : ℕ) → sum_at file at n ≤ 272 * n
+unfolding sum_at
+sum_most file at zero = omega arith
+sum_most file at (suc n) = omega (arith, sum_most file at n, byte_most file (at + 2 * n))
+
+-- the bytes before byte a and the n from there on, in one list, are the first a + n
+sum_from : (file : List ℕ) (at a n : ℕ) → sum_at file at a + sum_by (λ i. byte_at file (at + 2 * i)) (range_with_len a n) ≡ sum_at file at (a + n)
+sum_from file at a zero =
+    let e : sum_at file at (a + 0) ≡ sum_at file at a = ap (sum_at file at) (omega arith) in
+    omega arith
+sum_from file at a (suc n) =
+    let e : sum_at file at (a + suc n) ≡ sum_at file at (a + 1 + n) = ap (sum_at file at) (omega arith) in
+    omega (arith, sum_by-cons (λ i. byte_at file (at + 2 * i)) a (range_with_len (a + 1) n), sum_from file at (a + 1) n, sum_more file at a)
+
+-- as the library adds them
+pub sum_is : (file : List ℕ) (at n : ℕ) → sum (map (λ i. byte_at file (at + 2 * i)) (range_with_len 0 n)) ≡ sum_at file at n
+unfolding sum_at
+sum_is file at n =
+    let e : sum_at file at (0 + n) ≡ sum_at file at n = ap (sum_at file at) (omega arith) in
+    sum-map (λ i. byte_at file (at + 2 * i)) (range_with_len 0 n) ∙ omega (arith, sum_from file at 0 n)

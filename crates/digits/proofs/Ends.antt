@@ -1,13 +1,14 @@
 -- Where blanks and digits end: within the file, and one character further with each that passes.
 -- Assumes nothing.
-use mathlib.Core.Bool.{Bool, true, false}
+use mathlib.Core.Bool.{Bool, true, false, cond}
 use mathlib.Core.List.{List, [], ◌∷◌}
-use mathlib.Core.Path.{◌≡◌}
+use mathlib.Core.Path.{◌≡◌, refl}
 use Prim.Native.Nat.{ℕ, zero, suc, ◌+◌, ◌-◌, ◌≤◌, ◌<◌}
 use native.Mathlib.Numerals.{add-one}
 use native.Mathlib.Omega.{arith}
 use lib.ListN.{length, get_or, take, drop, length-take, length-drop}
 use lib.Seq.{drop-cons, drop-length}
+use Rattle.std.specs.List.{prefix_len}
 use Rattle.answer.proofs.Checks.{on_pick}
 use Rattle.answer.specs.Checks.{pick}
 use Rattle.words.specs.Runs.{part}
@@ -20,6 +21,16 @@ leading_most test [] = omega arith
 leading_most test (c ∷ cs) =
     let P : ℕ → Type 0 = λ n. n ≤ suc (length cs) in
     on_pick P (test c) _ _ (λ _. omega (arith, leading_most test cs)) (λ _. omega arith)
+
+-- so many does the library count
+pub leading_is : (test : ℕ → Bool) (l : List ℕ) → prefix_len test l ≡ leading test l
+unfolding leading pick
+leading_is test [] = refl
+leading_is test (c ∷ cs) = by (test c) (leading_is test cs)
+  where
+    by : (b : Bool) → prefix_len test cs ≡ leading test cs → cond b (1 + prefix_len test cs) 0 ≡ pick b (suc (leading test cs)) 0
+    by true e = omega arith
+    by false e = refl
 
 -- ---- blanks
 

@@ -5,18 +5,18 @@
 ghost use Rattle.std.specs.Prelude.{◌≡◌, ◌+◌, ◌*◌, ◌≤◌, length};
 ghost use Rattle.digits.specs.Digits.{digit_of, is_digit, byte_at, word_at, sum_at, is_blank, past_blanks, past_digits};
 
-// What a character has for a value that is no digit.
+// What a character has for a value that is no digit. A number and no `None`: `digit` promises `digit_of`, and the bytes of `byte_at` count it.
 const NO_DIGIT: usize = 16;
 
 // The value of a digit, or `NO_DIGIT`.
+#[tactic(auto, using(crate::proofs::Digits::digit_decimal, crate::proofs::Digits::digit_upper, crate::proofs::Digits::digit_lower, crate::proofs::Digits::digit_none))]
 pub fn digit(character: u8) -> usize
     ensures { result ≡ digit_of character }
 {
-    let code = words::wide(character);
-    match code {
-        48..=57 => code - 48,
-        65..=70 => code - 55,
-        97..=102 => code - 87,
+    match character {
+        b'0'..=b'9' => usize::from(character - b'0'),
+        b'A'..=b'F' => usize::from(character - b'A') + 10,
+        b'a'..=b'f' => usize::from(character - b'a') + 10,
         _ => NO_DIGIT,
     }
 }
@@ -32,16 +32,11 @@ fn is_digit(character: u8) -> bool
 fn is_blank(character: u8) -> bool
     ensures { result ≡ is_blank character }
 {
-    match character {
-        13 => true,
-        10 => true,
-        32 => true,
-        9 => true,
-        _ => false,
-    }
+    matches!(character, b'\r' | b'\n' | b' ' | b'\t')
 }
 
 // The byte in the two digits at `at`.
+#[tactic(auto, using(crate::proofs::Digits::digit_most), unfolding(crate::specs::Digits::byte_at))]
 pub fn byte_at(file: &[u8], at: usize) -> usize
     requires { at + 2 ≤ length file.now }
     ensures { (result ≡ byte_at file.now at) × (result ≤ 272) }
@@ -50,6 +45,7 @@ pub fn byte_at(file: &[u8], at: usize) -> usize
 }
 
 // The word in the four digits at `at`.
+#[tactic(auto, unfolding(crate::specs::Digits::word_at))]
 pub fn word_at(file: &[u8], at: usize) -> usize
     requires { at + 4 ≤ length file.now }
     ensures { result ≡ word_at file.now at }
@@ -62,13 +58,7 @@ pub fn sum(file: &[u8], at: usize, count: usize) -> usize
     requires { (at + 2 * count ≤ length file.now) × (length file.now ≤ 65536) }
     ensures { result ≡ sum_at file.now at count }
 {
-    let mut total = 0;
-    let mut i = 0;
-    while i < count {
-        total += byte_at(file, at + 2 * i);
-        i += 1;
-    }
-    total
+    (0..count).map(|i| byte_at(file, at + 2 * i)).sum()
 }
 
 // Where the blanks from `at` on end.
@@ -76,14 +66,10 @@ pub fn past_blanks(file: &[u8], at: usize) -> usize
     requires { at ≤ length file.now }
     ensures { result ≡ past_blanks file.now at }
 {
-    let mut end = at;
-    while end < file.len() {
-        if !is_blank(file[end]) {
-            return end;
-        }
-        end += 1;
-    }
-    end
+    at + file[at..]
+        .iter()
+        .take_while(|character| is_blank(**character))
+        .count()
 }
 
 // Where the digits end, of `count` characters from `at` on.
@@ -91,12 +77,9 @@ pub fn past_digits(file: &[u8], at: usize, count: usize) -> usize
     requires { (at ≤ length file.now) × (length file.now ≤ 65536) × (count ≤ 65536) }
     ensures { result ≡ past_digits file.now at count }
 {
-    let mut end = at;
-    while end < at + count && end < file.len() {
-        if !is_digit(file[end]) {
-            return end;
-        }
-        end += 1;
-    }
-    end
+    at + file[at..]
+        .iter()
+        .take(count)
+        .take_while(|character| is_digit(**character))
+        .count()
 }

@@ -1,6 +1,8 @@
 -- Numbers and their bytes are one another's inverse, and so are an amount on and off. Each law once, over the width.
 -- Assumes nothing.
 use Rattle.std.proofs.Common.{◌≡◌, ℕ, zero, suc, ◌+◌, ◌-◌, ◌*◌, ◌/◌, ◌%◌, ◌^◌, ◌<◌, ◌≤◌, List, [], ◌∷◌, ◌++◌, length, get_or, take, drop, sym, refl, ap, ◌∙◌, ap₂, le_of_suc-le-suc, not-suc-le-zero, mod-lt, mod-eq_of_lt, add_comm, pow-suc, mul-zero, mul-suc, add-one, arith, length-append, drop_of_length-le, drop-cons, take-suc, take_at}
+use Rattle.std.proofs.Common.{w32}
+use Rattle.std.specs.Int.{to_le_bytes}
 use native.Mathlib.Decide.{dec_lt}
 use native.Mathlib.Nat.{mod-mod, mod-add-mod, add-mod-mod, div-add-mod, add-mul-mod_self_left, one-le-pow}
 use lib.ListN.{get_or-eq_default}
@@ -21,6 +23,11 @@ unfolding digits
 bytes_digits zero v x = omega arith
 bytes_digits (suc k) v zero = omega arith
 bytes_digits (suc k) v (suc x) = bytes_digits k (v / 256) x
+
+-- the bytes that the library makes of a number of the answer are its digits
+pub digits_four : (v : ℕ) → to_le_bytes w32 v ≡ digits 4 v
+unfolding digits
+digits_four v = ap₂ (λ (x y : ℕ). v % 256 ∷ v / 256 % 256 ∷ x % 256 ∷ y % 256 ∷ []) (omega arith) (omega arith)
 
 -- a number that k bytes can hold is read back from them
 pub number_digits : (k v : ℕ) → v < 256 ^ k → number (digits k v) ≡ v

@@ -19,6 +19,7 @@ pub fn wide(byte: u8) -> usize
 }
 
 // The word at `at`.
+#[tactic(auto, using(crate::proofs::Numbers::value_word))]
 pub fn word_at(bytes: &[u8], at: usize) -> u16
     requires { at + 2 ≤ length bytes.now }
     ensures { result ≡ value 2 bytes.now at }
@@ -27,6 +28,7 @@ pub fn word_at(bytes: &[u8], at: usize) -> u16
 }
 
 // The word at `at`, high byte first.
+#[tactic(auto, using(crate::proofs::Big::big_value_word))]
 pub fn big_word_at(bytes: &[u8], at: usize) -> u16
     requires { at + 2 ≤ length bytes.now }
     ensures { result ≡ big_value 2 bytes.now at }

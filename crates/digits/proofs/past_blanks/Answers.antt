@@ -1,31 +1,26 @@
--- `digits::past_blanks` meets its contract: up to `end` all are blanks, so they end where those from there on do.
+-- `digits::past_blanks` meets its contract: it counts the blanks that lead.
 -- Assumes nothing.
-use mathlib.Core.Path.{◌≡◌, refl, sym, ◌∙◌}
-use native.Mathlib.Omega.{arith}
-use Rattle.std.proofs.Common.{rules}
-use lib.ListN.{length}
-use Rattle.digits.proofs.Ends.{blanks_more, blanks_stop, blanks_end}
+use Rattle.std.proofs.Common.{◌≡◌, ◌∙◌, ◌-◌, drop, take, length, length-drop, arith, rules, tests}
+use lib.Seq.{take-length}
+use Rattle.std.proofs.lemmas.Iterator.{YieldsList-from_slice}
+use Rattle.std.proofs.lemmas.Iterator.Consumers.{count_from_yields_List, YieldsList-at}
+use Rattle.std.proofs.lemmas.Iterator.Search.{YieldsList-from_take_while}
+use Rattle.std.proofs.lemmas.List.Folds.{length-prefix_len}
+use Rattle.digits.proofs.Ends.{leading_is}
+use Rattle.digits.specs.Digits.{is_blank, leading, past_blanks}
 use Rattle.digits.proofs.past_blanks.Goals as goal
 
-pub loop-end-init : goal.loop-end-init
-loop-end-init c = (search rules, refl)
-
-pub returns-then-not-is_blank : goal.returns-then-not-is_blank
-returns-then-not-is_blank c =
-    let l = c.loop-end in
-    let s = c.args.file.now in
-    let b = c.is_blank in
-    sym (l.invariant.1 ∙ blanks_stop s l.end (omega arith) (sym b.ensures ∙ c.if-not-is_blank.true))
-
-pub loop-end-preserved : goal.loop-end-preserved
-loop-end-preserved c =
-    let l = c.loop-end in
-    let s = c.args.file.now in
-    let b = c.is_blank in
-    (omega arith, l.invariant.1 ∙ blanks_more s l.end (omega arith) (sym b.ensures ∙ c.if-not-is_blank.false))
-
 pub returns : goal.returns
+unfolding past_blanks
 returns c =
-    let s = c.args.file.now in
-    let e : c.loop-end.end ≡ length s = omega arith in
-    sym (c.loop-end.invariant.1 ∙ rw e (blanks_end s))
+    let file = c.args.file.now in
+    let rest = drop c.args.at file in
+    let whole : take (length file - c.args.at) rest ≡ rest = rw (← length-drop c.args.at file) (take-length rest) in
+    let counted : c.count.result ≡ leading is_blank rest =
+    count_from_yields_List c.take_while.result _ c.count.ensures.ran
+    (YieldsList-from_take_while _ is_blank
+    (YieldsList-at c.take_while.ensures.source (YieldsList-from_slice rest (c.iter.ensures.rest ∙ whole)))
+    c.take_while.ensures.closure c.take_while.ensures.done (λ x b q k. search (rules, tests)))
+    ∙ length-prefix_len is_blank rest
+    ∙ leading_is is_blank rest in
+    omega arith

@@ -10,4 +10,4 @@ pub returns : goal.returns
 returns c =
     let s = c.args in
     c.add.ensures
-    ∙ change_same s.width (on s.width _) s.bytes.now s.at (off s.width s.amount) (on_rest s.width s.amount _ _ (omega arith) (omega arith) (omega arith))
+    ∙ change_same s.width (on s.width _) s.bytes.now s.at (off s.width s.amount) (on_rest s.width s.amount _ _ (omega arith) (omega arith) (grind arith))
