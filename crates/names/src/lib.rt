@@ -30,5 +30,8 @@ pub fn find(names: &[u8], name: &[u8]) -> Option<usize>
     requires { length name.now ≡ name_size }
     ensures { result ≡ newest names.now name.now }
 {
-    names.chunks_exact(NAME).rposition(|known| known == name)
+    // As arrays of one length, two names compare in one step.
+    let (whole, _) = names.as_chunks::<NAME>();
+    let name = name.first_chunk::<NAME>().unwrap();
+    whole.iter().rposition(|known| known == name)
 }
