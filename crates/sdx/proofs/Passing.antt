@@ -4,6 +4,7 @@ use mathlib.Core.Bool.{Bool, true, false, not, ◌||◌, false≢true}
 use mathlib.Core.List.{List}
 use mathlib.Core.Path.{◌≡◌, refl, ap, ◌∙◌}
 use Prim.Native.Nat.{ℕ, ◌+◌, ◌≤◌, ◌<◌}
+use Rattle.std.proofs.Common.{Option, Some, None}
 use native.Mathlib.Omega.{arith}
 use borrow.Author.Tests.{leb-true, eqb-true, not-true}
 use lib.Dec.{eqb, ltb}
@@ -28,7 +29,7 @@ use Rattle.items.specs.declared.Item.TheVariants.{Faulty as FaultyItem, End, Mov
 use Rattle.items.specs.declared.Slot.{Slot}
 use Rattle.names.specs.Names.{look_up}
 use Rattle.names.specs.declared.Definition.{Definition}
-use Rattle.names.specs.declared.Definition.TheVariants.{Missing, Own, Lent}
+use Rattle.names.specs.declared.Definition.TheVariants.{Own, Lent}
 use Rattle.updates.proofs.Turning.{turn_falls}
 use Rattle.updates.specs.Bodies.{is_loaded, word_loaded, adjusting, applied as applied_item, BodyState, broken, turn, items, begun, body}
 use Rattle.words.proofs.Changes.{value_lt}
@@ -93,10 +94,10 @@ module _ (file : List ℕ) (high : ℕ) (lent own : List ℕ) (c : Cursor) where
   unfolding read_names
   names_granted = checked _ _ _ _ (λ h. by (look_up own lent (part file (c.at + 2) 8)))
     where
-      by : (d : Definition) → Granted c (by_definition c.at d)
-      by Missing = record { passes = tt }
-      by (Own i) = record { passes = tt }
-      by (Lent i) = record { passes = tt }
+      by : (d : Option Definition) → Granted c (by_definition c.at d)
+      by None = record { passes = tt }
+      by (Some (Own i)) = record { passes = tt }
+      by (Some (Lent i)) = record { passes = tt }
 
   -- (nor has a new name)
   new_name_granted : Granted c (read_new_name file c)
