@@ -1,7 +1,7 @@
 -- Where what a block says lies, whatever the file: past the block's offset and in the file, in memory, in the table or in a list of names. A fault is
 -- one that the file may be refused with (`answer`, proofs/Faults.antt).
 -- Assumes nothing.
-use Rattle.std.proofs.Common.{◌≡◌, ℕ, ◌+◌, ◌*◌, ◌/◌, ◌<◌, ◌≤◌, Bool, true, false, not, ltb, List, length, get_or, refl, arith, ltb-true, leb-true}
+use Rattle.std.proofs.Common.{◌≡◌, ℕ, ◌+◌, ◌*◌, ◌/◌, ◌<◌, ◌≤◌, Bool, true, false, not, ltb, List, Option, Some, None, length, get_or, refl, arith, ltb-true, leb-true}
 use Rattle.answer.proofs.Checks.{on_need, on_pick, and_true}
 use Rattle.answer.proofs.Faults.{is_early, PlaceOf, OfFile}
 use Rattle.answer.specs.Checks.{need}
@@ -10,7 +10,7 @@ use Rattle.items.specs.Items.{slot_at}
 use Rattle.names.proofs.Searching.{own_inside, lent_inside}
 use Rattle.names.specs.Names.{look_up}
 use Rattle.names.specs.declared.Definition.{Definition}
-use Rattle.names.specs.declared.Definition.TheVariants.{Missing, Own, Lent}
+use Rattle.names.specs.declared.Definition.TheVariants.{Own, Lent}
 use Rattle.words.specs.Numbers.{value}
 use Rattle.words.specs.Runs.{part}
 use Rattle.blocks.specs.Blocks.{read_plain, most_blocks, read_room, read_relocatable, read_update, by_definition, read_names, read_address, read_new_name, read}
@@ -85,10 +85,10 @@ module _ (file : List ℕ) (high : ℕ) (lent own : List ℕ) (c : Cursor) where
   unfolding read_names
   names_lies = checked _ _ _ _ refl (omega arith) (λ i. by (look_up own lent (part file (c.at + 2) 8)) refl (leb-true _ _ i))
     where
-      by : (d : Definition) → look_up own lent (part file (c.at + 2) 8) ≡ d → c.at + 12 ≤ length file → Lain (by_definition c.at d)
-      by Missing e l = record { fits = record { lies = tt }; faults = record { late = refl; place = omega arith } }
-      by (Own i) e l = record { fits = record { lies = (omega arith, l, listed i (length own) (own_inside own lent _ i e)) }; faults = tt }
-      by (Lent i) e l = record { fits = record { lies = (omega arith, l, listed i (length lent) (lent_inside own lent _ i e)) }; faults = tt }
+      by : (d : Option Definition) → look_up own lent (part file (c.at + 2) 8) ≡ d → c.at + 12 ≤ length file → Lain (by_definition c.at d)
+      by None e l = record { fits = record { lies = tt }; faults = record { late = refl; place = omega arith } }
+      by (Some (Own i)) e l = record { fits = record { lies = (omega arith, l, listed i (length own) (own_inside own lent _ i e)) }; faults = tt }
+      by (Some (Lent i)) e l = record { fits = record { lies = (omega arith, l, listed i (length lent) (lent_inside own lent _ i e)) }; faults = tt }
 
   new_name_lies : Lain (read_new_name file c)
   unfolding read_new_name read_address

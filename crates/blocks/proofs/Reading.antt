@@ -1,6 +1,6 @@
 -- The checks of a block, over plain values: what each comes to where it holds and where it fails. The functions' proofs cite these.
 -- Assumes nothing.
-use Rattle.std.proofs.Common.{◌≡◌, ℕ, ◌+◌, ◌-◌, ◌%◌, ◌<◌, ◌≤◌, Bool, true, false, List, length, get_or, sym, refl, ap, ◌∙◌, arith, le-ltb, lt-ltb, ne_eqb, le-leb}
+use Rattle.std.proofs.Common.{◌≡◌, ℕ, ◌+◌, ◌-◌, ◌%◌, ◌<◌, ◌≤◌, Bool, true, false, List, Option, Some, None, length, get_or, sym, refl, ap, ◌∙◌, arith, le-ltb, lt-ltb, ne_eqb, le-leb}
 use borrow.Author.Tests.{lt-leb}
 use Rattle.answer.proofs.Checks.{on_need}
 use Rattle.answer.specs.Checks.{need, pick}
@@ -10,10 +10,9 @@ use Rattle.items.specs.Items.{slot_at}
 use Rattle.items.specs.declared.Slot.{Slot}
 use Rattle.names.specs.Names.{look_up}
 use Rattle.names.specs.declared.Definition.{Definition}
-use Rattle.names.specs.declared.Definition.TheVariants.{Missing, Own, Lent}
+use Rattle.names.specs.declared.Definition.TheVariants.{Own, Lent}
 use Rattle.words.proofs.Numbers.{off_is}
 use Rattle.words.specs.Numbers.{value}
-use Rattle.words.specs.Runs.{part}
 use Rattle.blocks.specs.Blocks.{read_plain, data_size, read_room, read_relocatable, read_update, by_definition, read_names, read_address, read_new_name, read, amount_of}
 use Rattle.blocks.specs.Bounds.{Listed, InMemory}
 use Rattle.blocks.specs.declared.Block.{Block}
@@ -56,10 +55,10 @@ pub names_in_memory : (file lent own : List ℕ) (c : Cursor) → InMemory (read
 unfolding read_names
 names_in_memory file lent own c = in_need _ _ _ _ (by (look_up own lent _))
   where
-    by : (d : Definition) → InMemory (by_definition c.at d)
-    by Missing = in_memory _ (omega arith)
-    by (Own i) = in_memory _ (omega arith)
-    by (Lent i) = in_memory _ (omega arith)
+    by : (d : Option Definition) → InMemory (by_definition c.at d)
+    by None = in_memory _ (omega arith)
+    by (Some (Own i)) = in_memory _ (omega arith)
+    by (Some (Lent i)) = in_memory _ (omega arith)
 
 pub new_name_in_memory : (file : List ℕ) (c : Cursor) → InMemory (read_new_name file c)
 unfolding read_new_name read_address
@@ -248,20 +247,6 @@ module _ (table : List Slot) (lent own : List ℕ) (s : Source) where
 
   pub amount_own : (i r : ℕ) → s ≡ OwnName i → r ≡ get_or own i 0 → r ≡ amount_of table lent own s
   amount_own i r e h = rw e h
-
--- ---- names
-
-module _ (file lent own : List ℕ) (c : Cursor) where
-  -- name and length word are not both present: 5
-  pub names_cut : length file < c.at + 12 → Faulty CutShort (length file) ≡ read_names file lent own c
-  unfolding read_names need
-  names_cut h = rw (lt-leb _ _ h) refl
-
-  -- else the definition that holds decides
-  pub names_read : (name : List ℕ) (d e : Definition) → c.at + 12 ≤ length file → name ≡ part file (c.at + 2) 8 → d ≡ look_up own lent name → d ≡ e
-      → by_definition c.at e ≡ read_names file lent own c
-  unfolding read_names need
-  names_read name d e h en ed de = rw (le-leb _ _ h, ← en, ← ed, de) refl
 
 -- ---- by the first word
 

@@ -3,14 +3,14 @@
 -- Each check names its offset by document 02, wish 6: "for 5 the file's length, for 9 the end word .., for 10 .. in SDX, the length word, for 14 and 15
 -- the name"; of 6, 7, 8 and 16 the number, the id or the offset word is "the field .. at fault".
 -- Assumes nothing.
-use Rattle.std.specs.Prelude.{ℕ, ◌+◌, ◌-◌, Bool, true, false, not, ◌&&◌, ◌||◌, List, length, ◌==◌, nat_le, nat_lt, slice_index, slice_index_or}
+use Rattle.std.specs.Prelude.{ℕ, ◌+◌, ◌-◌, Bool, true, false, not, ◌&&◌, ◌||◌, List, length, ◌==◌, nat_le, nat_lt, slice_index, slice_index_or, Option, Some, None}
 use Rattle.answer.specs.Checks.{need, pick}
 use Rattle.answer.specs.declared.Fault.TheVariants.{CutShort, NotKnown, BlockTaken, BlockMissing, LengthNotAllowed, DoesNotFit, NameUnknown, TooManyNames, NameOutsideBlock}
 use Rattle.items.specs.Items.{slot_at, last_number}
 use Rattle.items.specs.declared.Slot.{Slot}
 use Rattle.names.specs.Names.{name_size, look_up}
 use Rattle.names.specs.declared.Definition.{Definition}
-use Rattle.names.specs.declared.Definition.TheVariants.{Missing, Own, Lent}
+use Rattle.names.specs.declared.Definition.TheVariants.{Own, Lent}
 use Rattle.words.specs.Numbers.{value, off}
 use Rattle.words.specs.Runs.{part}
 use Rattle.blocks.specs.declared.Block.{Block}
@@ -76,10 +76,10 @@ read_update file c =
     (Update (Number number) (c.at + 5))))
 
 -- a body whose words grow by the address of a name, by the definition that holds: "name known (14)"
-abbrev pub by_definition : ℕ → Definition → Block
-by_definition at Missing = Faulty NameUnknown (at + 2)
-by_definition at (Own i) = Update (OwnName i) (at + 12)
-by_definition at (Lent i) = Update (LentName i) (at + 12)
+abbrev pub by_definition : ℕ → Option Definition → Block
+by_definition at None = Faulty NameUnknown (at + 2)
+by_definition at (Some (Own i)) = Update (OwnName i) (at + 12)
+by_definition at (Some (Lent i)) = Update (LentName i) (at + 12)
 
 -- "FFFB: names. Eight-byte name and length word present (5); name known (14)."
 unfoldable pub read_names : List ℕ → List ℕ → List ℕ → Cursor → Block

@@ -208,6 +208,7 @@ fn read_update(file: &[u8], cursor: Cursor) -> Block
 }
 
 // FFFB: words that grow by the address of a name.
+#[tactic(auto, using(words::proofs::Lent::lent_is), unfolding(crate::specs::Blocks::read_names, answer::specs::Checks::need))]
 fn read_names(file: &[u8], lent: &[u8], own: &[u8], cursor: Cursor) -> Block
     requires { (length file.now ≤ 65536) × (cursor.at ≤ length file.now) }
     ensures { result ≡ read_names file.now lent.now own.now cursor }
@@ -219,14 +220,13 @@ fn read_names(file: &[u8], lent: &[u8], own: &[u8], cursor: Cursor) -> Block
     }
     let start = at + 2;
     let end = start + names::NAME;
-    let definition = names::look_up(own, lent, &file[start..end]);
-    match definition {
-        Definition::Missing => Block::Faulty(Fault::NameUnknown, at + 2),
-        Definition::Own(index) => Block::Update {
+    match names::look_up(own, lent, &file[start..end]) {
+        None => Block::Faulty(Fault::NameUnknown, at + 2),
+        Some(Definition::Own(index)) => Block::Update {
             source: Source::OwnName(index),
             from,
         },
-        Definition::Lent(index) => Block::Update {
+        Some(Definition::Lent(index)) => Block::Update {
             source: Source::LentName(index),
             from,
         },

@@ -1,3 +1,3 @@
--- Laws about the definitions of specs/, and the turns of the loops.
+-- Laws about the definitions of specs/, and what a search from the back of a list's chunks finds.
+pub mod FromTheBack
 pub mod Searching
-pub mod Turns
