@@ -2,23 +2,25 @@
 -- Assumes nothing.
 use mathlib.Core.Bool.{true, false}
 use mathlib.Core.List.{List, [], ◌++◌}
-use mathlib.Core.Path.{◌≡◌, refl}
+use mathlib.Core.Path.{◌≡◌, refl, ap}
 use Prim.Native.Nat.{ℕ, ◌+◌, ◌≤◌, ◌<◌}
 use native.Mathlib.Omega.{arith}
 use lib.ListN.{length}
+use Rattle.std.proofs.Common.{Ok, Err}
+use Rattle.answer.specs.Checks.{failure}
+use Rattle.answer.specs.declared.Failure.{Failure}
 use Rattle.answer.specs.declared.Fault.{Fault}
 use Rattle.blocks.specs.Blocks.{amount_of}
 use Rattle.blocks.specs.Bounds.{Fits}
 use Rattle.blocks.specs.declared.Block.{Block}
-use Rattle.blocks.specs.declared.Block.TheVariants.{Plain, Relocatable, Update, NewName, Faulty}
+use Rattle.blocks.specs.declared.Block.TheVariants.{Plain, Relocatable, Update, NewName}
 use Rattle.blocks.specs.declared.Cursor.{Cursor}
 use Rattle.events.proofs.Events.{placed_append, adjusted_append}
 use Rattle.events.specs.Events.{Event, placed_in, adjusted_in}
 use Rattle.updates.proofs.Bounds.{body_bounds, body_places_none}
-use Rattle.updates.proofs.Turning.{broken_done, done_same}
-use Rattle.updates.specs.Bodies.{Stop, broken, done, counted}
+use Rattle.updates.proofs.Turning.{done_same}
+use Rattle.updates.specs.Bodies.{Stop, broken, done, Ended, ended_at, counted}
 use Rattle.words.proofs.Runs.{length_part}
-use Rattle.updates.specs.declared.Ended.TheVariants.{Broken, Done}
 use Rattle.effects.specs.Effects.{placed_by, applied, advanced, first_cursor}
 
 -- a block that is carried out ends further on, in the file, and as many bytes further on at least as it places and as it adjusts
@@ -55,7 +57,6 @@ applied_ends file lent own c (NewName from address) map n k f next e =
     let l = f.lies in
     let t : from + 8 ≡ next = done_same e in
     record { further = omega (arith, l.0); inside = omega (arith, l.1); behind = omega (arith, l.0) }
-applied_ends file lent own c (Faulty fault offset) map n k f next e = absurd (broken_done e)
 
 -- and there the cursor stands
 pub advanced_at : (file lent own : List ℕ) (c : Cursor) (b : Block) (map : List ℕ) (next : ℕ) → (applied file lent own c b map).answer ≡ done next
@@ -64,7 +65,6 @@ advanced_at file lent own c (Plain address from size) map next e = refl
 advanced_at file lent own c (Relocatable reserves number offset from size) map next e = refl
 advanced_at file lent own c (Update source from) map next e = refl
 advanced_at file lent own c (NewName from address) map next e = refl
-advanced_at file lent own c (Faulty fault offset) map next e = absurd (broken_done e)
 
 -- the events so far are no more than the bytes behind the cursor
 pub record Behind (len : ℕ) (c : Cursor) (es : List Event) : Type 0 where
@@ -91,13 +91,23 @@ placed_by_lem file lent own c (Relocatable false number offset from size) map n 
     let l = length_part file from size f.lies.1 in omega (arith, l)
 placed_by_lem file lent own c (Update source from) map n k f next e = body_places_none file c.table _ from map
 placed_by_lem file lent own c (NewName from address) map n k f next e = refl
-placed_by_lem file lent own c (Faulty fault offset) map n k f next e = refl
+
+-- what an end in the program's terms says
+abbrev next_in : Ended → ℕ
+next_in (Ok d) = d.next
+next_in (Err e) = 0
+
+abbrev adjusted_by : Ended → ℕ
+adjusted_by (Ok d) = d.adjusted
+adjusted_by (Err e) = 0
 
 -- an end in the program's terms is the same end in the definition's
-pub stop_broken : (s : Stop) (es : List Event) (fault : Fault) (offset : ℕ) → counted s es ≡ Broken fault offset → s ≡ broken fault offset
-stop_broken (broken f i) es fault offset e = cc
+pub stop_broken : (s : Stop) (es : List Event) (fault : Fault) (offset : ℕ) → counted s es ≡ failure fault offset → s ≡ broken fault offset
+stop_broken (broken f i) es fault offset e =
+    let same : ◌≡◌ {A = Failure} (record { fault = f; offset = i }) (record { fault = fault; offset = offset }) = cc in
+    ap (λ (x : Failure). broken x.fault x.offset) same
 stop_broken (done next) es fault offset e = let z : ◌≡◌ {A = ℕ} 0 1 = cc in absurd (omega arith)
 
-pub stop_done : (s : Stop) (es : List Event) (next adjusted : ℕ) → counted s es ≡ Done next adjusted → (s ≡ done next) × (adjusted_in es ≡ adjusted)
+pub stop_done : (s : Stop) (es : List Event) (next adjusted : ℕ) → counted s es ≡ ended_at next adjusted → (s ≡ done next) × (adjusted_in es ≡ adjusted)
 stop_done (broken f i) es next adjusted e = let z : ◌≡◌ {A = ℕ} 0 1 = cc in absurd (omega arith)
-stop_done (done k) es next adjusted e = (cc, cc)
+stop_done (done k) es next adjusted e = (ap done (ap next_in e), ap adjusted_by e)

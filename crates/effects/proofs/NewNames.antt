@@ -2,7 +2,7 @@
 -- Assumes nothing.
 use mathlib.Core.Bool.{Bool, true, false}
 use mathlib.Core.List.{List, [], ◌∷◌, ◌++◌}
-use mathlib.Core.Path.{◌≡◌, refl, ap, ◌∙◌}
+use mathlib.Core.Path.{◌≡◌, refl, sym, ap, ◌∙◌}
 use Prim.Native.Nat.{ℕ, zero, suc, ◌+◌, ◌-◌, ◌*◌, ◌≤◌, ◌<◌}
 use native.Mathlib.Omega.{arith}
 use borrow.Author.Tests.{eqb-true, eqb-false}
@@ -12,9 +12,11 @@ use lib.ListN.{length, set, replicate, length-set, length-append}
 use lib.Seq.{get_or-set_same, get_or-set_other}
 use Rattle.blocks.specs.Bounds.{Packed, Fits}
 use Rattle.blocks.specs.declared.Block.{Block}
-use Rattle.blocks.specs.declared.Block.TheVariants.{Plain, Relocatable, Update, NewName, Faulty}
+use Rattle.blocks.specs.declared.Block.TheVariants.{Plain, Relocatable, Update, NewName}
 use Rattle.blocks.specs.declared.Cursor.{Cursor}
-use Rattle.items.specs.Items.{empty_slot, slot_at}
+use Rattle.std.proofs.Common.{Option, Some, None}
+use Rattle.std.proofs.lemmas.Option.{none-some, same_Some}
+use Rattle.items.specs.Items.{slot_at}
 use Rattle.items.specs.declared.Slot.{Slot}
 use Rattle.words.proofs.Lent.{lent_is}
 use Rattle.words.proofs.Runs.{put_append, length_part}
@@ -66,7 +68,6 @@ counted_on file c (NewName from address) next lent own names addresses f h =
       each = length-append addresses (address ∷ []) ∙ omega (arith, h.each);
       few = omega (arith, l.2);
     }
-counted_on file c (Faulty fault offset) next lent own names addresses f h = counted_same c _ names addresses refl h
 
 -- ---- the table
 
@@ -76,22 +77,25 @@ pub record Tabled (c : Cursor) : Type 0 where
   pub packed : Packed c.table
   pub few : c.count ≤ 7
 
-packed_set : (table : List Slot) (number : ℕ) (slot : Slot) → number < length table → slot.address + slot.size ≤ 65535 → Packed table
-    → Packed (set table number slot)
-packed_set table number slot h i p = record { packed = λ n. by n (eqb n number) refl }
+packed_set : (table : List (Option Slot)) (number : ℕ) (slot : Slot) → number < length table → slot.address + slot.size ≤ 65535 → Packed table
+    → Packed (set table number (Some slot))
+packed_set table number slot h i p = record { packed = λ n s e. by n s (eqb n number) refl e }
   where
-    by : (n : ℕ) (t : Bool) → eqb n number ≡ t → (slot_at (set table number slot) n).address + (slot_at (set table number slot) n).size ≤ 65535
-    by n true e = rw (eqb-true n number e, get_or-set_same table number slot empty_slot h) i
-    by n false e = rw (get_or-set_other table number n slot empty_slot (eqb-false n number e)) (p.packed n)
+    by : (n : ℕ) (s : Slot) (t : Bool) → eqb n number ≡ t → slot_at (set table number (Some slot)) n ≡ Some s → s.address + s.size ≤ 65535
+    by n s true e f =
+        let same : Some slot ≡ Some s =
+        sym (get_or-set_same table number (Some slot) None h) ∙ ap (λ (k : ℕ). slot_at (set table number (Some slot)) k) (sym (eqb-true n number e)) ∙ f in
+        rw (← same_Some _ _ same) i
+    by n s false e f = p.packed n s (sym (get_or-set_other table number n (Some slot) None (eqb-false n number e)) ∙ f)
 
 -- before the first block no slot is taken
 pub tabled_first : (low : ℕ) → Tabled (first_cursor low)
-tabled_first low = record { slots = refl; packed = record { packed = λ n. empty 8 n }; few = omega arith }
+tabled_first low = record { slots = refl; packed = record { packed = λ n s e. absurd (empty 8 n s e) }; few = omega arith }
   where
-    empty : (k n : ℕ) → (slot_at (replicate k empty_slot) n).address + (slot_at (replicate k empty_slot) n).size ≤ 65535
-    empty zero n = omega arith
-    empty (suc k) zero = omega arith
-    empty (suc k) (suc n) = empty k n
+    empty : (k n : ℕ) (s : Slot) → slot_at (replicate k None) n ≡ Some s → ⊥
+    empty zero n s e = none-some s e
+    empty (suc k) zero s e = none-some s e
+    empty (suc k) (suc n) s e = empty k n s e
 
 -- after a block it holds with the slot that the block takes, if any
 pub tabled_on : (c : Cursor) (b : Block) (next len lent own : ℕ) → Fits len c lent own b → Tabled c → Tabled (advanced c b next)
@@ -105,4 +109,3 @@ tabled_on c (Relocatable reserves number offset from size) next len lent own f h
     }
 tabled_on c (Update source from) next len lent own f h = record { slots = h.slots; packed = h.packed; few = h.few }
 tabled_on c (NewName from address) next len lent own f h = record { slots = h.slots; packed = h.packed; few = h.few }
-tabled_on c (Faulty fault offset) next len lent own f h = h

@@ -1,14 +1,13 @@
 -- One block of an SDX file carried out: what it does, where it ends, the cursor after it, and the name that it brings.
 -- Assumes nothing.
-use Rattle.std.specs.Prelude.{Bool, true, false, List, [], ◌∷◌, ℕ, ◌+◌, set, replicate}
+use Rattle.std.specs.Prelude.{Bool, true, false, List, [], ◌∷◌, ℕ, ◌+◌, set, replicate, Some, None}
 use Rattle.blocks.specs.Blocks.{data_size, amount_of}
 use Rattle.blocks.specs.declared.Block.{Block}
-use Rattle.blocks.specs.declared.Block.TheVariants.{Plain, Relocatable, Update, NewName, Faulty}
+use Rattle.blocks.specs.declared.Block.TheVariants.{Plain, Relocatable, Update, NewName}
 use Rattle.blocks.specs.declared.Cursor.{Cursor}
 use Rattle.events.specs.Events.{Event, place, reserve, Ran}
-use Rattle.items.specs.Items.{empty_slot}
 use Rattle.names.specs.Names.{name_size}
-use Rattle.updates.specs.Bodies.{Stop, broken, done, body}
+use Rattle.updates.specs.Bodies.{Stop, done, body}
 use Rattle.words.specs.Runs.{part}
 
 -- "Placed there."
@@ -26,7 +25,6 @@ applied file lent own c (Plain address from size) map = placing file address fro
 applied file lent own c (Relocatable reserves number offset from size) map = placing_relocatable reserves file c.low from size
 applied file lent own c (Update source from) map = body file c.table (amount_of c.table lent own source) from map
 applied file lent own c (NewName from address) map = record { answer = done (from + name_size); events = [] }
-applied file lent own c (Faulty fault offset) map = record { answer = broken fault offset; events = [] }
 
 -- what a block did: where it begins, what it says (a body with what its words grow by: a block, a lent name, a name of the file), its events
 pub record Effect : Type 0 where
@@ -36,7 +34,7 @@ pub record Effect : Type 0 where
 
 -- the cursor before the first block
 abbrev pub first_cursor : ℕ → Cursor
-first_cursor low = record { at = 0; low = low; count = 0; named = 0; table = replicate 8 empty_slot }
+first_cursor low = record { at = 0; low = low; count = 0; named = 0; table = replicate 8 None }
 
 -- the cursor at another offset, with so many new names
 abbrev pub moved_on : Cursor → ℕ → ℕ → Cursor
@@ -50,7 +48,7 @@ with_block c number offset size next =
       low = c.low + size;
       count = c.count + 1;
       named = c.named;
-      table = set c.table number (record { taken = true; address = c.low; offset = offset; size = size });
+      table = set c.table number (Some (record { address = c.low; offset = offset; size = size }));
     }
 
 -- the cursor after a block that ends at an offset
@@ -59,7 +57,6 @@ advanced c (Plain address from size) next = moved_on c next c.named
 advanced c (Relocatable reserves number offset from size) next = with_block c number offset size next
 advanced c (Update source from) next = moved_on c next c.named
 advanced c (NewName from address) next = moved_on c next (c.named + 1)
-advanced c (Faulty fault offset) next = c
 
 -- the name that a block brings
 abbrev pub name_in : List ℕ → Block → List ℕ
@@ -67,7 +64,6 @@ name_in file (Plain address from size) = []
 name_in file (Relocatable reserves number offset from size) = []
 name_in file (Update source from) = []
 name_in file (NewName from address) = part file from name_size
-name_in file (Faulty fault offset) = []
 
 -- and the address of that name
 abbrev pub address_in : Block → List ℕ
@@ -75,7 +71,6 @@ address_in (Plain address from size) = []
 address_in (Relocatable reserves number offset from size) = []
 address_in (Update source from) = []
 address_in (NewName from address) = address ∷ []
-address_in (Faulty fault offset) = []
 
 -- the bytes that a block places
 abbrev pub placed_by : Block → ℕ
@@ -83,4 +78,3 @@ placed_by (Plain address from size) = size
 placed_by (Relocatable reserves number offset from size) = data_size reserves size
 placed_by (Update source from) = 0
 placed_by (NewName from address) = 0
-placed_by (Faulty fault offset) = 0

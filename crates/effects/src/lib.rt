@@ -5,30 +5,25 @@ ghost use Rattle.std.specs.Prelude.{◌≡◌, ◌+◌, ◌<◌, ◌≤◌, leng
 ghost use Rattle.blocks.specs.Blocks.{data_size};
 ghost use Rattle.blocks.specs.Bounds.{InMemory, Fits};
 ghost use Rattle.events.specs.Events.{Did};
-ghost use Rattle.updates.specs.Bodies.{ended};
+ghost use Rattle.updates.specs.Bodies.{Ended, ended};
 ghost use Rattle.effects.specs.Effects.{placing, placing_relocatable, applied, first_cursor, moved_on, with_block, advanced, placed_by};
 ghost use Rattle.effects.specs.Parts.{NameFits, RoomFits, NameStored};
 
+use answer::Failure;
 use blocks::{Block, Cursor};
 use items::Slot;
-use updates::Ended;
+use updates::Done;
 
 // The cursor before the first block.
 pub fn first_cursor(low: u16) -> Cursor
     ensures { result ≡ first_cursor low }
 {
-    let empty = Slot {
-        taken: false,
-        address: 0,
-        offset: 0,
-        size: 0,
-    };
     Cursor {
         at: 0,
         low,
         count: 0,
         named: 0,
-        table: [empty; 8],
+        table: [None; 8],
     }
 }
 
@@ -42,7 +37,7 @@ pub fn apply(
     write: bool,
     memory: &mut [u8],
     map: &mut [u8],
-) -> Ended
+) -> Result<Done, Failure>
     requires { (length file.now ≤ 65536) × InMemory found × Fits (length file.now) cursor (length lent.now) (length own.now) found × (length memory.old ≡ 65536) × (length map.old ≡ 65536) }
     ensures { Did Ended (ended (applied file.now lent.now own.now cursor found map.old)) write memory.old map.old result memory.new map.new }
 {
@@ -54,21 +49,18 @@ pub fn apply(
         } => place(file, from, size, address as usize, write, memory, map),
         Block::Relocatable {
             reserves,
-            number,
-            offset,
             from,
             size,
+            ..
         } => place_relocatable(file, from, size, reserves, cursor.low, write, memory, map),
         Block::Update { source, from } => {
-            let table = cursor.table;
-            let amount = blocks::amount(source, table, lent, own);
-            updates::body(file, table, amount, from, write, memory, map)
+            let amount = blocks::amount(source, cursor.table, lent, own);
+            updates::body(file, cursor.table, amount, from, write, memory, map)
         }
-        Block::NewName { from, address } => Ended::Done {
+        Block::NewName { from, .. } => Ok(Done {
             next: from + names::NAME,
             adjusted: 0,
-        },
-        Block::Faulty(fault, offset) => Ended::Broken(fault, offset),
+        }),
     }
 }
 
@@ -97,21 +89,9 @@ pub fn placed_by(found: Block) -> usize
     ensures { result ≡ placed_by found }
 {
     match found {
-        Block::Plain {
-            address,
-            from,
-            size,
-        } => size,
-        Block::Relocatable {
-            reserves,
-            number,
-            offset,
-            from,
-            size,
-        } => blocks::data_size(reserves, size),
-        Block::Update { source, from } => 0,
-        Block::NewName { from, address } => 0,
-        Block::Faulty(fault, offset) => 0,
+        Block::Plain { size, .. } => size,
+        Block::Relocatable { reserves, size, .. } => blocks::data_size(reserves, size),
+        Block::Update { .. } | Block::NewName { .. } => 0,
     }
 }
 
@@ -121,21 +101,14 @@ pub fn advance(cursor: Cursor, found: Block, next: usize) -> Cursor
     ensures { result ≡ advanced cursor found next }
 {
     match found {
-        Block::Plain {
-            address,
-            from,
-            size,
-        } => pass(cursor, next, cursor.named),
+        Block::Plain { .. } | Block::Update { .. } => pass(cursor, next, cursor.named),
         Block::Relocatable {
-            reserves,
             number,
             offset,
-            from,
             size,
+            ..
         } => add_block(cursor, number, offset, size, next),
-        Block::Update { source, from } => pass(cursor, next, cursor.named),
-        Block::NewName { from, address } => pass(cursor, next, cursor.named + 1),
-        Block::Faulty(fault, offset) => cursor,
+        Block::NewName { .. } => pass(cursor, next, cursor.named + 1),
     }
 }
 
@@ -148,13 +121,13 @@ fn place(
     write: bool,
     memory: &mut [u8],
     map: &mut [u8],
-) -> Ended
+) -> Result<Done, Failure>
     requires { (length file.now ≤ 65536) × (from + size ≤ length file.now) × (address + size ≤ 65536) × (length memory.old ≡ 65536) × (length map.old ≡ 65536) }
     ensures { Did Ended (ended (placing file.now address from size)) write memory.old map.old result memory.new map.new }
 {
     let next = from + size;
     events::place(&file[from..next], address, write, memory, map);
-    Ended::Done { next, adjusted: 0 }
+    Ok(Done { next, adjusted: 0 })
 }
 
 // Places the data of a relocatable block at low, or only reserves room for it there.
@@ -167,16 +140,16 @@ fn place_relocatable(
     write: bool,
     memory: &mut [u8],
     map: &mut [u8],
-) -> Ended
+) -> Result<Done, Failure>
     requires { (length file.now ≤ 65536) × (from + data_size reserves size ≤ length file.now) × (low + size ≤ 65535) × (length memory.old ≡ 65536) × (length map.old ≡ 65536) }
     ensures { Did Ended (ended (placing_relocatable reserves file.now low from size)) write memory.old map.old result memory.new map.new }
 {
     if reserves {
         events::reserve(low as usize, size as usize, map);
-        return Ended::Done {
+        return Ok(Done {
             next: from,
             adjusted: 0,
-        };
+        });
     }
     place(file, from, size as usize, low as usize, write, memory, map)
 }
@@ -185,13 +158,10 @@ fn place_relocatable(
 fn pass(cursor: Cursor, next: usize, named: usize) -> Cursor
     ensures { result ≡ moved_on cursor next named }
 {
-    let table = cursor.table;
     Cursor {
         at: next,
-        low: cursor.low,
-        count: cursor.count,
         named,
-        table,
+        ..cursor
     }
 }
 
@@ -201,17 +171,16 @@ fn add_block(cursor: Cursor, number: usize, offset: u16, size: u16, next: usize)
     ensures { result ≡ with_block cursor number offset size next }
 {
     let mut table = cursor.table;
-    table[number] = Slot {
-        taken: true,
+    table[number] = Some(Slot {
         address: cursor.low,
         offset,
         size,
-    };
+    });
     Cursor {
         at: next,
         low: cursor.low + size,
         count: cursor.count + 1,
-        named: cursor.named,
         table,
+        ..cursor
     }
 }

@@ -5,19 +5,19 @@ use mathlib.Core.Path.{◌≡◌, refl}
 use Prim.Native.Nat.{ℕ, ◌≤◌, ◌<◌}
 use native.Mathlib.Omega.{arith}
 use lib.ListN.{length}
+use Rattle.std.proofs.Common.{Option, Result, Ok, Err}
 use Rattle.answer.proofs.Checks.{on_need}
 use Rattle.answer.proofs.Faults.{OfFile, of_file_located}
+use Rattle.answer.specs.declared.Failure.{Failure}
 use Rattle.answer.specs.declared.Fault.{Fault}
 use Rattle.events.proofs.Faults.{CheckFaults, Checks, Faults, fails, Ending, from_ends}
-use Rattle.events.specs.Events.{failed}
-use Rattle.events.specs.declared.Check.{Check}
-use Rattle.events.specs.declared.Check.TheVariants.{Passed, Failed}
+use Rattle.events.specs.Events.{Check, failed}
 use Rattle.items.proofs.Reading.{Where, lies_as}
 use Rattle.items.specs.Items.{read}
 use Rattle.items.specs.declared.Item.{Item}
-use Rattle.items.specs.declared.Item.TheVariants.{Faulty, End, Move, Adjust}
+use Rattle.items.specs.declared.Item.TheVariants.{End, Move, Adjust}
 use Rattle.items.specs.declared.Slot.{Slot}
-use Rattle.updates.specs.Bodies.{adjusting, applied, BodyState, Stop, broken, done, judge, turn, items, body}
+use Rattle.updates.specs.Bodies.{adjusting, carried, BodyState, Stop, broken, done, judge, turn, items, body}
 
 -- a body is done, or ends with a fault of the file
 abbrev pub StopFaults : ℕ → Stop → Type 0
@@ -39,30 +39,30 @@ adjusting_faults len at amount a map h =
     on_need failed (Faults len) _ _ _ _ (fails refl h) (λ _. on_need failed (Faults len) _ _ _ _ (fails refl h) (λ _. record { faults = tt }))
 
 -- an item carried out
-applied_faults : (len at amount : ℕ) (item : Item) (map : List ℕ) → Where len at item → Checks len (applied at amount item map).answer
-applied_faults len at amount (Faulty fault offset) map w = record { faults = w }
-applied_faults len at amount (End next) map w = record { faults = tt }
-applied_faults len at amount (Move counter next) map w = record { faults = tt }
-applied_faults len at amount (Adjust counter next) map w = adjusting_faults len at amount counter map (omega (arith, w))
+carried_faults : (len at amount : ℕ) (item : Result Item Failure) (map : List ℕ) → Where len at item → Checks len (carried at amount item map).answer
+carried_faults len at amount (Err e) map w = record { faults = w }
+carried_faults len at amount (Ok (End next)) map w = record { faults = tt }
+carried_faults len at amount (Ok (Move counter next)) map w = record { faults = tt }
+carried_faults len at amount (Ok (Adjust counter next)) map w = adjusting_faults len at amount counter map (omega (arith, w))
 
 -- and where it leads
-judge_faults : (len at : ℕ) (c : Check) (item : Item) → CheckFaults len c → Where len at item → Ending (Stops len) (judge c item)
-judge_faults len at (Failed fault offset) item h w = record { faults = h }
-judge_faults len at Passed (Faulty fault offset) h w = record { faults = w }
-judge_faults len at Passed (End next) h w = record { faults = tt }
-judge_faults len at Passed (Move counter next) h w = tt
-judge_faults len at Passed (Adjust counter next) h w = tt
+judge_faults : (len at : ℕ) (c : Check) (item : Result Item Failure) → CheckFaults len c → Where len at item → Ending (Stops len) (judge c item)
+judge_faults len at (Err e) item h w = record { faults = h }
+judge_faults len at (Ok passed) (Err e) h w = record { faults = w }
+judge_faults len at (Ok passed) (Ok (End next)) h w = record { faults = tt }
+judge_faults len at (Ok passed) (Ok (Move counter next)) h w = tt
+judge_faults len at (Ok passed) (Ok (Adjust counter next)) h w = tt
 
 -- so every turn of a body, and the body
-turn_faults : (file : List ℕ) (table : List Slot) (amount : ℕ) (s : BodyState) (map : List ℕ)
+turn_faults : (file : List ℕ) (table : List (Option Slot)) (amount : ℕ) (s : BodyState) (map : List ℕ)
     → Ending (Stops (length file)) (turn file table amount s map).answer
 unfolding turn
 turn_faults file table amount s map =
     let item = read file table s.at s.counter in
     let w = lies_as file table s.at s.counter item refl in
-    judge_faults _ s.at (applied s.at amount item map).answer item (applied_faults _ s.at amount item map w).faults w
+    judge_faults _ s.at (carried s.at amount item map).answer item (carried_faults _ s.at amount item map w).faults w
 
-pub body_faults : (file : List ℕ) (table : List Slot) (amount at : ℕ) (map : List ℕ) → Stops (length file) (body file table amount at map).answer
+pub body_faults : (file : List ℕ) (table : List (Option Slot)) (amount at : ℕ) (map : List ℕ) → Stops (length file) (body file table amount at map).answer
 unfolding items
 body_faults file table amount at map =
     from_ends (Stops (length file)) (turn file table amount) _ (λ s. record { faults = record { late = refl; place = omega arith } })

@@ -4,57 +4,63 @@ use mathlib.Core.List.{List, [], ◌++◌, append-nil}
 use mathlib.Core.Path.{◌≡◌, refl, sym, ap, ◌∙◌}
 use Prim.Native.Nat.{ℕ}
 use lib.ListN.{length}
+use Rattle.std.proofs.Common.{Option, Result, Ok, Err}
+use Rattle.answer.specs.Checks.{failure}
+use Rattle.answer.specs.declared.Failure.{Failure}
 use Rattle.answer.specs.declared.Fault.{Fault}
 use Rattle.answer.specs.declared.Fault.TheVariants.{CutShort}
 use Rattle.events.proofs.Checks.{passed_is, failed_passed}
 use Rattle.events.proofs.Traces.{trace_ends, walk_traced}
 use Rattle.events.proofs.Walks.{ends_leads, leads_same, ends_same, EndsAt}
-use Rattle.events.specs.Events.{Event, marks, Ran}
+use Rattle.events.specs.Events.{Event, marks, Ran, Check}
 use Rattle.events.specs.Trace.{Trace}
 use Rattle.events.specs.Walk.{Turn, ends, leads, bytes_left}
-use Rattle.events.specs.declared.Check.{Check}
-use Rattle.events.specs.declared.Check.TheVariants.{Passed, Failed}
 use Rattle.items.specs.declared.Item.{Item}
-use Rattle.items.specs.declared.Item.TheVariants.{Faulty, End, Move, Adjust}
+use Rattle.items.specs.declared.Item.TheVariants.{End, Move, Adjust}
 use Rattle.items.specs.declared.Slot.{Slot}
 use Rattle.updates.proofs.Turning.{turn_falls, broken_done, done_same}
-use Rattle.updates.specs.Bodies.{applied, BodyState, Stop, broken, done, judge, turn, items, begun, body}
+use Rattle.updates.specs.Bodies.{carried, BodyState, Stop, broken, done, judge, turn, items, begun, body}
 use Rattle.updates.specs.Rules.{item_at, LeadsTo, NextItem, FollowsBody, FailsBody, RulesClaim}
 
 -- ---- where an item leads
 
-judge_on : (item : Item) (z : BodyState) → LeadsTo item z → judge Passed item ≡ leads z
-judge_on (Faulty fault offset) z h = absurd h
-judge_on (End next) z h = absurd h
-judge_on (Move counter next) z h = ap leads (sym h)
-judge_on (Adjust counter next) z h = ap leads (sym h)
+judge_on : (item : Result Item Failure) (z : BodyState) → LeadsTo item z → judge (Ok tt) item ≡ leads z
+judge_on (Err e) z h = absurd h
+judge_on (Ok (End next)) z h = absurd h
+judge_on (Ok (Move counter next)) z h = ap leads (sym h)
+judge_on (Ok (Adjust counter next)) z h = ap leads (sym h)
 
-judge_led : (c : Check) (item : Item) (z : BodyState) → judge c item ≡ leads z → (c ≡ Passed) × LeadsTo item z
-judge_led (Failed fault offset) item z e = absurd (ends_leads e)
-judge_led Passed (Faulty fault offset) z e = absurd (ends_leads e)
-judge_led Passed (End next) z e = absurd (ends_leads e)
-judge_led Passed (Move counter next) z e = (refl, sym (leads_same e))
-judge_led Passed (Adjust counter next) z e = (refl, sym (leads_same e))
+judge_led : (c : Check) (item : Result Item Failure) (z : BodyState) → judge c item ≡ leads z → (c ≡ Ok tt) × LeadsTo item z
+judge_led (Err f) item z e = absurd (ends_leads e)
+judge_led (Ok passed) (Err f) z e = absurd (ends_leads e)
+judge_led (Ok passed) (Ok (End next)) z e = absurd (ends_leads e)
+judge_led (Ok passed) (Ok (Move counter next)) z e = (refl, sym (leads_same e))
+judge_led (Ok passed) (Ok (Adjust counter next)) z e = (refl, sym (leads_same e))
 
-judge_done : (c : Check) (item : Item) (end : ℕ) → judge c item ≡ ends (done end) → item ≡ End end
-judge_done (Failed fault offset) item end e = absurd (broken_done (ends_same e))
-judge_done Passed (Faulty fault offset) end e = absurd (broken_done (ends_same e))
-judge_done Passed (End next) end e = ap End (done_same (ends_same e))
-judge_done Passed (Move counter next) end e = absurd (ends_leads (sym e))
-judge_done Passed (Adjust counter next) end e = absurd (ends_leads (sym e))
+judge_done : (c : Check) (item : Result Item Failure) (end : ℕ) → judge c item ≡ ends (done end) → item ≡ Ok (End end)
+judge_done (Err f) item end e = absurd (broken_done (ends_same e))
+judge_done (Ok passed) (Err f) end e = absurd (broken_done (ends_same e))
+judge_done (Ok passed) (Ok (End next)) end e = ap (λ (n : ℕ). Ok (End n)) (done_same (ends_same e))
+judge_done (Ok passed) (Ok (Move counter next)) end e = absurd (ends_leads (sym e))
+judge_done (Ok passed) (Ok (Adjust counter next)) end e = absurd (ends_leads (sym e))
+
+-- the check at which a body broke
+abbrev failure_in : Stop → Check
+failure_in (broken fault offset) = failure fault offset
+failure_in (done next) = Ok tt
 
 -- a broken item did not pass
-judge_broken : (at amount : ℕ) (map : List ℕ) (c : Check) (item : Item) (fault : Fault) (offset : ℕ) → (applied at amount item map).answer ≡ c
-    → judge c item ≡ ends (broken fault offset) → c ≡ Failed fault offset
-judge_broken at amount map (Failed f j) item fault offset i e =
-    let k : broken f j ≡ broken fault offset = ends_same e in
-    cc
-judge_broken at amount map Passed (Faulty f j) fault offset i e = absurd (failed_passed i)
-judge_broken at amount map Passed (End next) fault offset i e = absurd (broken_done (sym (ends_same e)))
-judge_broken at amount map Passed (Move counter next) fault offset i e = absurd (ends_leads (sym e))
-judge_broken at amount map Passed (Adjust counter next) fault offset i e = absurd (ends_leads (sym e))
+judge_broken : (at amount : ℕ) (map : List ℕ) (c : Check) (item : Result Item Failure) (fault : Fault) (offset : ℕ) → (carried at amount item map).answer ≡ c
+    → judge c item ≡ ends (broken fault offset) → c ≡ failure fault offset
+judge_broken at amount map (Err f) item fault offset i e =
+    let k : broken f.fault f.offset ≡ broken fault offset = ends_same e in
+    ap failure_in k
+judge_broken at amount map (Ok passed) (Err f) fault offset i e = absurd (failed_passed i)
+judge_broken at amount map (Ok passed) (Ok (End next)) fault offset i e = absurd (broken_done (sym (ends_same e)))
+judge_broken at amount map (Ok passed) (Ok (Move counter next)) fault offset i e = absurd (ends_leads (sym e))
+judge_broken at amount map (Ok passed) (Ok (Adjust counter next)) fault offset i e = absurd (ends_leads (sym e))
 
-module _ (file : List ℕ) (table : List Slot) (amount : ℕ) (p : List ℕ) where
+module _ (file : List ℕ) (table : List (Option Slot)) (amount : ℕ) (p : List ℕ) where
   -- ---- the steps are the turns
 
   step_turn : (y z : BodyState) (es fs : List Event) → NextItem file table amount p y es z fs
@@ -69,7 +75,7 @@ module _ (file : List ℕ) (table : List Slot) (amount : ℕ) (p : List ℕ) whe
   unfolding turn
   turn_step y z es e =
       let l = judge_led _ (item_at file table y) z e in
-      record { passes = passed_is (applied y.at amount (item_at file table y) (marks es p)) l.0 refl; leads_to = l.1 }
+      record { passes = passed_is (carried y.at amount (item_at file table y) (marks es p)) l.0 refl; leads_to = l.1 }
 
   module _ (at : ℕ) where
     body_traced : EndsAt (turn file table amount) (Trace (NextItem file table amount p) (begun at)) p (body file table amount at p)
@@ -89,7 +95,7 @@ module _ (file : List ℕ) (table : List Slot) (amount : ℕ) (p : List ℕ) whe
     -- ---- both ways
 
     -- at its FC a body does nothing more
-    turn_end : (s : BodyState) (es : List Event) (end : ℕ) → item_at file table s ≡ End end
+    turn_end : (s : BodyState) (es : List Event) (end : ℕ) → item_at file table s ≡ Ok (End end)
         → turn file table amount s (marks es p) ≡ record { answer = ends (done end); events = [] }
     unfolding turn
     turn_end s es end i = rw i refl
@@ -107,7 +113,7 @@ module _ (file : List ℕ) (table : List Slot) (amount : ℕ) (p : List ℕ) whe
     unfolding turn
     followed_body end e =
         let x = body_traced in
-        let i = judge_done (applied x.state.at amount (item_at file table x.state) (marks x.before p)).answer (item_at file table x.state) end (x.answer ∙ ap ends e) in
+        let i = judge_done (carried x.state.at amount (item_at file table x.state) (marks x.before p)).answer (item_at file table x.state) end (x.answer ∙ ap ends e) in
         let none = turn_end x.state x.before end i in
         let es : (body file table amount at p).events ≡ x.before =
         x.events ∙ ap (λ (o : Ran (Turn BodyState Stop)). x.before ++ o.events) none ∙ append-nil x.before in

@@ -5,20 +5,20 @@ use mathlib.Core.Path.{◌≡◌, refl, sym, ap, ◌∙◌}
 use Prim.Native.Nat.{ℕ, suc, ◌+◌, ◌<◌, ◌≤◌}
 use native.Mathlib.Omega.{arith}
 use lib.ListN.{length}
+use Rattle.std.proofs.Common.{Option, Result, Ok, Err}
 use Rattle.answer.proofs.Checks.{on_need}
+use Rattle.answer.specs.declared.Failure.{Failure}
 use Rattle.answer.specs.declared.Fault.{Fault}
 use Rattle.events.proofs.Walks.{ends_leads, leads_same, ends_same}
-use Rattle.events.specs.Events.{Event, adjust, adjusted_in, Ran, failed}
+use Rattle.events.specs.Events.{Event, adjust, adjusted_in, Ran, Check, failed}
 use Rattle.events.specs.Lists.{Each}
 use Rattle.events.specs.Walk.{ends, leads, bytes_left}
-use Rattle.events.specs.declared.Check.{Check}
-use Rattle.events.specs.declared.Check.TheVariants.{Passed, Failed}
 use Rattle.items.proofs.Reading.{Where, lies_as}
 use Rattle.items.specs.Items.{read}
 use Rattle.items.specs.declared.Item.{Item}
-use Rattle.items.specs.declared.Item.TheVariants.{Faulty, End, Move, Adjust}
+use Rattle.items.specs.declared.Item.TheVariants.{End, Move, Adjust}
 use Rattle.items.specs.declared.Slot.{Slot}
-use Rattle.updates.specs.Bodies.{adjusting, applied, BodyState, Stop, broken, done, judge, turn}
+use Rattle.updates.specs.Bodies.{adjusting, carried, BodyState, Stop, broken, done, judge, turn}
 
 -- ---- what is adjusted
 
@@ -30,8 +30,8 @@ pub record Adjusts (amount : ℕ) (e : Event) : Type 0 where
 
 -- a word: at most one event, one where it passed, and each of the kind above
 abbrev Counts : Check → ℕ → Type 0
-Counts Passed n = n ≡ 1
-Counts (Failed fault offset) n = n ≡ 0
+Counts (Ok passed) n = n ≡ 1
+Counts (Err e) n = n ≡ 0
 
 record Word (amount a : ℕ) (o : Ran Check) : Type 0 where
   counts : Counts o.answer (adjusted_in o.events)
@@ -53,58 +53,59 @@ adjusting_word_lem at amount a map =
 
 -- it leads on
 abbrev pub Onward : Item → Type 0
-Onward (Faulty fault offset) = ⊥
 Onward (End next) = ⊥
 Onward (Move counter next) = Unit {0}
 Onward (Adjust counter next) = Unit {0}
 
 -- the words that it adjusts
-abbrev pub adjusts : Item → ℕ
-adjusts (Faulty fault offset) = 0
-adjusts (End next) = 0
-adjusts (Move counter next) = 0
-adjusts (Adjust counter next) = 1
+abbrev pub adjusts : Result Item Failure → ℕ
+adjusts (Err e) = 0
+adjusts (Ok (End next)) = 0
+adjusts (Ok (Move counter next)) = 0
+adjusts (Ok (Adjust counter next)) = 1
 
 -- where it passed, its events adjust so many
-pub applied_counts : (at amount : ℕ) (item : Item) (map : List ℕ) → (applied at amount item map).answer ≡ Passed
-    → adjusted_in (applied at amount item map).events ≡ adjusts item
+pub carried_counts : (at amount : ℕ) (item : Result Item Failure) (map : List ℕ) → (carried at amount item map).answer ≡ Ok tt
+    → adjusted_in (carried at amount item map).events ≡ adjusts item
 unfolding adjusted_in
-applied_counts at amount (Faulty fault offset) map e = refl
-applied_counts at amount (End next) map e = refl
-applied_counts at amount (Move counter next) map e = refl
-applied_counts at amount (Adjust counter next) map e =
-    let h : Counts Passed (adjusted_in (adjusting at amount counter map).events) = rw e at (adjusting_word_lem at amount counter map).counts in
+carried_counts at amount (Err f) map e = refl
+carried_counts at amount (Ok (End next)) map e = refl
+carried_counts at amount (Ok (Move counter next)) map e = refl
+carried_counts at amount (Ok (Adjust counter next)) map e =
+    let h : Counts (Ok tt) (adjusted_in (adjusting at amount counter map).events) = rw e at (adjusting_word_lem at amount counter map).counts in
     h
 
-applied_each : (len at amount : ℕ) (item : Item) (map : List ℕ) → Where len at item → Each (Adjusts amount) (applied at amount item map).events
-applied_each len at amount (Faulty fault offset) map w = tt
-applied_each len at amount (End next) map w = tt
-applied_each len at amount (Move counter next) map w = tt
-applied_each len at amount (Adjust counter next) map w = (adjusting_word_lem at amount counter map).each w.2
+carried_each : (len at amount : ℕ) (item : Result Item Failure) (map : List ℕ) → Where len at item
+    → Each (Adjusts amount) (carried at amount item map).events
+carried_each len at amount (Err e) map w = tt
+carried_each len at amount (Ok (End next)) map w = tt
+carried_each len at amount (Ok (Move counter next)) map w = tt
+carried_each len at amount (Ok (Adjust counter next)) map w = (adjusting_word_lem at amount counter map).each w.2
 
 -- ---- where a turn leads
 
 -- a turn that leads on passed, and moved on inside the file
-pub record Leads (len : ℕ) (s z : BodyState) (check : Check) (item : Item) : Type 0 where
-  pub passed : check ≡ Passed
+pub record Leads (len : ℕ) (s z : BodyState) (check : Check) (item : Result Item Failure) : Type 0 where
+  pub passed : check ≡ Ok tt
   pub further : s.at < z.at
   pub inside : z.at ≤ len
   pub counts : s.at + adjusts item ≤ z.at
 
-judge_leads : (len : ℕ) (s z : BodyState) (check : Check) (item : Item) → Where len s.at item → judge check item ≡ leads z → Leads len s z check item
-judge_leads len s z (Failed fault offset) item w e = absurd (ends_leads e)
-judge_leads len s z Passed (Faulty fault offset) w e = absurd (ends_leads e)
-judge_leads len s z Passed (End next) w e = absurd (ends_leads e)
-judge_leads len s z Passed (Move counter next) w e =
+judge_leads : (len : ℕ) (s z : BodyState) (check : Check) (item : Result Item Failure) → Where len s.at item → judge check item ≡ leads z
+    → Leads len s z check item
+judge_leads len s z (Err f) item w e = absurd (ends_leads e)
+judge_leads len s z (Ok passed) (Err f) w e = absurd (ends_leads e)
+judge_leads len s z (Ok passed) (Ok (End next)) w e = absurd (ends_leads e)
+judge_leads len s z (Ok passed) (Ok (Move counter next)) w e =
     let f : next ≡ z.at = ap (λ (t : BodyState). t.at) (leads_same e) in
     record { passed = refl; further = omega arith; inside = omega arith; counts = omega arith }
-judge_leads len s z Passed (Adjust counter next) w e =
+judge_leads len s z (Ok passed) (Ok (Adjust counter next)) w e =
     let f : next ≡ z.at = ap (λ (t : BodyState). t.at) (leads_same e) in
     record { passed = refl; further = omega arith; inside = omega arith; counts = omega arith }
 
-module _ (file : List ℕ) (table : List Slot) (amount : ℕ) where
+module _ (file : List ℕ) (table : List (Option Slot)) (amount : ℕ) where
   turn_leads : (s z : BodyState) (map : List ℕ) → (turn file table amount s map).answer ≡ leads z
-      → Leads (length file) s z (applied s.at amount (read file table s.at s.counter) map).answer (read file table s.at s.counter)
+      → Leads (length file) s z (carried s.at amount (read file table s.at s.counter) map).answer (read file table s.at s.counter)
   unfolding turn
   turn_leads s z map e =
       judge_leads (length file) s z _ (read file table s.at s.counter) (lies_as file table s.at s.counter _ refl) e
@@ -123,14 +124,14 @@ module _ (file : List ℕ) (table : List Slot) (amount : ℕ) where
   unfolding turn
   turn_further s z map e =
       let h = turn_leads s z map e in
-      let k = applied_counts s.at amount (read file table s.at s.counter) map h.passed in
+      let k = carried_counts s.at amount (read file table s.at s.counter) map h.passed in
       (h.further, h.inside, rw k h.counts)
 
   -- every event of a turn adjusts a word by the amount
   pub turn_each : (s : BodyState) (map : List ℕ) → Each (Adjusts amount) (turn file table amount s map).events
   unfolding turn
   turn_each s map =
-      applied_each (length file) s.at amount (read file table s.at s.counter) map
+      carried_each (length file) s.at amount (read file table s.at s.counter) map
       (lies_as file table s.at s.counter _ refl)
 
 -- ---- where a turn ends a body
@@ -146,22 +147,22 @@ broken_done {fault} {offset} {next} e = let z : 0 ≡ suc next = ap next_of e in
 pub done_same : {n k : ℕ} → done n ≡ done k → n ≡ k
 done_same {n} {k} e = let z : suc n ≡ suc k = ap next_of e in omega arith
 
-judge_done : (len at next : ℕ) (check : Check) (item : Item) → Where len at item → judge check item ≡ ends (done next)
-    → (at < next) × (next ≤ len) × (check ≡ Passed) × (adjusts item ≡ 0)
-judge_done len at next (Failed fault offset) item w e = absurd (broken_done (ends_same e))
-judge_done len at next Passed (Faulty fault offset) w e = absurd (broken_done (ends_same e))
-judge_done len at next Passed (End end) w e =
+judge_done : (len at next : ℕ) (check : Check) (item : Result Item Failure) → Where len at item → judge check item ≡ ends (done next)
+    → (at < next) × (next ≤ len) × (check ≡ Ok tt) × (adjusts item ≡ 0)
+judge_done len at next (Err f) item w e = absurd (broken_done (ends_same e))
+judge_done len at next (Ok passed) (Err f) w e = absurd (broken_done (ends_same e))
+judge_done len at next (Ok passed) (Ok (End end)) w e =
     let f : end ≡ next = done_same (ends_same e) in
     (omega arith, omega arith, refl, refl)
-judge_done len at next Passed (Move counter end) w e = absurd (ends_leads (sym e))
-judge_done len at next Passed (Adjust counter end) w e = absurd (ends_leads (sym e))
+judge_done len at next (Ok passed) (Ok (Move counter end)) w e = absurd (ends_leads (sym e))
+judge_done len at next (Ok passed) (Ok (Adjust counter end)) w e = absurd (ends_leads (sym e))
 
 -- a turn that ends a body moved on inside the file, and adjusted nothing
-pub turn_done : (file : List ℕ) (table : List Slot) (amount : ℕ) (s : BodyState) (map : List ℕ) (next : ℕ)
+pub turn_done : (file : List ℕ) (table : List (Option Slot)) (amount : ℕ) (s : BodyState) (map : List ℕ) (next : ℕ)
     → (turn file table amount s map).answer ≡ ends (done next)
     → (s.at < next) × (next ≤ length file) × (adjusted_in (turn file table amount s map).events ≡ 0)
 unfolding turn
 turn_done file table amount s map next e =
     let h = judge_done (length file) s.at next _ (read file table s.at s.counter)
     (lies_as file table s.at s.counter _ refl) e in
-    (h.0, h.1, applied_counts s.at amount (read file table s.at s.counter) map h.2 ∙ h.3)
+    (h.0, h.1, carried_counts s.at amount (read file table s.at s.counter) map h.2 ∙ h.3)

@@ -2,56 +2,52 @@
 #![tactic(auto)]
 
 ghost use Rattle.std.specs.Prelude.{◌≡◌, ℕ, ◌+◌, ◌≤◌, length};
-ghost use Rattle.events.specs.Events.{Did};
+ghost use Rattle.events.specs.Events.{Did, Check};
 ghost use Rattle.items.specs.declared.Item.TheVariants.{Adjust};
-ghost use Rattle.updates.specs.Bodies.{is_loaded, word_loaded, adjusting, applied, body as body_of, ended};
+ghost use Rattle.updates.specs.Bodies.{is_loaded, word_loaded, adjusting, applied, Ended, body as body_of, ended};
 ghost use Rattle.updates.specs.Cursor.{first_cursor, advanced};
 
-use answer::Fault;
+use answer::{Failure, Fault};
 use events::Check;
-use items::{Counter, Item, Slot};
+use items::{Item, Slot};
 
-// How a body ends: at a fault and its offset, or with the offset after it and the number of words adjusted.
+// What a body comes to that ends at its FC: the offset after it, and the number of words adjusted.
 #[derive(Clone, Copy)]
-pub enum Ended {
-    Broken(Fault, usize),
-    Done { next: usize, adjusted: usize },
+pub struct Done {
+    pub next: usize,
+    pub adjusted: usize,
 }
 
 // Where a body stands: the next item's offset, the counter, and the words adjusted so far.
 #[derive(Clone, Copy)]
 pub struct Cursor {
     pub at: usize,
-    pub counter: Counter,
+    pub counter: Option<u16>,
     pub adjusted: usize,
 }
 
 // Carries out a body from its first item, which begins at `at`: each word that it lists grows by the amount.
 pub fn body(
     file: &[u8],
-    table: [Slot; 8],
+    table: [Option<Slot>; 8],
     amount: u16,
     at: usize,
     write: bool,
     memory: &mut [u8],
     map: &mut [u8],
-) -> Ended
+) -> Result<Done, Failure>
     requires { (length file.now ≤ 65536) × (at ≤ length file.now) × (length memory.old ≡ 65536) × (length map.old ≡ 65536) }
     ensures { Did Ended (ended (body_of file.now table amount at map.old)) write memory.old map.old result memory.new map.new }
 {
     let mut cursor = first_cursor(at);
     loop {
-        let counter = cursor.counter;
-        let item = items::read(file, table, cursor.at, counter);
-        let check = apply(item, cursor.at, amount, write, memory, map);
-        if let Check::Failed(fault, offset) = check {
-            return Ended::Broken(fault, offset);
-        }
+        let item = items::read(file, table, cursor.at, cursor.counter)?;
+        apply(item, cursor.at, amount, write, memory, map)?;
         if let Item::End(next) = item {
-            return Ended::Done {
+            return Ok(Done {
                 next,
                 adjusted: cursor.adjusted,
-            };
+            });
         }
         cursor = advance(cursor, item);
     }
@@ -62,22 +58,14 @@ pub fn word_loaded(map: &[u8], at: usize) -> bool
     requires { at + 2 ≤ length map.now }
     ensures { result ≡ word_loaded map.now at }
 {
-    let first = is_loaded(map[at]);
-    if !first {
-        return false;
-    }
-    is_loaded(map[at + 1])
+    is_loaded(map[at]) && is_loaded(map[at + 1])
 }
 
 // Whether a mark is that of a loaded byte: placed, or adjusted since.
 fn is_loaded(mark: u8) -> bool
     ensures { result ≡ is_loaded mark }
 {
-    match mark {
-        events::PLACED => true,
-        events::ADJUSTED => true,
-        _ => false,
-    }
+    matches!(mark, events::PLACED | events::ADJUSTED)
 }
 
 // Carries out the item at `at`.
@@ -93,9 +81,8 @@ fn apply(
     ensures { Did Check (applied at amount item map.old) write memory.old map.old result memory.new map.new }
 {
     match item {
-        Item::Faulty(fault, offset) => Check::Failed(fault, offset),
-        Item::End(next) => Check::Passed,
-        Item::Move { counter, next } => Check::Passed,
+        Item::End(next) => Ok(()),
+        Item::Move { counter, next } => Ok(()),
         Item::Adjust { counter, next } => {
             adjust(counter as usize, at, amount, write, memory, map)
         }
@@ -116,15 +103,21 @@ fn adjust(
 {
     let loaded = word_loaded(map, address);
     if !loaded {
-        return Check::Failed(Fault::FieldNotLoaded, at);
+        return Err(Failure {
+            fault: Fault::FieldNotLoaded,
+            offset: at,
+        });
     }
     let end = address + 2;
     let adjusted = words::contains(&map[address..end], events::ADJUSTED);
     if adjusted {
-        return Check::Failed(Fault::AdjustedTwice, at);
+        return Err(Failure {
+            fault: Fault::AdjustedTwice,
+            offset: at,
+        });
     }
     events::adjust_word(address, amount, write, memory, map);
-    Check::Passed
+    Ok(())
 }
 
 // The cursor of a body that begins at `at`.
@@ -133,7 +126,7 @@ fn first_cursor(at: usize) -> Cursor
 {
     Cursor {
         at,
-        counter: Counter::Unset,
+        counter: None,
         adjusted: 0,
     }
 }
@@ -144,16 +137,15 @@ fn advance(cursor: Cursor, item: Item) -> Cursor
     ensures { result ≡ advanced cursor item }
 {
     match item {
-        Item::Faulty(fault, offset) => cursor,
         Item::End(next) => cursor,
         Item::Move { counter, next } => Cursor {
             at: next,
-            counter: Counter::Set(counter),
+            counter: Some(counter),
             adjusted: cursor.adjusted,
         },
         Item::Adjust { counter, next } => Cursor {
             at: next,
-            counter: Counter::Set(counter),
+            counter: Some(counter),
             adjusted: cursor.adjusted + 1,
         },
     }

@@ -1,50 +1,55 @@
 -- `updates::body` meets its contract: the definition's walk has come to the cursor, with the memory and the map of its events (`Going`).
 -- Assumes nothing.
-use borrow.Enum.Refused.{opened}
-use mathlib.Core.Path.{◌∙◌}
+use mathlib.Core.Path.{◌∙◌, sym}
 use native.Mathlib.Omega.{arith}
-use Rattle.updates.proofs.Going.{item_fits, going_first, going_fails, going_ends, going_onward, going_further, going_on}
+use Rattle.std.proofs.lemmas.Result.{err_from_is_err_and}
+use Rattle.updates.proofs.Going.{item_fits, going_first, going_unread, going_fails, going_ends, going_further, going_on, onward_unless_end}
 use Rattle.updates.proofs.body.Goals as goal
 
-pub loop-fault-init : goal.loop-fault-init
-loop-fault-init c =
+pub loop-item-init : goal.loop-item-init
+loop-item-init c =
     (c.requires.2, c.requires.3, rw c.first_cursor-cursor.ensures (going_first c.requires.1))
 
-pub apply-check-requires : goal.apply-check-requires
-apply-check-requires c =
-    let l = c.loop-fault in
-    (item_fits _ _ _ _ _ c.read-item.ensures, l.invariant.0, l.invariant.1)
+-- the fault of what was read, or of the item, is that of the body
+pub returns-in_err-item : goal.returns-in_err-item
+returns-in_err-item c =
+    let p = err_from_is_err_and c.from_residual.result c.from_residual.ensures.1 in
+    rw (p.1, p.2) (going_unread c.loop-item.invariant.2 (sym c.in_err-item.was ∙ c.read.ensures))
 
-pub returns-in-Failed : goal.returns-in-Failed
-returns-in-Failed c =
-    let l = c.loop-fault in
-    going_fails l.invariant.2 c.read-item.ensures c.apply-check.ensures c.in-Failed.is
+pub apply-requires : goal.apply-requires
+apply-requires c =
+    let l = c.loop-item in
+    (item_fits _ _ _ _ _ (sym c.in_ok-item.was ∙ c.read.ensures), l.invariant.0, l.invariant.1)
+
+pub returns-in_err-apply : goal.returns-in_err-apply
+returns-in_err-apply c =
+    let p = err_from_is_err_and c.from_residual-in_err-apply.result c.from_residual-in_err-apply.ensures.1 in
+    rw (p.1, p.2) (going_fails c.loop-item.invariant.2 (sym c.in_ok-item.was ∙ c.read.ensures) c.apply.ensures c.in_err-apply.was)
 
 pub returns-in-End : goal.returns-in-End
 returns-in-End c =
-    let l = c.loop-fault in
-    going_ends l.invariant.2 c.read-item.ensures c.apply-check.ensures c.in_default.is c.in-End.is
+    going_ends c.loop-item.invariant.2 (sym c.in_ok-item.was ∙ c.read.ensures) c.in_ok-apply.ensures c.in-End.is
 
 pub advance-cursor-requires : goal.advance-cursor-requires
 advance-cursor-requires c =
-    let l = c.loop-fault in
+    let l = c.loop-item in
     omega (arith, c.requires.0, l.invariant.2.behind, l.invariant.2.inside)
 
-pub loop-fault-smaller : goal.loop-fault-smaller
-loop-fault-smaller c =
-    let l = c.loop-fault in
-    let p = c.in_default.is in
-    let on = going_onward l.invariant.2 c.read-item.ensures c.apply-check.ensures p (opened c.in_default-item.in_default-item-own.keys2) in
-    let a = rw (← c.advance-cursor.ensures) at (going_further l.invariant.2 c.read-item.ensures c.apply-check.ensures p on) in
-    let g = rw (← c.advance-cursor.ensures) at (going_on l.invariant.2 c.read-item.ensures c.apply-check.ensures p on) in
+pub loop-item-smaller : goal.loop-item-smaller
+loop-item-smaller c =
+    let l = c.loop-item.invariant in
+    let is = sym c.in_ok-item.was ∙ c.read.ensures in
+    let on = onward_unless_end _ c.in_default.not-End in
+    let a = rw (← c.advance-cursor.ensures) at (going_further l.2 is c.in_ok-apply.ensures on) in
+    let g = rw (← c.advance-cursor.ensures) at (going_on l.2 is c.in_ok-apply.ensures on) in
     omega (arith, a, g.inside)
 
-pub loop-fault-preserved : goal.loop-fault-preserved
-loop-fault-preserved c =
-    let l = c.loop-fault in
-    let p = c.in_default.is in
-    let on = going_onward l.invariant.2 c.read-item.ensures c.apply-check.ensures p (opened c.in_default-item.in_default-item-own.keys2) in (
-      c.apply-check.auto.memory ∙ l.invariant.0,
-      c.apply-check.auto.map ∙ l.invariant.1,
-      rw c.advance-cursor.ensures (going_on l.invariant.2 c.read-item.ensures c.apply-check.ensures p on),
+pub loop-item-preserved : goal.loop-item-preserved
+loop-item-preserved c =
+    let l = c.loop-item.invariant in
+    let is = sym c.in_ok-item.was ∙ c.read.ensures in
+    let on = onward_unless_end _ c.in_default.not-End in (
+      c.apply.auto.memory ∙ l.0,
+      c.apply.auto.map ∙ l.1,
+      rw c.advance-cursor.ensures (going_on l.2 is c.in_ok-apply.ensures on),
     )

@@ -6,9 +6,9 @@ use lib.ListN.{length}
 use Rattle.updates.proofs.Going.{Going}
 use Rattle.updates.proofs.body.Given as goal
 
-abbrev pub invariant-loop-fault : goal.invariant-loop-fault
-invariant-loop-fault l = (length l.memory ≡ 65536) × (length l.map ≡ 65536)
+abbrev pub invariant-loop-item : goal.invariant-loop-item
+invariant-loop-item l = (length l.memory ≡ 65536) × (length l.map ≡ 65536)
     × Going l.file l.table l.amount l.at l.write l.initial.memory l.initial.map l.cursor l.memory l.map
 
-abbrev pub decreases-loop-fault : goal.decreases-loop-fault
-decreases-loop-fault l = length l.file - l.cursor.at
+abbrev pub decreases-loop-item : goal.decreases-loop-item
+decreases-loop-item l = length l.file - l.cursor.at
