@@ -9,21 +9,19 @@ use borrow.Rule.Slice.PartMut.{mid_of}
 use borrow.Author.Tests.{leb-true}
 use lib.Dec.{leb}
 use lib.ListN.{length}
+use Rattle.std.proofs.Common.{Ok}
 use Rattle.answer.specs.Checks.{need}
 use Rattle.answer.specs.Report.{address}
-use Rattle.answer.specs.declared.Fault.{Fault}
 use Rattle.answer.specs.declared.Fault.TheVariants.{StartTooHigh, BytesAfterEnd}
 use Rattle.events.proofs.Checks.{need_passed}
-use Rattle.events.proofs.Events.{reached_none, did_none}
-use Rattle.events.specs.Events.{Ran, failed, passed, Did}
-use Rattle.events.specs.declared.Check.{Check}
-use Rattle.events.specs.declared.Check.TheVariants.{Passed, Failed}
+use Rattle.events.proofs.Events.{reached_none}
+use Rattle.events.specs.Events.{Ran, Check, failed, passed, Did}
 use Rattle.fields.specs.Fields.{item_size, fields_of}
 use Rattle.records.specs.declared.Entry.{Entry}
 use Rattle.fields.specs.declared.Fixup.{Fixup}
 use Rattle.records.specs.declared.Kind.{Kind}
 use Rattle.records.specs.declared.Record.{Record}
-use Rattle.records.specs.declared.Record.TheVariants.{Code, Fixups, End, Faulty}
+use Rattle.records.specs.declared.Record.TheVariants.{Code, Fixups, End}
 use Rattle.words.proofs.Lent.{lent_is}
 use Rattle.words.proofs.Runs.{length_part}
 use Rattle.pieces.specs.AtBases.{placing, adjusting, start_of, ending, applied}
@@ -49,7 +47,7 @@ unfolding ending
 ending_none at b entry next len = needs_none (leb (address (start_of b entry)) 65535) (leb len next) at next
 
 -- and where it passes, the start is an address, and nothing follows it
-pub ending_passed : (at : ℕ) (b : Bases) (entry : Entry) (next len : ℕ) → (ending at b entry next len).answer ≡ Passed
+pub ending_passed : (at : ℕ) (b : Bases) (entry : Entry) (next len : ℕ) → (ending at b entry next len).answer ≡ Ok tt
     → (address (start_of b entry) ≤ 65535) × (len ≤ next)
 unfolding ending
 ending_passed at b entry next len e =
@@ -79,7 +77,3 @@ module _ (file : List ℕ) (at : ℕ) (b : Bases) (a k : ℕ) (found : Record) (
       let z = ending_none (at + 2) b entry next (length file) in
       rw e
       (record { answer = er; reached = rw z (reached_none write m p) })
-
-  pub applied_faulty : (fault : Fault) (offset : ℕ) → found ≡ Faulty fault offset → Did Check (applied file at b a k found p) write m p (Failed fault offset) m p
-  unfolding applied
-  applied_faulty fault offset e = rw e (did_none _ write m p)

@@ -10,6 +10,7 @@ use native.Mathlib.Omega.{arith}
 use borrow.Author.Tests.{leb-false}
 use lib.Dec.{leb}
 use lib.ListN.{length}
+use Rattle.std.proofs.Common.{Ok}
 use Rattle.answer.proofs.Checks.{on_need}
 use Rattle.answer.specs.Checks.{need}
 use Rattle.answer.specs.declared.Fault.TheVariants.{BytesAfterEnd}
@@ -20,7 +21,7 @@ use Rattle.fields.specs.declared.Field.{Field}
 use Rattle.records.proofs.Reading.{Where}
 use Rattle.records.specs.declared.Entry.{Entry}
 use Rattle.records.specs.declared.Record.{Record}
-use Rattle.records.specs.declared.Record.TheVariants.{Code, Fixups, End, Faulty}
+use Rattle.records.specs.declared.Record.TheVariants.{Code, Fixups, End}
 use Rattle.words.proofs.Runs.{length_part}
 use Rattle.words.specs.Runs.{part}
 use Rattle.pieces.specs.AtBases.{placing, adjusting, ending, applied}
@@ -57,7 +58,7 @@ ending_faults len at b entry next h =
     on_need failed (Faults len) _ _ _ _ (fails refl h) (λ _. nothing_after len next (leb len next) refl)
 
 -- a record that lies in the file
-pub applied_faults : (file : List ℕ) (at : ℕ) (b : Bases) (a k : ℕ) (r : Record) (map : List ℕ) → Where (length file) at r
+pub applied_faults : (file : List ℕ) (at : ℕ) (b : Bases) (a k : ℕ) (r : Record) (map : List ℕ) → Where (length file) at (Ok r)
     → Checks (length file) (applied file at b a k r map).answer
 unfolding applied
 applied_faults file at b a k (Code kind address from n) map w = placing_faults _ (at + 2) _ _ _ _ (omega (arith, w))
@@ -66,4 +67,3 @@ applied_faults file at b a k (Fixups fixup from n) map w =
     let i = items_fit fixup (part file from n) in
     adjusting_faults _ from _ b a k _ map (item_some fixup) (omega (arith, w, e, i))
 applied_faults file at b a k (End entry next) map w = ending_faults _ (at + 2) b entry next (omega (arith, w))
-applied_faults file at b a k (Faulty fault offset) map w = record { faults = w }

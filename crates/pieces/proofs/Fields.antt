@@ -5,14 +5,13 @@ use mathlib.Core.List.{List, [], ◌∷◌, ◌++◌, append_assoc, append-nil}
 use mathlib.Core.Path.{◌≡◌, refl, sym, ap, ◌∙◌}
 use Prim.Native.Nat.{ℕ, ◌+◌}
 use lib.Dec.{leb}
+use Rattle.std.proofs.Common.{Ok, Err}
 use Rattle.answer.specs.Checks.{need}
-use Rattle.answer.specs.declared.Fault.{Fault}
+use Rattle.answer.specs.declared.Failure.{Failure}
 use Rattle.answer.specs.declared.Fault.TheVariants.{FieldNotLoaded, AdjustedTwice}
 use Rattle.events.proofs.Events.{reached_none, reached_more}
 use Rattle.events.specs.Walk.{after}
-use Rattle.events.specs.Events.{Event, mark_one, marks, Ran, failed, passed, Reached, Did}
-use Rattle.events.specs.declared.Check.{Check}
-use Rattle.events.specs.declared.Check.TheVariants.{Passed, Failed}
+use Rattle.events.specs.Events.{Event, mark_one, marks, Ran, Check, failed, passed, Reached, Did}
 use Rattle.fields.specs.declared.Field.{Field}
 use Rattle.words.specs.Runs.{part, contains}
 use Rattle.pieces.proofs.Checks.{adjusting_all}
@@ -22,8 +21,8 @@ use Rattle.pieces.specs.declared.Bases.{Bases}
 
 -- the rest where a part passed, and nothing more where it failed
 abbrev chain : Check → List Event → Ran Check → Ran Check
-chain Passed es rest = after es rest
-chain (Failed fault offset) es rest = record { answer = Failed fault offset; events = es }
+chain (Ok done) es rest = after es rest
+chain (Err e) es rest = record { answer = Err e; events = es }
 
 chain_needs : (c d : Bool) (at : ℕ) (e : Event) (rest : Ran Check)
     → need failed c FieldNotLoaded at (need failed d AdjustedTwice at (after (e ∷ []) rest))
@@ -75,7 +74,7 @@ module _ {at₀ step : ℕ} {b : Bases} {a n : ℕ} {write : Bool} {all : List F
         ∙ ap (λ (c : Check). after x.es (chain c did.events (then (mark_one (adjustment b a f) p)))) (sym d.answer)
 
     -- after a field that passed the loop stands one field further
-    pub adjusting_more : {at' : ℕ} → at' ≡ at + step → r ≡ Passed → Adjusting at₀ step b a n write all m₀ p₀ at' rest' m' p'
+    pub adjusting_more : {at' : ℕ} → at' ≡ at + step → r ≡ Ok tt → Adjusting at₀ step b a n write all m₀ p₀ at' rest' m' p'
     unfolding marks adjustments
     adjusting_more i e =
         let es = did.events in
@@ -93,20 +92,19 @@ module _ {at₀ step : ℕ} {b : Bases} {a n : ℕ} {write : Bool} {all : List F
         }
 
     -- a field that failed ends it with its fault
-    pub adjusting_fails : {fault : Fault} {offset : ℕ} → r ≡ Failed fault offset
-        → Did Check (adjusting at₀ step b a n all p₀) write m₀ p₀ (Failed fault offset) m' p'
-    adjusting_fails e =
+    pub adjusting_fails : {e : Failure} → r ≡ Err e → Did Check (adjusting at₀ step b a n all p₀) write m₀ p₀ (Err e) m' p'
+    adjusting_fails h =
         let y = reached_more x.es write m₀ p₀ m p m' p' _ r x.reached d in
-        let z = one ∙ ap (λ (c : Check). after x.es (chain c did.events (then (mark_one (adjustment b a f) p)))) e in
+        let z = one ∙ ap (λ (c : Check). after x.es (chain c did.events (then (mark_one (adjustment b a f) p)))) h in
         rw z (record { answer = refl; reached = y })
 
   -- where no field is left, all have passed
   pub adjusting_end : {at : ℕ} {rest : List Field} {m p : List ℕ} → rest ≡ [] → Adjusting at₀ step b a n write all m₀ p₀ at rest m p
-      → Did Check (adjusting at₀ step b a n all p₀) write m₀ p₀ Passed m p
+      → Did Check (adjusting at₀ step b a n all p₀) write m₀ p₀ (Ok tt) m p
   unfolding adjusting
   adjusting_end {at} {rest} {m} {p} e x =
-      let z : adjusting at₀ step b a n all p₀ ≡ record { answer = Passed; events = x.es } =
+      let z : adjusting at₀ step b a n all p₀ ≡ record { answer = Ok tt; events = x.es } =
       x.same
       ∙ ap (λ (fs : List Field). after x.es (adjusting at step b a n fs p)) e
-      ∙ ap (λ (l : List Event). record { answer = Passed; events = l }) (append-nil x.es) in
+      ∙ ap (λ (l : List Event). record { answer = Ok tt; events = l }) (append-nil x.es) in
       rw z (record { answer = refl; reached = x.reached })

@@ -7,11 +7,11 @@ use mathlib.Core.Path.{◌≡◌, refl, sym, ap, ◌∙◌, subst}
 use Prim.Native.Nat.{ℕ, ◌+◌, ◌-◌, ◌≤◌, ◌<◌}
 use native.Mathlib.Omega.{arith}
 use lib.ListN.{length, get_or, replicate, get_or-replicate}
+use Rattle.std.proofs.Common.{Ok}
 use Rattle.events.proofs.Events.{marks_append, length_run, fill_outside, fill_inside}
 use Rattle.events.proofs.Lists.{each_all, each_map, each_zip}
 use Rattle.events.specs.Events.{place, marks}
 use Rattle.events.specs.Lists.{Each, Pairwise}
-use Rattle.events.specs.declared.Check.TheVariants.{Passed}
 use Rattle.fields.specs.declared.Field.{Field}
 use Rattle.words.proofs.Runs.{within?, length_put, put_in_put, length_part, part_at, zero_at, contains_not}
 use Rattle.words.specs.Runs.{Within, part, put, all_zero, contains}
@@ -200,7 +200,7 @@ field_apart f gs map a l h e =
 
 -- fields that passed may follow those that are marked
 pub fields_fresh : (at step : ℕ) (b : Bases) (a n : ℕ) (fs gs : List Field) (map : List ℕ) → a + n ≤ length map → Threes map a gs
-    → (adjusting at step b a n fs map).answer ≡ Passed → Fresh n gs fs
+    → (adjusting at step b a n fs map).answer ≡ Ok tt → Fresh n gs fs
 fields_fresh at step b a n [] gs map l h e = record { inside = tt; cross = each_map (λ g k. tt) gs h; distinct = tt }
 fields_fresh at step b a n (f ∷ fs) gs map l h e =
     let x = adjusting_passed at step b a n f fs map e in

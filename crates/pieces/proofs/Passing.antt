@@ -9,16 +9,17 @@ use native.Mathlib.Omega.{arith}
 use borrow.Author.Tests.{le-leb, ne_eqb, leb-true, leb-false}
 use lib.Dec.{leb}
 use lib.ListN.{length, get_or, replicate}
-use Rattle.answer.specs.Checks.{need}
+use Rattle.std.proofs.Common.{Ok}
+use Rattle.answer.specs.Checks.{need, failure}
 use Rattle.answer.specs.Report.{address}
+use Rattle.answer.specs.declared.Failure.{Failure}
 use Rattle.answer.specs.declared.Fault.{Fault}
 use Rattle.answer.specs.declared.Fault.TheVariants.{DoesNotFit, PiecesOverlap, StartTooHigh, BytesAfterEnd}
 use Rattle.events.proofs.Checks.{failed_passed}
 use Rattle.events.proofs.Events.{length_marks, length_blank, blank_at, fill_outside}
 use Rattle.events.proofs.Lists.{each_map, each_zip}
-use Rattle.events.specs.Events.{place, marks, blank, failed, passed}
+use Rattle.events.specs.Events.{place, marks, blank, Check, failed, passed}
 use Rattle.events.specs.Lists.{Each, Pairwise}
-use Rattle.events.specs.declared.Check.TheVariants.{Passed, Failed}
 use Rattle.fields.specs.declared.Field.{Field}
 use Rattle.words.proofs.Runs.{length_put, length_part, part_at, all_zero_lem}
 use Rattle.words.specs.Runs.{part, put, all_zero, contains}
@@ -36,16 +37,18 @@ pub data Unplaced (a n limit : ℕ) (p : List ℕ) : Fault → Type 0 where
   ends_above : limit < a + n → Unplaced a n limit p DoesNotFit
   taken : a + n ≤ limit → all_zero (part p a n) ≡ false → Unplaced a n limit p PiecesOverlap
 
-pub placing_failed : (at a limit : ℕ) (code p : List ℕ) (fault : Fault) (offset : ℕ) → (placing at a limit code p).answer ≡ Failed fault offset
+pub placing_failed : (at a limit : ℕ) (code p : List ℕ) (fault : Fault) (offset : ℕ) → (placing at a limit code p).answer ≡ failure fault offset
     → Unplaced a (length code) limit p fault
 unfolding placing need
 placing_failed at a limit code p fault offset e = by (leb (a + length code) limit) (all_zero (part p a (length code))) refl refl e
   where
-    same : {f : Fault} → Unplaced a (length code) limit p f → Failed f at ≡ Failed fault offset → Unplaced a (length code) limit p fault
-    same {f} u e = let k : f ≡ fault = cc in rw (← k) u
+    same : {f : Fault} → Unplaced a (length code) limit p f → ◌≡◌ {A = Check} (failure f at) (failure fault offset) → Unplaced a (length code) limit p fault
+    same {f} u e =
+        let h : ◌≡◌ {A = Failure} (record { fault = f; offset = at }) (record { fault = fault; offset = offset }) = cc in
+        rw (← ap (λ (x : Failure). x.fault) h) u
 
     by : (s t : Bool) → leb (a + length code) limit ≡ s → all_zero (part p a (length code)) ≡ t
-        → (need failed s DoesNotFit at (need failed t PiecesOverlap at (passed (place a code ∷ [])))).answer ≡ Failed fault offset
+        → (need failed s DoesNotFit at (need failed t PiecesOverlap at (passed (place a code ∷ [])))).answer ≡ failure fault offset
         → Unplaced a (length code) limit p fault
     by true true f g e = absurd (failed_passed (sym e))
     by true false f g e = same (taken (leb-true _ _ f) g) e
@@ -70,16 +73,18 @@ apart_clear b o ps i l d =
 -- ---- the end
 
 -- why an end record that ends its file was refused: its start is no address
-pub ending_failed : (at : ℕ) (b : Bases) (entry : Entry) (len : ℕ) (fault : Fault) (offset : ℕ) → (ending at b entry len len).answer ≡ Failed fault offset
+pub ending_failed : (at : ℕ) (b : Bases) (entry : Entry) (len : ℕ) (fault : Fault) (offset : ℕ) → (ending at b entry len len).answer ≡ failure fault offset
     → (fault ≡ StartTooHigh) × (65535 < address (start_of b entry))
 unfolding ending need
 ending_failed at b entry len fault offset e = by (leb (address (start_of b entry)) 65535) refl (rw (le-leb len len (omega arith)) at e)
   where
     by : (s : Bool) → leb (address (start_of b entry)) 65535 ≡ s
-        → (need failed s StartTooHigh at (need failed true BytesAfterEnd len (passed []))).answer ≡ Failed fault offset
+        → (need failed s StartTooHigh at (need failed true BytesAfterEnd len (passed []))).answer ≡ failure fault offset
         → (fault ≡ StartTooHigh) × (65535 < address (start_of b entry))
     by true f e = absurd (failed_passed (sym e))
-    by false f e = let k : StartTooHigh ≡ fault = cc in (sym k, leb-false _ _ f)
+    by false f e =
+        let h : ◌≡◌ {A = Failure} (record { fault = StartTooHigh; offset = at }) (record { fault = fault; offset = offset }) = cc in
+        (ap (λ (x : Failure). x.fault) (sym h), leb-false _ _ f)
 
 -- ---- fields
 
@@ -95,7 +100,7 @@ Unmarked map a f = (j : ℕ) → In j f → get_or map (a + j) 0 ≡ 3 → ⊥
 
 -- such fields pass
 pub fresh_passes : (at step : ℕ) (b : Bases) (a n : ℕ) (fs : List Field) (map : List ℕ) → a + n ≤ length map → Each (Inside n) fs
-    → Pairwise FieldsApart fs → Each (Unmarked map a) fs → (adjusting at step b a n fs map).answer ≡ Passed
+    → Pairwise FieldsApart fs → Each (Unmarked map a) fs → (adjusting at step b a n fs map).answer ≡ Ok tt
 unfolding adjusting need
 fresh_passes at step b a n [] map l i d u = refl
 fresh_passes at step b a n (f ∷ fs) map l i d u =

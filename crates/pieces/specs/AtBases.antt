@@ -2,21 +2,18 @@
 -- Each check names its offset by document 02, wish 6: "in .. fixup lists the item, .. for 10 and 17 the address .., for 19 the first byte too many,
 -- for 20 the start's first byte".
 -- Assumes nothing.
-use Rattle.std.specs.Prelude.{not, List, [], ◌∷◌, ℕ, ◌+◌, ◌≤◌, leb, length}
+use Rattle.std.specs.Prelude.{not, List, [], ◌∷◌, ℕ, ◌+◌, ◌≤◌, leb, length, Option, Some, None}
 use Rattle.answer.specs.Checks.{need}
 use Rattle.answer.specs.Report.{address as address_of}
 use Rattle.answer.specs.declared.Fault.TheVariants.{DoesNotFit, PiecesOverlap, FieldNotLoaded, AdjustedTwice, StartTooHigh, BytesAfterEnd}
-use Rattle.answer.specs.declared.Start.{Start}
-use Rattle.answer.specs.declared.Start.TheVariants.{Absent, At}
-use Rattle.events.specs.Events.{place, adjusted_mark, mark_one, Ran, failed, passed}
+use Rattle.events.specs.Events.{place, adjusted_mark, mark_one, Ran, Check, failed, passed}
 use Rattle.events.specs.Walk.{after}
-use Rattle.events.specs.declared.Check.{Check}
 use Rattle.fields.specs.Fields.{item_size, fields_of}
 use Rattle.records.specs.declared.Entry.{Entry}
 use Rattle.records.specs.declared.Entry.TheVariants.{Nowhere, Fixed, Relative}
 use Rattle.fields.specs.declared.Field.{Field}
 use Rattle.records.specs.declared.Record.{Record}
-use Rattle.records.specs.declared.Record.TheVariants.{Code, Fixups, End, Faulty}
+use Rattle.records.specs.declared.Record.TheVariants.{Code, Fixups, End}
 use Rattle.words.specs.Runs.{part, all_zero, contains}
 use Rattle.pieces.specs.Pieces.{place_at, limit_of, width, adjustment}
 use Rattle.pieces.specs.declared.Bases.{Bases}
@@ -38,10 +35,10 @@ adjusting at step b a n (f ∷ fs) map =
     (after (adjustment b a f ∷ []) (adjusting (at + step) step b a n fs (mark_one (adjustment b a f) map))))
 
 -- "flag 0 none, 1 absolute, 2 plus main base"
-abbrev pub start_of : Bases → Entry → Start
-start_of b Nowhere = Absent
-start_of b (Fixed a) = At a
-start_of b (Relative a) = At (b.main + a)
+abbrev pub start_of : Bases → Entry → Option ℕ
+start_of b Nowhere = None
+start_of b (Fixed a) = Some a
+start_of b (Relative a) = Some (b.main + a)
 
 -- "sum ≤ 65,535 for flags 1, 2 (20); nothing after (19)", where the start's address stands at an offset
 unfoldable pub ending : ℕ → Bases → Entry → ℕ → ℕ → Ran Check
@@ -55,11 +52,9 @@ abbrev pub EndsBy : ℕ → Record → Type 0
 EndsBy limit (Code kind address from n) = from + n ≤ limit
 EndsBy limit (Fixups fixup from n) = from + n ≤ limit
 EndsBy limit (End entry next) = next ≤ limit
-EndsBy limit (Faulty fault offset) = Unit {0}
 
 -- the record at an offset of the file, where the last code record before it has k bytes at a (its address, if it has one, begins at its third byte)
 unfoldable pub applied : List ℕ → ℕ → Bases → ℕ → ℕ → Record → List ℕ → Ran Check
 applied file at b a k (Code kind address from n) map = placing (at + 2) (place_at b kind address) (limit_of kind) (part file from n) map
 applied file at b a k (Fixups fixup from n) map = adjusting from (item_size fixup) b a k (fields_of fixup (part file from n)) map
 applied file at b a k (End entry next) map = ending (at + 2) b entry next (length file)
-applied file at b a k (Faulty fault offset) map = failed fault offset

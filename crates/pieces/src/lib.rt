@@ -3,13 +3,13 @@
 
 ghost use Rattle.std.specs.Prelude.{[], ◌∷◌, ◌≡◌, ◌+◌, ◌<◌, ◌≤◌, length, replicate};
 ghost use Rattle.answer.specs.Report.{address as address_of};
-ghost use Rattle.events.specs.Events.{place as placement, play_if, Noted, Did};
+ghost use Rattle.events.specs.Events.{place as placement, play_if, Check, Noted, Did};
 ghost use Rattle.fields.specs.Fields.{item_size, fields_of};
 ghost use Rattle.pieces.specs.Pieces.{place_at, limit_of, amount_of, adjustment};
 ghost use Rattle.pieces.specs.Places.{Inside};
 ghost use Rattle.pieces.specs.AtBases.{placing, adjusting, ending, start_of, EndsBy, applied};
 
-use answer::{Fault, Start};
+use answer::{Failure, Fault};
 use events::Check;
 use fields::{Field, Fixup};
 use records::{Entry, Kind, Record};
@@ -61,7 +61,6 @@ pub fn apply(
             adjust_fields(items, from, fixup, bases, place, size, write, memory, map)
         }
         Record::End { entry, next } => end(at + 2, bases, entry, next, file.len()),
-        Record::Faulty(fault, offset) => Check::Failed(fault, offset),
     }
 }
 
@@ -91,15 +90,15 @@ pub fn place_of(bases: Bases, kind: Kind, address: u16) -> usize
 }
 
 // Where the program starts, where the end record passed.
-pub fn start(bases: Bases, entry: Entry) -> Start
+pub fn start(bases: Bases, entry: Entry) -> Option<u16>
     requires { address_of (start_of bases entry) ≤ 65535 }
     ensures { result ≡ start_of bases entry }
 {
     let sum = start_address(bases, entry);
     match entry {
-        Entry::Nowhere => Start::Absent,
-        Entry::Fixed(address) => Start::At(sum as u16),
-        Entry::Relative(address) => Start::At(sum as u16),
+        Entry::Nowhere => None,
+        Entry::Fixed(address) => Some(sum as u16),
+        Entry::Relative(address) => Some(sum as u16),
     }
 }
 
@@ -127,12 +126,9 @@ fn place_code(
     requires { (place ≤ 131070) × (length code.now ≤ 65536) × (limit ≤ 65536) × (length memory.old ≡ 65536) × (length map.old ≡ 65536) }
     ensures { Did Check (placing at place limit code.now map.old) write memory.old map.old result memory.new map.new }
 {
-    let check = mark_code(at, place, code.len(), limit, map);
-    if let Check::Failed(fault, offset) = check {
-        return Check::Failed(fault, offset);
-    }
+    mark_code(at, place, code.len(), limit, map)?;
     write_code(code, place, write, memory);
-    Check::Passed
+    Ok(())
 }
 
 // Marks `size` code bytes at `place` in the map, whose address stands at `at`, if they end within their limit and no address there is placed
@@ -143,14 +139,20 @@ pub fn mark_code(at: usize, place: usize, size: usize, limit: usize, map: &mut [
 {
     let end = place + size;
     if limit < end {
-        return Check::Failed(Fault::DoesNotFit, at);
+        return Err(Failure {
+            fault: Fault::DoesNotFit,
+            offset: at,
+        });
     }
     let free = words::is_zero(&map[place..end]);
     if !free {
-        return Check::Failed(Fault::PiecesOverlap, at);
+        return Err(Failure {
+            fault: Fault::PiecesOverlap,
+            offset: at,
+        });
     }
     words::fill(&mut map[place..end], events::PLACED);
-    Check::Passed
+    Ok(())
 }
 
 // Writes code at `place` in memory, where `write` is true.
@@ -183,13 +185,10 @@ fn adjust_fields(
     let mut i = 0;
     while i + step <= items.len() {
         let field = fields::field_at(items, i, fixup);
-        let check = adjust_field(field, from + i, bases, place, size, write, memory, map);
-        if let Check::Failed(fault, offset) = check {
-            return Check::Failed(fault, offset);
-        }
+        adjust_field(field, from + i, bases, place, size, write, memory, map)?;
         i += step;
     }
-    Check::Passed
+    Ok(())
 }
 
 // Adjusts a field of the `size` code bytes at `place`, if it lies inside and no byte of it was adjusted before. The item that lists it stands
@@ -207,12 +206,9 @@ fn adjust_field(
     requires { (field.index < 256) × (field.lsb < 256) × (place + size ≤ 65536) × (length memory.old ≡ 65536) × (length map.old ≡ 65536) }
     ensures { Did Check (adjusting at 0 bases place size (field ∷ []) map.old) write memory.old map.old result memory.new map.new }
 {
-    let check = mark_field(field, at, place, size, map);
-    if let Check::Failed(fault, offset) = check {
-        return Check::Failed(fault, offset);
-    }
+    mark_field(field, at, place, size, map)?;
     write_field(field, bases, place, size, write, memory);
-    Check::Passed
+    Ok(())
 }
 
 // Marks a field of the `size` code bytes at `place` in the map, if it lies inside and no byte of it was adjusted before. The item that lists it
@@ -224,16 +220,22 @@ pub fn mark_field(field: Field, at: usize, place: usize, size: usize, map: &mut 
     let fixup = field.fixup;
     let width = fields::width(fixup);
     if size < field.index + width {
-        return Check::Failed(Fault::FieldNotLoaded, at);
+        return Err(Failure {
+            fault: Fault::FieldNotLoaded,
+            offset: at,
+        });
     }
     let address = place + field.index;
     let past = address + width;
     let adjusted = words::contains(&map[address..past], events::ADJUSTED);
     if adjusted {
-        return Check::Failed(Fault::AdjustedTwice, at);
+        return Err(Failure {
+            fault: Fault::AdjustedTwice,
+            offset: at,
+        });
     }
     words::fill(&mut map[address..past], events::ADJUSTED);
-    Check::Passed
+    Ok(())
 }
 
 // Adjusts a field of the `size` code bytes at `place` in memory, where `write` is true.
@@ -268,12 +270,18 @@ pub fn end(at: usize, bases: Bases, entry: Entry, next: usize, length: usize) ->
 {
     let address = start_address(bases, entry);
     if 65535 < address {
-        return Check::Failed(Fault::StartTooHigh, at);
+        return Err(Failure {
+            fault: Fault::StartTooHigh,
+            offset: at,
+        });
     }
     if next < length {
-        return Check::Failed(Fault::BytesAfterEnd, next);
+        return Err(Failure {
+            fault: Fault::BytesAfterEnd,
+            offset: next,
+        });
     }
-    Check::Passed
+    Ok(())
 }
 
 // Where the end record lets the program start, as a sum.

@@ -3,6 +3,7 @@
 -- Assumes nothing.
 use native.Mathlib.Omega.{arith}
 use Rattle.std.proofs.Common.{rules}
+use Rattle.std.proofs.lemmas.Result.{err_from_is_err_and}
 use Rattle.fields.proofs.Listing.{item_some, item_le, next_field, last_field}
 use Rattle.pieces.proofs.Fields.{adjusting_none, adjusting_more, adjusting_fails, adjusting_end}
 use Rattle.pieces.proofs.adjust_fields.Goals as goal
@@ -19,17 +20,11 @@ overflow_add-i c =
 pub field_at-field-requires : goal.field_at-field-requires
 field_at-field-requires c = rw (← c.loop-i.invariant.1) c.loop-i-test.true
 
-pub adjust_field-check-requires : goal.adjust_field-check-requires
-adjust_field-check-requires c =
+pub adjust_field-requires : goal.adjust_field-requires
+adjust_field-requires c =
     let l = c.loop-i.invariant in
     let f = c.field_at-field.ensures in
     (f.1, f.2, c.requires.1, l.2, l.3)
-
-pub returns-in-Failed : goal.returns-in-Failed
-returns-in-Failed c =
-    let l = c.loop-i in
-    adjusting_fails (next_field _ _ _ _ _ l.invariant.1 c.loop-i-test.true c.field_at-field.ensures.0) l.invariant.4
-    c.adjust_field-check.ensures c.in-Failed.is
 
 pub overflow_add-i-in-loop-i : goal.overflow_add-i-in-loop-i
 overflow_add-i-in-loop-i c =
@@ -47,11 +42,16 @@ loop-i-preserved c =
       e,
       search rules,
       search rules,
-      adjusting_more (next_field _ _ _ _ _ e c.loop-i-test.true c.field_at-field.ensures.0) l.invariant.4 c.adjust_field-check.ensures
-          (omega (arith, e)) c.in_default.is,
+      adjusting_more (next_field _ _ _ _ _ e c.loop-i-test.true c.field_at-field.ensures.0) l.invariant.4 c.adjust_field.ensures
+          (omega (arith, e)) c.in_ok-adjust_field.was,
     )
 
 pub returns : goal.returns
 returns c =
     let l = c.loop-i in
     adjusting_end (last_field _ _ _ _ l.invariant.1 c.loop-i-test.false) l.invariant.4
+
+pub returns-in_err-adjust_field : goal.returns-in_err-adjust_field
+returns-in_err-adjust_field c =
+    let p = err_from_is_err_and c.from_residual.result c.from_residual.ensures.1 in
+    rw (p.1, p.2) (adjusting_fails (next_field _ _ _ _ _ c.loop-i.invariant.1 c.loop-i-test.true c.field_at-field.ensures.0) c.loop-i.invariant.4 c.adjust_field.ensures c.in_err-adjust_field.was)

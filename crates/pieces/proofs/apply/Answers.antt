@@ -1,7 +1,7 @@
 -- `pieces::apply` meets its contract: each kind of record comes to what its part comes to, and lies in the file.
 -- Assumes nothing.
 use native.Mathlib.Omega.{arith}
-use Rattle.pieces.proofs.Applying.{applied_code, applied_fixups, applied_end, applied_faulty, lent_fits}
+use Rattle.pieces.proofs.Applying.{applied_code, applied_fixups, applied_end, lent_fits}
 use Rattle.pieces.proofs.apply.Goals as goal
 
 pub overflow_add-next : goal.overflow_add-next
@@ -45,6 +45,3 @@ returns-in-Fixups c =
 
 pub returns-in-End : goal.returns-in-End
 returns-in-End c = applied_end _ _ _ _ _ _ _ _ _ _ _ _ c.in-End.is c.end.ensures
-
-pub returns-in-Faulty : goal.returns-in-Faulty
-returns-in-Faulty c = applied_faulty _ _ _ _ _ _ _ _ _ _ _ c.in-Faulty.is
