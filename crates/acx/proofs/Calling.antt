@@ -8,19 +8,16 @@ use native.Mathlib.Omega.{arith}
 use borrow.Author.Tests.{le-leb, lt-leb, leb-true, eq-eqb, ne_eqb}
 use lib.Dec.{leb}
 use lib.ListN.{length}
+use Rattle.std.proofs.Common.{Ok, Err}
+use Rattle.std.specs.Result.{is_err}
 use Rattle.answer.proofs.Checks.{and_true}
 use Rattle.answer.proofs.Outcomes.{is_refused}
-use Rattle.answer.specs.Checks.{need, pick}
-use Rattle.answer.specs.Report.{placed_of, adjusted_of}
+use Rattle.answer.specs.Checks.{need, pick, failure}
+use Rattle.answer.specs.Report.{placed_of, adjusted_of, Outcome, refusal}
 use Rattle.answer.specs.declared.Fault.{Fault}
 use Rattle.answer.specs.declared.Fault.TheVariants.{WrongBuffer, SettingOutOfRange, FileTooLong}
-use Rattle.answer.specs.declared.Outcome.{Outcome}
-use Rattle.answer.specs.declared.Outcome.TheVariants.{Accepted, Refused}
-use Rattle.answer.specs.declared.Start.{Start}
 use Rattle.events.proofs.Events.{did_none}
-use Rattle.events.specs.Events.{Event, play, marks, blank, Ran, Did}
-use Rattle.events.specs.declared.Check.{Check}
-use Rattle.events.specs.declared.Check.TheVariants.{Passed, Failed}
+use Rattle.events.specs.Events.{Event, play, marks, blank, Ran, Did, Check}
 use Rattle.acx.proofs.Standing.{Stands, stands_first, stands_on}
 use Rattle.acx.proofs.Turning.{refused_accepted}
 use Rattle.acx.proofs.Walking.{accepted_keeps}
@@ -41,20 +38,20 @@ form_device (suc n) h = refl
 
 module _ (form : Form) (file : List ℕ) (b : Bases) (write : Bool) (m : List ℕ) (c : Check) (o : c ≡ opening form file) where
   -- a wrong opening is the refusal
-  pub file_refused : (fault : Fault) (offset : ℕ) (r : Outcome) (p' : List ℕ) → c ≡ Failed fault offset → r ≡ Refused fault offset 0 → p' ≡ blank
+  pub file_refused : (fault : Fault) (offset : ℕ) (r : Outcome) (p' : List ℕ) → c ≡ failure fault offset → r ≡ refusal fault offset 0 → p' ≡ blank
       → Did Outcome (reported b (judged form file b)) write m blank r m p'
   unfolding judged
   file_refused fault offset r p' e er ep =
-      let f : opening form file ≡ Failed fault offset = sym o ∙ e in
+      let f : opening form file ≡ failure fault offset = sym o ∙ e in
       rw (f, er, ep) (did_none _ write m blank)
 
   -- behind a right one the records decide
-  pub file_walked : (n : ℕ) (r : Outcome) (m' p' : List ℕ) → c ≡ Passed → n ≡ opening_size form
+  pub file_walked : (n : ℕ) (r : Outcome) (m' p' : List ℕ) → c ≡ Ok tt → n ≡ opening_size form
       → Did Outcome (reported b (records_of file b n)) write m blank r m' p'
       → Did Outcome (reported b (judged form file b)) write m blank r m' p'
   unfolding judged
   file_walked n r m' p' e en d =
-      let f : opening form file ≡ Passed = sym o ∙ e in
+      let f : opening form file ≡ Ok tt = sym o ∙ e in
       rw (f, ← en) d
 
 -- ---- the settings and the file's length
@@ -68,14 +65,14 @@ range_bounds form b e =
 
 module _ (form : ℕ) (b : Bases) (file : List ℕ) (write : Bool) (m : List ℕ) where
   -- settings out of range are the refusal
-  pub call_range : (r : Outcome) (p : List ℕ) → in_range form b ≡ false → r ≡ Refused SettingOutOfRange 0 0 → p ≡ blank
+  pub call_range : (r : Outcome) (p : List ℕ) → in_range form b ≡ false → r ≡ refusal SettingOutOfRange 0 0 → p ≡ blank
       → Did Outcome (reported b (load form b file)) write m blank r m p
   unfolding load need
   call_range r p h er ep = rw (h, er, ep) (did_none _ write m blank)
 
   module _ (ranged : in_range form b ≡ true) where
     -- then a file that is too long is
-    pub call_long : (r : Outcome) (p : List ℕ) → 65536 < length file → r ≡ Refused FileTooLong 0 0 → p ≡ blank
+    pub call_long : (r : Outcome) (p : List ℕ) → 65536 < length file → r ≡ refusal FileTooLong 0 0 → p ≡ blank
         → Did Outcome (reported b (load form b file)) write m blank r m p
     unfolding load need
     call_long r p h er ep = rw (ranged, lt-leb _ _ h, er, ep) (did_none _ write m blank)
@@ -160,6 +157,11 @@ accepted_map : (b : Bases) (v : Verdict Piece) (es : List Event) → is_refused 
 accepted_map b (accepted ps entry) es e = refl
 accepted_map b (refused fault at) es e = absurd (false≢true (sym e))
 
+-- a refusal is an error
+err_refused : (r : Outcome) → is_err r ≡ is_refused r
+err_refused (Ok a) = refl
+err_refused (Err e) = refl
+
 module _ {form : ℕ} {b : Bases} {file m p : List ℕ} where
   -- a call that did what its load comes to
   carried : {r : Outcome} {m' p' : List ℕ} → r ≡ (reported b (load form b file)).answer
@@ -183,21 +185,20 @@ module _ {form : ℕ} {b : Bases} {file m p : List ℕ} where
 
   module _ {r : Outcome} {m₁ p₁ : List ℕ} (d : Did Outcome (reported b (load form b file)) false m blank r m₁ p₁) where
     -- what was refused when it was checked is the refusal (memory was not written then)
-    pub loaded_refused : {fault : Fault} {at side : ℕ} {p' : List ℕ} → r ≡ Refused fault at side → p' ≡ blank
-        → Loaded form b file true m p (Refused fault at side) m₁ p'
+    pub loaded_refused : {p' : List ℕ} → is_err r ≡ true → p' ≡ blank → Loaded form b file true m p r m₁ p'
     loaded_refused e ep =
         let o = load form b file in
-        let k : is_refused (report b o.answer o.events) ≡ true = ap is_refused (sym d.answer ∙ e) in
-        carried (sym e ∙ d.answer) (d.reached.memory ∙ sym (refused_memory b o.answer o.events m k))
+        let k : is_refused (report b o.answer o.events) ≡ true = ap is_refused (sym d.answer) ∙ sym (err_refused r) ∙ e in
+        carried d.answer (d.reached.memory ∙ sym (refused_memory b o.answer o.events m k))
         (ep ∙ sym (refused_map b o.answer o.events k))
 
     -- what was accepted is walked again, and written
-    pub loaded_accepted : {start : Start} {i j k l : ℕ} {r₂ : Outcome} {m₂ p₂ : List ℕ} → r ≡ Accepted start i j k l
+    pub loaded_accepted : {r₂ : Outcome} {m₂ p₂ : List ℕ} → is_err r ≡ false
         → Did Outcome (reported b (load form b file)) true m₁ blank r₂ m₂ p₂
         → Loaded form b file true m p r₂ m₂ p₂
     loaded_accepted e d₂ =
         let o = load form b file in
-        let k : is_refused (report b o.answer o.events) ≡ false = ap is_refused (sym d.answer ∙ e) in
+        let k : is_refused (report b o.answer o.events) ≡ false = ap is_refused (sym d.answer) ∙ sym (err_refused r) ∙ e in
         carried d₂.answer
         (d₂.reached.memory ∙ ap (λ (t : List ℕ). play o.events t) d.reached.memory ∙ sym (accepted_memory b o.answer o.events m k))
         (d₂.reached.map ∙ sym (accepted_map b o.answer o.events k))
@@ -205,7 +206,7 @@ module _ {form : ℕ} {b : Bases} {file m p : List ℕ} where
   -- ---- whatever the buffers
 
   -- "Refusal 1 changes nothing"
-  pub loaded_wrong : {right : Bool} {r : Outcome} → right ≡ false → r ≡ Refused WrongBuffer 0 0 → Loaded form b file right m p r m p
+  pub loaded_wrong : {right : Bool} {r : Outcome} → right ≡ false → r ≡ refusal WrongBuffer 0 0 → Loaded form b file right m p r m p
   unfolding call need pick
   loaded_wrong h e =
       record {
@@ -217,10 +218,10 @@ module _ {form : ℕ} {b : Bases} {file m p : List ℕ} where
       }
 
   -- so do a memory and a map of another length, and what has the right lengths is a load
-  pub loaded_memory : {r : Outcome} → (length m ≡ 65536 → ⊥) → r ≡ Refused WrongBuffer 0 0 → Loaded form b file (sized m p) m p r m p
+  pub loaded_memory : {r : Outcome} → (length m ≡ 65536 → ⊥) → r ≡ refusal WrongBuffer 0 0 → Loaded form b file (sized m p) m p r m p
   loaded_memory h e = loaded_wrong (rw (ne_eqb _ _ h) refl) e
 
-  pub loaded_map_lem : {r : Outcome} → length m ≡ 65536 → (length p ≡ 65536 → ⊥) → r ≡ Refused WrongBuffer 0 0
+  pub loaded_map_lem : {r : Outcome} → length m ≡ 65536 → (length p ≡ 65536 → ⊥) → r ≡ refusal WrongBuffer 0 0
       → Loaded form b file (sized m p) m p r m p
   loaded_map_lem g h e = loaded_wrong (rw (eq-eqb _ _ g, ne_eqb _ _ h) refl) e
 

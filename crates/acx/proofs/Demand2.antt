@@ -8,16 +8,13 @@ use native.Mathlib.Omega.{arith}
 use borrow.Author.Tests.{eq-eqb, eqb-true}
 use lib.Dec.{eqb}
 use lib.ListN.{length, get_or}
+use Rattle.std.proofs.Common.{Option, None, Ok, Err}
 use Rattle.answer.proofs.Checks.{and_true}
 use Rattle.answer.proofs.Outcomes.{is_refused}
 use Rattle.answer.specs.Checks.{need}
-use Rattle.answer.specs.Report.{placed_of, adjusted_of}
+use Rattle.answer.specs.Report.{placed_of, adjusted_of, Outcome, acceptance}
 use Rattle.answer.specs.declared.Fault.{Fault}
 use Rattle.answer.specs.declared.Fault.TheVariants.{WrongBuffer}
-use Rattle.answer.specs.declared.Outcome.{Outcome}
-use Rattle.answer.specs.declared.Outcome.TheVariants.{Accepted, Refused}
-use Rattle.answer.specs.declared.Start.{Start}
-use Rattle.answer.specs.declared.Start.TheVariants.{Absent}
 use Rattle.events.proofs.Checks.{failed_passed}
 use Rattle.events.proofs.Events.{placed_append, adjusted_append, length_play}
 use Rattle.events.proofs.Lists.{image_each}
@@ -98,21 +95,21 @@ demand2 form file b ps entry e m n =
 
 -- ---- of every call
 
-abbrev start_in : Outcome → Start
-start_in (Accepted start placed adjusted names low) = start
-start_in (Refused fault offset side) = Absent
+abbrev start_in : Outcome → Option ℕ
+start_in (Ok a) = a.start
+start_in (Err r) = None
 
 -- a load that accepts reports the start and the counts of the pieces
 pub load_reports : (form : ℕ) (b : Bases) (file : List ℕ) (ps : List Piece) (entry : Entry) → Accepts form b file ps entry
-    → (reported b (load form b file)).answer ≡ Accepted (start_of b entry) (total size ps) (total (λ p. length p.fields) ps) 0 0
+    → (reported b (load form b file)).answer ≡ acceptance (start_of b entry) (total size ps) (total (λ p. length p.fields) ps) 0 0
 load_reports form b file ps entry h =
     let e = follows_judged (form_of form) file b ps entry h.follows in
     let o = judged (form_of form) file b in
     ap (λ (k : Ran (Verdict Piece)). (reported b k).answer) (load_judged form b file h.settings h.fits)
     ∙ ap (λ (v : Verdict Piece). report b v o.events) e
     ∙ ap (λ (es : List Event). report b (accepted ps entry) es) (placed_well file b (form_of form) ps entry e).events
-    ∙ ap (λ (n : ℕ). Accepted (start_of b entry) n (adjusted_in (events b ps)) 0 0) (placed_total b ps)
-    ∙ ap (λ (n : ℕ). Accepted (start_of b entry) (total size ps) n 0 0) (adjusted_total b ps)
+    ∙ ap (λ (n : ℕ). acceptance (start_of b entry) n (adjusted_in (events b ps)) 0 0) (placed_total b ps)
+    ∙ ap (λ (n : ℕ). acceptance (start_of b entry) (total size ps) n 0 0) (adjusted_total b ps)
 
 -- and its map has their marks
 pub load_marks : (form : ℕ) (b : Bases) (file : List ℕ) (ps : List Piece) (entry : Entry) → Accepts form b file ps entry
@@ -143,7 +140,7 @@ module _ (form : ℕ) (b : Bases) (file : List ℕ) (x : Bool) (m p : List ℕ) 
   held e = need_held b (x && sized m p) WrongBuffer 0 (load form b file) (ap is_refused (sym d.outcome) ∙ e)
 
   -- an acceptance leaves what demand 2 says
-  call_demand2 : (start : Start) (placed adjusted names low : ℕ) → r ≡ Accepted start placed adjusted names low
+  call_demand2 : (start : Option ℕ) (placed adjusted names low : ℕ) → r ≡ acceptance start placed adjusted names low
       → AcceptedCall form b file x m p start placed adjusted m' p'
   call_demand2 start placed adjusted names low e =
       let t = held (ap is_refused e) in
@@ -156,7 +153,7 @@ module _ (form : ℕ) (b : Bases) (file : List ℕ) (x : Bool) (m p : List ℕ) 
       by : (x ≡ true) × (length m ≡ 65536) × (length p ≡ 65536)
           → m' ≡ memory_after o.answer o.events m
           → p' ≡ map_after o.answer o.events
-          → Accepted start placed adjusted names low ≡ (reported b o).answer
+          → acceptance start placed adjusted names low ≡ (reported b o).answer
           → (v : Verdict Piece) → o.answer ≡ v
           → AcceptedCall form b file x m p start placed adjusted m' p'
       by n em ep eo (refused fault at) f = absurd (false≢true (ap is_refused (eo ∙ ap (λ (v : Verdict Piece). report b v o.events) f)))
@@ -168,7 +165,7 @@ module _ (form : ℕ) (b : Bases) (file : List ℕ) (x : Bool) (m p : List ℕ) 
           ∙ ap (λ (q : Ran (Verdict Piece)). play q.events m) w.by_rules in
           let ep' : p' ≡ marks k.events blank = ep ∙ ap (λ (v : Verdict Piece). map_after v o.events) f
           ∙ ap (λ (q : Ran (Verdict Piece)). marks q.events blank) w.by_rules in
-          let eo' : Accepted start placed adjusted names low ≡ report b (accepted ps entry) k.events =
+          let eo' : acceptance start placed adjusted names low ≡ report b (accepted ps entry) k.events =
           eo ∙ ap (λ (v : Verdict Piece). report b v o.events) f ∙ ap (λ (q : Ran (Verdict Piece)). report b (accepted ps entry) q.events) w.by_rules in
           let en : placed ≡ placed_in k.events = ap placed_of eo' in
           let ea : adjusted ≡ adjusted_in k.events = ap adjusted_of eo' in
@@ -182,7 +179,7 @@ module _ (form : ℕ) (b : Bases) (file : List ℕ) (x : Bool) (m p : List ℕ) 
 
   -- a call as asked accepts every file that follows the rules, with its start and counts
   call_accepts : Asked form b file x m p → (ps : List Piece) (entry : Entry) → Follows (form_of form) file b ps entry
-      → r ≡ Accepted (start_of b entry) (total size ps) (total (λ p. length p.fields) ps) 0 0
+      → r ≡ acceptance (start_of b entry) (total size ps) (total (λ p. length p.fields) ps) 0 0
   call_accepts a ps entry f =
       let t : x && sized m p ≡ true = rw (a.answer, eq-eqb _ _ a.memory, eq-eqb _ _ a.map) refl in
       (loaded_right t d).0 ∙ load_reports form b file ps entry (record { settings = a.settings; fits = a.fits; follows = f })

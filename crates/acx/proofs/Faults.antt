@@ -7,27 +7,26 @@ use Prim.Native.Nat.{ℕ}
 use native.Mathlib.Omega.{arith}
 use lib.Dec.{leb}
 use lib.ListN.{length}
+use Rattle.std.proofs.Common.{Ok, Err}
+use Rattle.answer.specs.Report.{refusal}
+use Rattle.records.specs.Records.{Read}
 use Rattle.answer.proofs.Causes.{causes_of}
 use Rattle.answer.proofs.Checks.{on_need}
 use Rattle.answer.proofs.Faults.{is_early, OfFile, ByFile, Lies, early_located, by_file_lies}
 use Rattle.answer.specs.Causes.{Causes}
-use Rattle.answer.specs.Checks.{need}
+use Rattle.answer.specs.Checks.{need, failure}
 use Rattle.answer.specs.declared.Fault.{Fault}
 use Rattle.answer.specs.declared.Fault.TheVariants.{WrongBuffer}
-use Rattle.answer.specs.declared.Outcome.TheVariants.{Refused}
 use Rattle.events.proofs.Faults.{CheckFaults, Checks, fails, Ending, from_ends}
-use Rattle.events.specs.Events.{Event, blank, Ran}
-use Rattle.events.specs.declared.Check.{Check}
-use Rattle.events.specs.declared.Check.TheVariants.{Passed, Failed}
+use Rattle.events.specs.Events.{Event, blank, Ran, Check}
 use Rattle.pieces.proofs.Faults.{applied_faults}
 use Rattle.pieces.specs.Pieces.{Piece}
 use Rattle.pieces.specs.declared.Bases.{Bases}
 use Rattle.records.proofs.Reading.{Where, lies_as}
-use Rattle.records.specs.declared.Record.{Record}
-use Rattle.records.specs.declared.Record.TheVariants.{Code, Fixups, End, Faulty}
+use Rattle.records.specs.declared.Record.TheVariants.{Code, Fixups, End}
 use Rattle.events.specs.Sizes.{file_limit}
 use Rattle.acx.specs.Call.{form_of, in_range, load, call}
-use Rattle.acx.specs.Walk.{Verdict, accepted, refused, at_once, Progress, last_of, last_place, last_size, record_at, checked, judge, turn, records_from, records_of, opening, opened, judged, report, reported}
+use Rattle.acx.specs.Walk.{Verdict, accepted, refused, at_once, Progress, last_of, last_place, last_size, record_at, checked_as, checked, judge, turn, records_from, records_of, opening, opened, judged, report, reported}
 use Rattle.acx.specs.declared.Form.{Form}
 use Rattle.acx.specs.declared.Form.TheVariants.{Disk, Device}
 
@@ -41,13 +40,19 @@ record Verdicts (len : ℕ) (v : Verdict Piece) : Type 0 where
   faults : VerdictFaults len v
 
 -- where a record leads
-judge_faults : (len : ℕ) (file : List ℕ) (b : Bases) (s : Progress) (c : Check) (r : Record) → CheckFaults len c → Where len s.at r
+judge_faults : (len : ℕ) (file : List ℕ) (b : Bases) (s : Progress) (c : Check) (r : Read) → CheckFaults len c → Where len s.at r
     → Ending (Verdicts len) (judge file b s c r)
-judge_faults len file b s (Failed fault offset) r k l = record { faults = k }
-judge_faults len file b s Passed (Code kind address from n) k l = tt
-judge_faults len file b s Passed (Fixups fixup from n) k l = tt
-judge_faults len file b s Passed (End entry next) k l = record { faults = tt }
-judge_faults len file b s Passed (Faulty fault offset) k l = record { faults = l }
+judge_faults len file b s (Err e) r k l = record { faults = k }
+judge_faults len file b s (Ok done) (Ok (Code kind address from n)) k l = tt
+judge_faults len file b s (Ok done) (Ok (Fixups fixup from n)) k l = tt
+judge_faults len file b s (Ok done) (Ok (End entry next)) k l = record { faults = tt }
+judge_faults len file b s (Ok done) (Err e) k l = record { faults = l }
+
+-- a record that was read, or the fault in its place
+checked_faults : (file : List ℕ) (b : Bases) (s : Progress) (map : List ℕ) (r : Read) → Where (length file) s.at r
+    → Checks (length file) (checked_as file b s r map).answer
+checked_faults file b s map (Ok found) w = applied_faults file s.at b (last_place b s.pieces) (last_size s.pieces) found map w
+checked_faults file b s map (Err e) w = record { faults = w }
 
 -- so every turn of a file, and all its records
 turn_faults : (file : List ℕ) (b : Bases) (s : Progress) (map : List ℕ) → Ending (Verdicts (length file)) (turn file b s map).answer
@@ -55,8 +60,7 @@ unfolding turn checked
 turn_faults file b s map =
     let r = record_at file s in
     let w = lies_as file s.at (last_of s.pieces) r refl in
-    let k = applied_faults file s.at b (last_place b s.pieces) (last_size s.pieces) r map w in
-    judge_faults (length file) file b s (checked file b s map).answer r k.faults w
+    judge_faults (length file) file b s (checked file b s map).answer r (checked_faults file b s map r w).faults w
 
 records_faults : (file : List ℕ) (b : Bases) (at : ℕ) → Verdicts (length file) (records_of file b at).answer
 unfolding records_from
@@ -67,14 +71,14 @@ records_faults file b at =
 pub opening_faults : (form : Form) (file : List ℕ) → Checks (length file) (opening form file)
 unfolding opening
 opening_faults Disk file =
-    on_need Failed (Checks (length file)) _ _ _ _ (fails refl (omega arith))
-    (λ _. on_need Failed (Checks (length file)) _ _ _ _ (fails refl (omega arith))
+    on_need failure (Checks (length file)) _ _ _ _ (fails refl (omega arith))
+    (λ _. on_need failure (Checks (length file)) _ _ _ _ (fails refl (omega arith))
     (λ _. record { faults = tt }))
 opening_faults Device file = record { faults = tt }
 
 opened_faults : (len : ℕ) (c : Check) (rest : Ran (Verdict Piece)) → CheckFaults len c → Verdicts len rest.answer → Verdicts len (opened c rest).answer
-opened_faults len Passed rest h i = i
-opened_faults len (Failed fault offset) rest h i = record { faults = h }
+opened_faults len (Ok done) rest h i = i
+opened_faults len (Err e) rest h i = record { faults = h }
 
 -- the whole file
 judged_faults : (form : Form) (file : List ℕ) (b : Bases) → Verdicts (length file) (judged form file b).answer
@@ -94,7 +98,7 @@ report_faults b (refused fault offset) es h = record { decided = h.faults }
 abbrev Reports : ℕ → Bases → Ran (Verdict Piece) → Type 0
 Reports len b o = Lies len (reported b o).answer
 
-early : (len : ℕ) (fault : Fault) → is_early fault ≡ true → Lies len (Refused fault 0 0)
+early : (len : ℕ) (fault : Fault) → is_early fault ≡ true → Lies len (refusal fault 0 0)
 early len fault e = record { lies = early_located len fault e }
 
 -- of every call
@@ -126,7 +130,7 @@ unfolding call need
 load_causes form b file = call_causes form b file true
 
 -- and never with 1
-pub load_late : (form : ℕ) (b : Bases) (file : List ℕ) (fault : Fault) (at side : ℕ) → (reported b (load form b file)).answer ≡ Refused fault at side
+pub load_late : (form : ℕ) (b : Bases) (file : List ℕ) (fault : Fault) (at side : ℕ) → (reported b (load form b file)).answer ≡ refusal fault at side
     → ¬ (fault ≡ WrongBuffer)
 load_late form b file fault at side e f =
-    false≢true (sym ((load_causes form b file).wrong_buffer_only at side (e ∙ ap (λ (k : Fault). Refused k at side) f)))
+    false≢true (sym ((load_causes form b file).wrong_buffer_only at side (e ∙ ap (λ (k : Fault). refusal k at side) f)))

@@ -9,11 +9,10 @@ use lib.ListN.{length}
 use Rattle.answer.proofs.Faults.{located_as}
 use Rattle.answer.proofs.Outcomes.{is_refused, fault_in}
 use Rattle.answer.specs.Checks.{need, pick}
-use Rattle.answer.specs.Report.{Located}
+use Rattle.answer.specs.Report.{Located, Outcome, refusal}
 use Rattle.answer.specs.declared.Fault.{Fault}
+use Rattle.answer.specs.declared.Refusal.{Refusal}
 use Rattle.answer.specs.declared.Fault.TheVariants.{WrongBuffer, SettingOutOfRange, FileTooLong}
-use Rattle.answer.specs.declared.Outcome.{Outcome}
-use Rattle.answer.specs.declared.Outcome.TheVariants.{Refused}
 use Rattle.events.specs.Events.{Event}
 use Rattle.events.specs.Sizes.{file_limit}
 use Rattle.pieces.specs.Pieces.{Piece}
@@ -26,7 +25,7 @@ use Rattle.acx.specs.Refusals.{RefusedCall, Refusals, RefusalsClaim}
 use Rattle.acx.specs.Rules.{Refuses}
 use Rattle.acx.specs.Walk.{Verdict, accepted, refused, report, reported}
 
-module _ (form : ℕ) (b : Bases) (file m p : List ℕ) (r : Outcome) (m' p' : List ℕ) (fault : Fault) (at side : ℕ) (e : r ≡ Refused fault at side) where
+module _ (form : ℕ) (b : Bases) (file m p : List ℕ) (r : Outcome) (m' p' : List ℕ) (fault : Fault) (at side : ℕ) (e : r ≡ refusal fault at side) where
   -- where a length is wrong, that is the fault
   refused_wrong : Loaded form b file false m p r m' p' → RefusedCall fault m p m' p'
   unfolding call need pick
@@ -48,7 +47,7 @@ module _ (form : ℕ) (b : Bases) (file m p : List ℕ) (r : Outcome) (m' p' : L
 
 module _ (form : ℕ) (b : Bases) (file : List ℕ) (at : ℕ) where
   -- what the rules refuse a load with is reported
-  refuses_reported : (fault : Fault) → Refuses form b file fault at → (reported b (load form b file)).answer ≡ Refused fault at 0
+  refuses_reported : (fault : Fault) → Refuses form b file fault at → (reported b (load form b file)).answer ≡ refusal fault at 0
   refuses_reported fault h = ap (λ (v : Verdict Piece). report b v (load form b file).events) ((by_rules form b file).refuses fault at h)
 
   -- where it lies
@@ -70,14 +69,12 @@ module _ (form : ℕ) (b : Bases) (file : List ℕ) (at : ℕ) where
       (c.1, c.2)
 
 -- an outcome that is a refusal is of a verdict that is one
-pub reported_refused : (b : Bases) (v : Verdict Piece) (es : List Event) (fault : Fault) (at side : ℕ) → report b v es ≡ Refused fault at side
+pub reported_refused : (b : Bases) (v : Verdict Piece) (es : List Event) (fault : Fault) (at side : ℕ) → report b v es ≡ refusal fault at side
     → (v ≡ refused fault at) × (side ≡ 0)
 reported_refused b (accepted ps entry) es fault at side e = absurd (false≢true (ap is_refused e))
 reported_refused b (refused f a) es fault at side e =
-    let k : f ≡ fault = cc in
-    let l : a ≡ at = cc in
-    let s : 0 ≡ side = cc in
-    (ap (λ (g : Fault). refused g a) k ∙ ap (refused fault) l, sym s)
+    let h : ◌≡◌ {A = Refusal} (record { fault = f; offset = a; side = 0 }) (record { fault = fault; offset = at; side = side }) = cc in
+    (ap (λ (x : Refusal). refused x.fault x.offset) h, sym (ap (λ (x : Refusal). x.side) h))
 
 -- every call, where the lengths are right or not
 refusals : (form : ℕ) (b : Bases) (file : List ℕ) (right : Bool) (m p : List ℕ) (r : Outcome) (m' p' : List ℕ) → Loaded form b file right m p r m' p'
@@ -94,7 +91,7 @@ refusals form b file right m p r m' p' d =
       leaves = λ fault at side e. by fault at side e right refl;
     }
   where
-    by : (fault : Fault) (at side : ℕ) → r ≡ Refused fault at side → (t : Bool) → right ≡ t → RefusedCall fault m p m' p'
+    by : (fault : Fault) (at side : ℕ) → r ≡ refusal fault at side → (t : Bool) → right ≡ t → RefusedCall fault m p m' p'
     by fault at side e true h = refused_right form b file m p r m' p' fault at side e (subst (λ (t : Bool). Loaded form b file t m p r m' p') h d)
     by fault at side e false h = refused_wrong form b file m p r m' p' fault at side e (subst (λ (t : Bool). Loaded form b file t m p r m' p') h d)
 

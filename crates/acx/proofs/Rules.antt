@@ -7,20 +7,19 @@ use Prim.Native.Nat.{ℕ, ◌≤◌}
 use borrow.Author.Tests.{leb-true, leb-false, le-leb, lt-leb}
 use lib.Dec.{leb}
 use lib.ListN.{length}
-use Rattle.answer.specs.Checks.{need}
+use Rattle.std.proofs.Common.{Ok, Err}
+use Rattle.records.specs.Records.{Read}
+use Rattle.answer.specs.Checks.{need, failure}
 use Rattle.answer.specs.declared.Fault.{Fault}
 use Rattle.answer.specs.declared.Fault.TheVariants.{SettingOutOfRange, FileTooLong}
 use Rattle.records.specs.declared.Entry.{Entry}
 use Rattle.events.proofs.Checks.{failed_passed}
 use Rattle.events.proofs.Traces.{steps_traced, trace_answers}
 use Rattle.events.proofs.Walks.{ends_leads, ends_same, EndsAt}
-use Rattle.events.specs.Events.{Event, marks, blank, Ran}
+use Rattle.events.specs.Events.{Event, marks, blank, Ran, Check}
 use Rattle.events.specs.Trace.{Trace}
 use Rattle.events.specs.Walk.{ends}
-use Rattle.events.specs.declared.Check.{Check}
-use Rattle.events.specs.declared.Check.TheVariants.{Passed, Failed}
-use Rattle.records.specs.declared.Record.{Record}
-use Rattle.records.specs.declared.Record.TheVariants.{Code, Fixups, End, Faulty}
+use Rattle.records.specs.declared.Record.TheVariants.{Code, Fixups, End}
 use Rattle.pieces.specs.AtBases.{applied}
 use Rattle.pieces.specs.Pieces.{Piece}
 use Rattle.pieces.specs.declared.Bases.{Bases}
@@ -50,7 +49,7 @@ module _ (file : List ℕ) (b : Bases) (at : ℕ) where
 
 module _ (form : Form) (file : List ℕ) (b : Bases) where
   -- behind an opening that passes the records decide
-  pub judged_records : opening form file ≡ Passed → judged form file b ≡ records_of file b (opening_size form)
+  pub judged_records : opening form file ≡ Ok tt → judged form file b ≡ records_of file b (opening_size form)
   unfolding judged
   judged_records o = ap (λ (c : Check). opened c (records_of file b (opening_size form))) o
 
@@ -75,29 +74,26 @@ module _ (form : Form) (file : List ℕ) (b : Bases) where
 
   -- a turn refuses a file where its record does not pass
   turn_failed : (s : Progress) (es : List Event) (fault : Fault) (at : ℕ) → (turn file b s (marks es blank)).answer ≡ ends (refused fault at)
-      → (checked file b s (marks es blank)).answer ≡ Failed fault at
+      → (checked file b s (marks es blank)).answer ≡ failure fault at
   unfolding checked applied
   turn_failed s es fault at e =
       by (checked file b s (marks es blank)).answer (record_at file s) refl refl (sym (turn_is file b s (marks es blank) _ _ refl refl) ∙ e)
     where
-      by : (c : Check) (r : Record) → (checked file b s (marks es blank)).answer ≡ c → record_at file s ≡ r → judge file b s c r ≡ ends (refused fault at)
-          → (checked file b s (marks es blank)).answer ≡ Failed fault at
-      by (Failed f i) r c j e =
-          let v : refused f i ≡ refused fault at = ends_same e in
-          let w : Failed f i ≡ Failed fault at = cc in
-          c ∙ w
-      by Passed (Code kind address from n) c i e = absurd (ends_leads (sym e))
-      by Passed (Fixups fixup from n) c i e = absurd (ends_leads (sym e))
-      by Passed (End entry next) c i e = absurd (refused_accepted (sym (ends_same e)))
-      by Passed (Faulty f offset) c i e = absurd (failed_passed (rw i at c))
+      by : (c : Check) (r : Read) → (checked file b s (marks es blank)).answer ≡ c → record_at file s ≡ r → judge file b s c r ≡ ends (refused fault at)
+          → (checked file b s (marks es blank)).answer ≡ failure fault at
+      by (Err f) r c j e = c ∙ as_refused (λ g i. ◌≡◌ {A = Check} (Err f) (failure g i)) refl (ends_same e)
+      by (Ok done) (Ok (Code kind address from n)) c i e = absurd (ends_leads (sym e))
+      by (Ok done) (Ok (Fixups fixup from n)) c i e = absurd (ends_leads (sym e))
+      by (Ok done) (Ok (End entry next)) c i e = absurd (refused_accepted (sym (ends_same e)))
+      by (Ok done) (Err f) c i e = absurd (failed_passed (rw i at c))
 
   pub failed : (fault : Fault) (at : ℕ) → (judged form file b).answer ≡ refused fault at → Fails form file b fault at
   unfolding judged
   failed fault at e = by (opening form file) refl e
     where
       by : (c : Check) → opening form file ≡ c → (opened c (records_of file b (opening_size form))).answer ≡ refused fault at → Fails form file b fault at
-      by (Failed f i) o e = let w : Failed f i ≡ Failed fault at = cc in in_opening (o ∙ w)
-      by Passed o e =
+      by (Err f) o e = in_opening (o ∙ as_refused (λ g i. ◌≡◌ {A = Check} (Err f) (failure g i)) refl e)
+      by (Ok done) o e =
           let x = records_traced file b (opening_size form) in
           in_record o x.held (turn_failed x.state x.before fault at (x.answer ∙ ap ends e))
 
@@ -106,7 +102,7 @@ module _ (form : Form) (file : List ℕ) (b : Bases) where
   fails_judged fault at (in_opening o) = ap (λ (c : Check). (opened c (records_of file b (opening_size form))).answer) o
   fails_judged fault at (in_record {s = s} {es = es} o t c) =
       ap (λ (q : Ran (Verdict Piece)). q.answer) (judged_records o)
-      ∙ trace_records file b (opening_size form) s es (refused fault at) t (turn_is file b s (marks es blank) (Failed fault at) _ c refl)
+      ∙ trace_records file b (opening_size form) s es (refused fault at) t (turn_is file b s (marks es blank) (failure fault at) _ c refl)
 
 -- ---- a load
 

@@ -6,18 +6,18 @@ use mathlib.Core.Path.{◌≡◌, sym, ap, ◌∙◌}
 use Prim.Native.Nat.{ℕ, ◌+◌, ◌≤◌}
 use native.Mathlib.Omega.{arith}
 use lib.ListN.{length}
+use Rattle.std.proofs.Common.{Ok, Err}
+use Rattle.records.specs.Records.{Read}
 use Rattle.events.proofs.Events.{length_marks, length_blank, blank_at}
 use Rattle.events.proofs.Lists.{each_map, each_append, pairwise_append}
 use Rattle.events.specs.Events.{marks, blank}
 use Rattle.events.specs.Lists.{Each}
-use Rattle.events.specs.declared.Check.TheVariants.{Passed}
 use Rattle.records.proofs.Reading.{AfterCode, lies_as, fixups_after}
 use Rattle.fields.specs.Fields.{item_size, fields_of}
 use Rattle.fields.specs.declared.Field.{Field}
 use Rattle.records.specs.declared.Entry.{Entry}
 use Rattle.records.specs.declared.Kind.{Kind}
-use Rattle.records.specs.declared.Record.{Record}
-use Rattle.records.specs.declared.Record.TheVariants.{Code, Fixups, End, Faulty}
+use Rattle.records.specs.declared.Record.TheVariants.{Code, Fixups, End}
 use Rattle.words.proofs.Runs.{length_part}
 use Rattle.words.specs.Runs.{part, all_zero}
 use Rattle.pieces.proofs.Checks.{placing_passed, limit_le}
@@ -79,8 +79,8 @@ module _ (file : List ℕ) (b : Bases) where
   placed_first = (record { fit = record { below = tt; apart = tt }; sound = record { inside = tt; distinct = tt } }, tt)
 
   -- a code record: its piece found room and nothing placed there
-  placed_code : (s : Progress) (kind : Kind) (address from n : ℕ) → PlacedSoFar s.pieces → record_at file s ≡ Code kind address from n → Passes file b s
-      → PlacedSoFar (stepped file s (Code kind address from n)).pieces
+  placed_code : (s : Progress) (kind : Kind) (address from n : ℕ) → PlacedSoFar s.pieces → record_at file s ≡ Ok (Code kind address from n) → Passes file b s
+      → PlacedSoFar (stepped file s (Ok (Code kind address from n))).pieces
   placed_code s kind address from n (h, k) e c =
       let ps = s.pieces in
       let p : Piece = record { kind = kind; address = address; code = part file from n; fields = [] } in
@@ -96,7 +96,7 @@ module _ (file : List ℕ) (b : Bases) where
 
   -- fields more: each lay in the last code and met none before it
   placed_fields : (at step : ℕ) (fs : List Field) (ps : List Piece) → PlacedSoFar ps → AfterCode (last_of ps)
-      → (adjusting at step b (last_place b ps) (last_size ps) fs (marks (events b ps) blank)).answer ≡ Passed → PlacedSoFar (with_fields fs ps)
+      → (adjusting at step b (last_place b ps) (last_size ps) fs (marks (events b ps) blank)).answer ≡ Ok tt → PlacedSoFar (with_fields fs ps)
   placed_fields at step fs [] h m c = absurd m
   placed_fields at step fs (p ∷ ps) (h, k) m c =
       let map' : List ℕ = marks (events b (p ∷ ps)) blank in
@@ -115,13 +115,13 @@ module _ (file : List ℕ) (b : Bases) where
       )
 
   -- every record that passes
-  placed_on : (s : Progress) (r : Record) → PlacedSoFar s.pieces → record_at file s ≡ r → Onward r → Passes file b s → PlacedSoFar (stepped file s r).pieces
-  placed_on s (Code kind address from n) h e o c = placed_code s kind address from n h e c
-  placed_on s (Fixups fixup from n) h e o c =
+  placed_on : (s : Progress) (r : Read) → PlacedSoFar s.pieces → record_at file s ≡ r → Onward r → Passes file b s → PlacedSoFar (stepped file s r).pieces
+  placed_on s (Ok (Code kind address from n)) h e o c = placed_code s kind address from n h e c
+  placed_on s (Ok (Fixups fixup from n)) h e o c =
       placed_fields from (item_size fixup) (fields_of fixup (part file from n)) s.pieces h (fixups_after file s.at (last_of s.pieces) fixup from n e)
       (fixups_passed file b s _ fixup from n e c)
-  placed_on s (End entry next) h e o c = absurd o
-  placed_on s (Faulty fault offset) h e o c = absurd o
+  placed_on s (Ok (End entry next)) h e o c = absurd o
+  placed_on s (Err f) h e o c = absurd o
 
   -- an accepted file: its pieces are well placed, what was placed and adjusted is in its bytes, and its events are those of the pieces
   pub placed_well : (form : Form) (ps : List Piece) (entry : Entry) → (judged form file b).answer ≡ accepted ps entry

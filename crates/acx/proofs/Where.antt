@@ -6,21 +6,21 @@ use mathlib.Core.Path.{◌≡◌, refl, sym, ap, ◌∙◌, subst}
 use Prim.Native.Nat.{ℕ, ◌+◌, ◌≤◌}
 use native.Mathlib.Omega.{arith}
 use lib.ListN.{length}
+use Rattle.std.proofs.Common.{Ok, Err}
+use Rattle.answer.specs.Checks.{failure}
+use Rattle.records.specs.Records.{Read}
 use Rattle.answer.specs.declared.Fault.{Fault}
 use Rattle.events.proofs.Events.{length_marks}
 use Rattle.events.proofs.Lists.{each_map, each_zip, each_split, pairwise_split}
-use Rattle.events.specs.Events.{Event, marks, blank, Ran}
+use Rattle.events.specs.Events.{Event, marks, blank, Ran, Check}
 use Rattle.events.specs.Trace.{Trace, at_start, after_step}
-use Rattle.events.specs.declared.Check.{Check}
-use Rattle.events.specs.declared.Check.TheVariants.{Passed, Failed}
 use Rattle.fields.specs.Fields.{item_size, fields_of}
 use Rattle.fields.specs.declared.Field.{Field}
 use Rattle.fields.specs.declared.Fixup.{Fixup}
 use Rattle.records.proofs.Reading.{AfterCode, fixups_after}
 use Rattle.records.specs.declared.Entry.{Entry}
 use Rattle.records.specs.declared.Kind.{Kind}
-use Rattle.records.specs.declared.Record.{Record}
-use Rattle.records.specs.declared.Record.TheVariants.{Code, Fixups, End, Faulty}
+use Rattle.records.specs.declared.Record.TheVariants.{Code, Fixups, End}
 use Rattle.words.specs.Runs.{part}
 use Rattle.pieces.proofs.Applying.{ending_passed}
 use Rattle.pieces.proofs.Checks.{placing_passed, limit_le}
@@ -54,10 +54,10 @@ pub data Leads (file : List ℕ) (first : Progress) : Progress → Type 0 where
 
 -- A file in its form holds these pieces and ends with this entry.
 pub record Holds (form : Form) (file : List ℕ) (ps : List Piece) (entry : Entry) : Type 0 where
-  pub opens : opening form file ≡ Passed
+  pub opens : opening form file ≡ Ok tt
   pub last : Progress
   pub records : Leads file (begun (opening_size form)) last
-  pub end : record_at file last ≡ End entry (length file)
+  pub end : record_at file last ≡ Ok (End entry (length file))
   pub pieces : ps ≡ last.pieces
 
 -- so does every file that follows the rules at some bases
@@ -88,16 +88,16 @@ sound_fewer fs (p ∷ ps) h =
     }
 
 -- so they were before a record
-sound_before : (file : List ℕ) (s : Progress) (r : Record) → FieldsSound (map outline (stepped file s r).pieces) → FieldsSound (map outline s.pieces)
-sound_before file s (Code kind address from n) h = record { inside = h.inside.1; distinct = h.distinct.1 }
-sound_before file s (Fixups fixup from n) h = sound_fewer (fields_of fixup (part file from n)) s.pieces h
-sound_before file s (End entry next) h = h
-sound_before file s (Faulty fault offset) h = h
+sound_before : (file : List ℕ) (s : Progress) (r : Read) → FieldsSound (map outline (stepped file s r).pieces) → FieldsSound (map outline s.pieces)
+sound_before file s (Ok (Code kind address from n)) h = record { inside = h.inside.1; distinct = h.distinct.1 }
+sound_before file s (Ok (Fixups fixup from n)) h = sound_fewer (fields_of fixup (part file from n)) s.pieces h
+sound_before file s (Ok (End entry next)) h = h
+sound_before file s (Err f) h = h
 
 -- fields that are sound with those before them pass, wherever the pieces fit
 fields_pass : (at step : ℕ) (b : Bases) (fs : List Field) (ps : List Piece) → FieldsSound (map outline (with_fields fs ps)) → AfterCode (last_of ps)
     → PiecesFit b (map outline ps)
-    → (adjusting at step b (last_place b ps) (last_size ps) fs (marks (events b ps) blank)).answer ≡ Passed
+    → (adjusting at step b (last_place b ps) (last_size ps) fs (marks (events b ps) blank)).answer ≡ Ok tt
 fields_pass at step b fs [] h m f = absurd m
 fields_pass at step b fs (p ∷ ps) h m f =
     let map' : List ℕ = marks (events b (p ∷ ps)) blank in
@@ -120,12 +120,12 @@ module _ (file : List ℕ) (b : Bases) (first : ℕ) where
 
   -- a record that fails ends it
   stops : (s : Progress) (c : Cursor) (fault : Fault) (offset : ℕ) → Tracks file b first c s
-      → (checked file b s (marks (events b s.pieces) blank)).answer ≡ Failed fault offset
+      → (checked file b s (marks (events b s.pieces) blank)).answer ≡ failure fault offset
       → (records_of file b first).answer ≡ refused fault offset
-  stops s c fault offset t e = ap (λ (o : Ran (Verdict Piece)). o.answer) (tracks_ends t _ (turn_is file b s _ (Failed fault offset) _ e refl))
+  stops s c fault offset t e = ap (λ (o : Ran (Verdict Piece)). o.answer) (tracks_ends t _ (turn_is file b s _ (failure fault offset) _ e refl))
 
   -- code
-  module _ (s : Progress) (c : Cursor) (kind : Kind) (address from n : ℕ) (is : record_at file s ≡ Code kind address from n)
+  module _ (s : Progress) (c : Cursor) (kind : Kind) (address from n : ℕ) (is : record_at file s ≡ Ok (Code kind address from n))
       (h : FieldsSound (map outline s.pieces)) (f : PiecesFit b (map outline s.pieces)) (t : Tracks file b first c s) where
     abbrev left : List ℕ
     left = marks (events b s.pieces) blank
@@ -140,18 +140,18 @@ module _ (file : List ℕ) (b : Bases) (first : ℕ) where
         let low : place_of b (outline p) + size p ≤ 65536 = omega (arith, l, limit_le kind) in
         overlaps f l (λ d. false≢true (sym z ∙ apart_clear b (outline p) s.pieces h.inside low d))
 
-    comes_code : (v : Check) → (checked file b s left).answer ≡ v → Comes (stepped file s (Code kind address from n))
-    comes_code Passed e =
+    comes_code : (v : Check) → (checked file b s left).answer ≡ v → Comes (stepped file s (Ok (Code kind address from n)))
+    comes_code (Ok done) e =
         let x = placing_passed _ _ _ _ _ (code_answers file b s left kind address from n is e) in
         so_far (code_fits b p s.pieces h.inside f x.0 x.1) _ (tracks_on t is tt e)
-    comes_code (Failed fault offset) e =
-        let x = placing_failed _ _ _ _ _ fault offset (code_answers file b s left kind address from n is e) in
-        ended (unplaced fault x) (stops s c fault offset t e)
+    comes_code (Err failed) e =
+        let x = placing_failed _ _ _ _ _ failed.fault failed.offset (code_answers file b s left kind address from n is e) in
+        ended (unplaced failed.fault x) (stops s c failed.fault failed.offset t e)
 
   -- fixups
-  comes_fixups : (s : Progress) (c : Cursor) (fixup : Fixup) (from n : ℕ) → record_at file s ≡ Fixups fixup from n
-      → FieldsSound (map outline (stepped file s (Fixups fixup from n)).pieces) → PiecesFit b (map outline s.pieces) → Tracks file b first c s
-      → Comes (stepped file s (Fixups fixup from n))
+  comes_fixups : (s : Progress) (c : Cursor) (fixup : Fixup) (from n : ℕ) → record_at file s ≡ Ok (Fixups fixup from n)
+      → FieldsSound (map outline (stepped file s (Ok (Fixups fixup from n))).pieces) → PiecesFit b (map outline s.pieces) → Tracks file b first c s
+      → Comes (stepped file s (Ok (Fixups fixup from n)))
   comes_fixups s c fixup from n is h f t =
       let fs = fields_of fixup (part file from n) in
       let passes : Passes file b s =
@@ -160,15 +160,15 @@ module _ (file : List ℕ) (b : Bases) (first : ℕ) where
       so_far (fields_fit b fs s.pieces f) _ (tracks_on t is tt passes)
 
   -- every record that is read
-  comes_on : (s : Progress) (r : Record) → record_at file s ≡ r → Onward r → FieldsSound (map outline (stepped file s r).pieces) → Comes s
+  comes_on : (s : Progress) (r : Read) → record_at file s ≡ r → Onward r → FieldsSound (map outline (stepped file s r).pieces) → Comes s
       → Comes (stepped file s r)
-  comes_on s (Code kind address from n) is o h (so_far f c t) =
-      comes_code s c kind address from n is (sound_before file s (Code kind address from n) h) f t (checked file b s _).answer refl
-  comes_on s (Code kind address from n) is o h (ended m e) = ended (earlier m) e
-  comes_on s (Fixups fixup from n) is o h (so_far f c t) = comes_fixups s c fixup from n is h f t
-  comes_on s (Fixups fixup from n) is o h (ended m e) = ended (unfit_fields (fields_of fixup (part file from n)) s.pieces m) e
-  comes_on s (End entry next) is o h x = absurd o
-  comes_on s (Faulty fault offset) is o h x = absurd o
+  comes_on s (Ok (Code kind address from n)) is o h (so_far f c t) =
+      comes_code s c kind address from n is (sound_before file s (Ok (Code kind address from n)) h) f t (checked file b s _).answer refl
+  comes_on s (Ok (Code kind address from n)) is o h (ended m e) = ended (earlier m) e
+  comes_on s (Ok (Fixups fixup from n)) is o h (so_far f c t) = comes_fixups s c fixup from n is h f t
+  comes_on s (Ok (Fixups fixup from n)) is o h (ended m e) = ended (unfit_fields (fields_of fixup (part file from n)) s.pieces m) e
+  comes_on s (Ok (End entry next)) is o h x = absurd o
+  comes_on s (Err f) is o h x = absurd o
 
   -- all of them
   comes : (s : Progress) → first ≤ length file → Leads file (begun first) s → FieldsSound (map outline s.pieces) → Comes s
@@ -179,20 +179,20 @@ module _ (file : List ℕ) (b : Bases) (first : ℕ) where
 
 module _ (form : Form) (file : List ℕ) (b : Bases) where
   -- at the end record the start decides
-  ends_at : (s : Progress) (entry : Entry) → record_at file s ≡ End entry (length file) → Comes file b (opening_size form) s
+  ends_at : (s : Progress) (entry : Entry) → record_at file s ≡ Ok (End entry (length file)) → Comes file b (opening_size form) s
       → Settles b (map outline s.pieces) s.pieces entry (records_of file b (opening_size form)).answer
   ends_at s entry is (ended m e) = subst (Settles b (map outline s.pieces) s.pieces entry) (sym e) (unfit (of_pieces m))
   ends_at s entry is (so_far f c t) = by (checked file b s (marks (events b s.pieces) blank)).answer refl
     where
       by : (v : Check) → (checked file b s (marks (events b s.pieces) blank)).answer ≡ v
           → Settles b (map outline s.pieces) s.pieces entry (records_of file b (opening_size form)).answer
-      by Passed e =
+      by (Ok done) e =
           let x = ending_passed _ b entry (length file) (length file) (end_answers file b s _ entry (length file) is e) in
-          let v = ap (λ (o : Ran (Verdict Piece)). o.answer) (tracks_ends t _ (turn_is file b s _ Passed _ e is)) in
+          let v = ap (λ (o : Ran (Verdict Piece)). o.answer) (tracks_ends t _ (turn_is file b s _ (Ok tt) _ e is)) in
           subst (Settles b (map outline s.pieces) s.pieces entry) (sym v) (fits (record { pieces = f; start = x.0 }))
-      by (Failed fault offset) e =
-          let x = ending_failed _ b entry (length file) fault offset (end_answers file b s _ entry (length file) is e) in
-          subst (Settles b (map outline s.pieces) s.pieces entry) (sym (stops file b (opening_size form) s c fault offset t e))
+      by (Err failed) e =
+          let x = ending_failed _ b entry (length file) failed.fault failed.offset (end_answers file b s _ entry (length file) is e) in
+          subst (Settles b (map outline s.pieces) s.pieces entry) (sym (stops file b (opening_size form) s c failed.fault failed.offset t e))
           (unfit (subst (HandlerUnfit b (map outline s.pieces) entry) (sym x.0) (of_start f x.1)))
 
   -- a file that holds sound pieces

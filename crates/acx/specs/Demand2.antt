@@ -2,10 +2,8 @@
 -- (Rules.antt). Proved in proofs/Demand2.antt: `demand2` of the definition, of every file, every pair of bases and every memory;
 -- `accepted_exactly : Claim` of every call that keeps the loader's contract.
 -- Assumes nothing.
-use Rattle.std.specs.Prelude.{Bool, true, ◌&&◌, List, [], ◌∷◌, map, ◌≡◌, ℕ, ◌+◌, ◌≤◌, ◌<◌, length, get_or}
-use Rattle.answer.specs.declared.Outcome.{Outcome}
-use Rattle.answer.specs.declared.Outcome.TheVariants.{Accepted}
-use Rattle.answer.specs.declared.Start.{Start}
+use Rattle.std.specs.Prelude.{Bool, true, ◌&&◌, List, [], ◌∷◌, map, ◌≡◌, ℕ, ◌+◌, ◌≤◌, ◌<◌, length, get_or, Option}
+use Rattle.answer.specs.Report.{Outcome, acceptance}
 use Rattle.events.specs.Lists.{Each}
 use Rattle.events.specs.Sizes.{memory_size, file_limit}
 use Rattle.words.specs.Numbers.{value, on}
@@ -60,7 +58,7 @@ pub record Asked (form : ℕ) (b : Bases) (file : List ℕ) (answer_sized : Bool
   pub fits : length file ≤ file_limit
 
 -- A call that was accepted.
-pub record AcceptedCall (form : ℕ) (b : Bases) (file : List ℕ) (answer_sized : Bool) (m p : List ℕ) (start : Start) (placed adjusted : ℕ)
+pub record AcceptedCall (form : ℕ) (b : Bases) (file : List ℕ) (answer_sized : Bool) (m p : List ℕ) (start : Option ℕ) (placed adjusted : ℕ)
     (m' p' : List ℕ) : Type 0 where
   pub asked : Asked form b file answer_sized m p
   pub pieces : List Piece
@@ -73,11 +71,11 @@ pub record AcceptedCall (form : ℕ) (b : Bases) (file : List ℕ) (answer_sized
 -- that found memory m and the map p, answered r and left m' and p'
 pub record Exactly (form : ℕ) (b : Bases) (file : List ℕ) (answer_sized : Bool) (m p : List ℕ) (r : Outcome) (m' p' : List ℕ) : Type 0 where
   -- only if: an acceptance is of a call as asked and of a file that follows the rules, and leaves what demand 2 says
-  pub only : (start : Start) (placed adjusted names low : ℕ) → r ≡ Accepted start placed adjusted names low
+  pub only : (start : Option ℕ) (placed adjusted names low : ℕ) → r ≡ acceptance start placed adjusted names low
       → AcceptedCall form b file answer_sized m p start placed adjusted m' p'
   -- if: a call as asked accepts every file that follows the rules, with its start and the counts of its pieces
   pub all : Asked form b file answer_sized m p → (ps : List Piece) (entry : Entry) → Follows (form_of form) file b ps entry
-      → r ≡ Accepted (start_of b entry) (total size ps) (total (λ p. length p.fields) ps) 0 0
+      → r ≡ acceptance (start_of b entry) (total size ps) (total (λ p. length p.fields) ps) 0 0
 
 -- The claim: of every file, all settings, whatever is lent, and every call that keeps the loader's contract.
 abbrev pub Claim : Type 0

@@ -1,7 +1,7 @@
 -- One file, one program: of every two calls that keep the loader's contract. Proved in proofs/Determinism.antt (`same_program : SameClaim`).
 -- Assumes nothing.
 use Rattle.std.specs.Prelude.{Bool, true, ◌&&◌, List, ◌≡◌, ℕ}
-use Rattle.answer.specs.declared.Outcome.{Outcome}
+use Rattle.answer.specs.Report.{Outcome}
 use Rattle.records.specs.declared.Entry.{Entry}
 use Rattle.events.specs.Lists.{Each}
 use Rattle.words.specs.Runs.{part}

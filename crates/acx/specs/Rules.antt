@@ -2,16 +2,16 @@
 -- `checked` and `stepped` in Walk.antt). No walk is in it; that the loader's walk comes to this, both ways, is the claim at the end, proved in
 -- proofs/Rules.antt (`by_rules : RulesClaim`).
 -- Assumes nothing.
-use Rattle.std.specs.Prelude.{true, false, List, [], ◌≡◌, ℕ, ◌≤◌, ◌<◌, length}
+use Rattle.std.specs.Prelude.{true, false, List, [], ◌≡◌, ℕ, ◌≤◌, ◌<◌, length, Ok, Err}
+use Rattle.answer.specs.Checks.{failure}
+use Rattle.records.specs.Records.{Read}
 use Rattle.answer.specs.declared.Fault.{Fault}
 use Rattle.answer.specs.declared.Fault.TheVariants.{SettingOutOfRange, FileTooLong}
 use Rattle.events.specs.Events.{Event, marks, blank, passed}
 use Rattle.events.specs.Sizes.{file_limit}
 use Rattle.events.specs.Trace.{Trace, NextStep}
-use Rattle.events.specs.declared.Check.TheVariants.{Passed, Failed}
 use Rattle.records.specs.declared.Entry.{Entry}
-use Rattle.records.specs.declared.Record.{Record}
-use Rattle.records.specs.declared.Record.TheVariants.{Code, Fixups, End, Faulty}
+use Rattle.records.specs.declared.Record.TheVariants.{Code, Fixups, End}
 use Rattle.pieces.specs.Pieces.{Piece}
 use Rattle.pieces.specs.declared.Bases.{Bases}
 use Rattle.acx.specs.Call.{form_of, in_range, load}
@@ -21,11 +21,11 @@ use Rattle.acx.specs.declared.Form.{Form}
 -- ---- the file
 
 -- code or fixups: the record is not the last, and no fault
-abbrev pub Onward : Record → Type 0
-Onward (Code kind address from n) = Unit {0}
-Onward (Fixups fixup from n) = Unit {0}
-Onward (End entry next) = ⊥
-Onward (Faulty fault offset) = ⊥
+abbrev pub Onward : Read → Type 0
+Onward (Ok (Code kind address from n)) = Unit {0}
+Onward (Ok (Fixups fixup from n)) = Unit {0}
+Onward (Ok (End entry next)) = ⊥
+Onward (Err e) = ⊥
 
 -- The record at which a load stands at s passes, over the map as the events es left it, and leads on to z by the events fs.
 abbrev pub NextRecord : List ℕ → Bases → Progress → List Event → Progress → List Event → Type 0
@@ -33,14 +33,14 @@ NextRecord file b s es z fs = NextStep Onward (record_at file) (checked file b) 
 
 -- It is an end record, passes, and ends the file: the pieces so far are the handler, and its entry says where that starts.
 pub record EndRecord (file : List ℕ) (b : Bases) (s : Progress) (es : List Event) (ps : List Piece) (entry : Entry) : Type 0 where
-  pub is : record_at file s ≡ End entry (length file)
+  pub is : record_at file s ≡ Ok (End entry (length file))
   pub passes : checked file b s (marks es blank) ≡ passed []
   pub pieces : ps ≡ s.pieces
 
 -- A file in its form follows the rules at its bases, with these pieces and this entry.
 pub record Follows (form : Form) (file : List ℕ) (b : Bases) (ps : List Piece) (entry : Entry) : Type 0 where
   -- "Disk form opens F0 FF ..; device form has no opening."
-  pub opens : opening form file ≡ Passed
+  pub opens : opening form file ≡ Ok tt
   -- "Then records to the end record": each begins where the one before it ended
   pub last : Progress
   pub events : List Event
@@ -49,10 +49,10 @@ pub record Follows (form : Form) (file : List ℕ) (b : Bases) (ps : List Piece)
 
 -- A file breaks a rule first with this fault, at this offset: in its opening, or in a record after others that passed.
 pub data Fails (form : Form) (file : List ℕ) (b : Bases) : Fault → ℕ → Type 0 where
-  in_opening : {fault : Fault} {at : ℕ} → opening form file ≡ Failed fault at → Fails form file b fault at
-  in_record : {fault : Fault} {at : ℕ} {s : Progress} {es : List Event} → opening form file ≡ Passed
+  in_opening : {fault : Fault} {at : ℕ} → opening form file ≡ failure fault at → Fails form file b fault at
+  in_record : {fault : Fault} {at : ℕ} {s : Progress} {es : List Event} → opening form file ≡ Ok tt
       → Trace (NextRecord file b) (begun (opening_size form)) s es
-      → (checked file b s (marks es blank)).answer ≡ Failed fault at
+      → (checked file b s (marks es blank)).answer ≡ failure fault at
       → Fails form file b fault at
 
 -- ---- a load of it, with the right buffers

@@ -1,24 +1,19 @@
 -- A file, record by record: "Then records to the end record".
 -- The records are a walk by turns (`events`, specs/Walk.antt), one record to a turn; `from_turn` (proofs/Walks.antt there) is the equation to read.
 -- Assumes nothing.
-use Rattle.std.specs.Prelude.{List, [], ◌∷◌, ◌++◌, ℕ, ◌+◌, leb, eqb, length}
-use Rattle.answer.specs.Checks.{need}
+use Rattle.std.specs.Prelude.{List, [], ◌∷◌, ◌++◌, ℕ, ◌+◌, leb, eqb, length, Option, Some, None, Ok, Err}
+use Rattle.answer.specs.Report.{Outcome, acceptance, refusal}
+use Rattle.answer.specs.Checks.{need, failure}
 use Rattle.answer.specs.declared.Fault.{Fault}
 use Rattle.answer.specs.declared.Fault.TheVariants.{WrongOpening, CutShort}
-use Rattle.answer.specs.declared.Outcome.{Outcome}
-use Rattle.answer.specs.declared.Outcome.TheVariants.{Accepted, Refused}
-use Rattle.events.specs.Events.{Event, blank, placed_in, adjusted_in, Ran}
+use Rattle.events.specs.Events.{Event, blank, placed_in, adjusted_in, Ran, Check, failed}
 use Rattle.events.specs.Walk.{Turn, ends, leads, from, bytes_left}
-use Rattle.events.specs.declared.Check.{Check}
-use Rattle.events.specs.declared.Check.TheVariants.{Passed, Failed}
 use Rattle.fields.specs.Fields.{fields_of}
-use Rattle.records.specs.Records.{read}
+use Rattle.records.specs.Records.{Read, read}
 use Rattle.fields.specs.declared.Field.{Field}
 use Rattle.records.specs.declared.Entry.{Entry}
-use Rattle.records.specs.declared.Last.{Last}
-use Rattle.records.specs.declared.Last.TheVariants.{Nothing, Of}
-use Rattle.records.specs.declared.Record.{Record}
-use Rattle.records.specs.declared.Record.TheVariants.{Code, Fixups, End, Faulty}
+use Rattle.records.specs.declared.Kind.{Kind}
+use Rattle.records.specs.declared.Record.TheVariants.{Code, Fixups, End}
 use Rattle.words.specs.Numbers.{value}
 use Rattle.words.specs.Runs.{part}
 use Rattle.pieces.specs.AtBases.{start_of, applied}
@@ -40,10 +35,10 @@ pub data Verdict (P : Type 0) : Type 0 where
 -- document 02, wish 6, "for 5 the file's length".
 unfoldable pub opening : Form → List ℕ → Check
 opening Disk file =
-    need Failed (leb 2 (length file)) CutShort (length file)
-    (need Failed (eqb (value 2 file 0) 0xFFF0) WrongOpening 0
-    Passed)
-opening Device file = Passed
+    need failure (leb 2 (length file)) CutShort (length file)
+    (need failure (eqb (value 2 file 0) 0xFFF0) WrongOpening 0
+    (Ok tt))
+opening Device file = Ok tt
 
 -- where the records begin
 abbrev pub opening_size : Form → ℕ
@@ -62,9 +57,9 @@ abbrev pub begun : ℕ → Progress
 begun at = record { at = at; pieces = [] }
 
 -- "the last code record before it"
-abbrev pub last_of : List Piece → Last
-last_of [] = Nothing
-last_of (p ∷ ps) = Of p.kind
+abbrev pub last_of : List Piece → Option Kind
+last_of [] = None
+last_of (p ∷ ps) = Some p.kind
 
 -- where it was placed
 abbrev pub last_place : Bases → List Piece → ℕ
@@ -77,12 +72,17 @@ last_size [] = 0
 last_size (p ∷ ps) = size p
 
 -- the next record
-abbrev pub record_at : List ℕ → Progress → Record
+abbrev pub record_at : List ℕ → Progress → Read
 record_at file s = read file s.at (last_of s.pieces)
+
+-- what reading it came to: a record as its part says at the bases, over a map; a fault at once
+abbrev pub checked_as : List ℕ → Bases → Progress → Read → List ℕ → Ran Check
+checked_as file b s (Ok found) map = applied file s.at b (last_place b s.pieces) (last_size s.pieces) found map
+checked_as file b s (Err e) map = failed e.fault e.offset
 
 -- what it comes to at the bases, over a map
 unfoldable pub checked : List ℕ → Bases → Progress → List ℕ → Ran Check
-checked file b s map = applied file s.at b (last_place b s.pieces) (last_size s.pieces) (record_at file s) map
+checked file b s map = checked_as file b s (record_at file s) map
 
 -- the fields of a fixup record are the last piece's
 abbrev pub with_fields : List Field → List Piece → List Piece
@@ -90,20 +90,20 @@ with_fields fs [] = []
 with_fields fs (p ∷ ps) = record { kind = p.kind; address = p.address; code = p.code; fields = p.fields ++ fs } ∷ ps
 
 -- where the walk stands after a record that passed: code is a piece more, fixups are fields more
-abbrev pub stepped : List ℕ → Progress → Record → Progress
-stepped file s (Code kind address from n) =
+abbrev pub stepped : List ℕ → Progress → Read → Progress
+stepped file s (Ok (Code kind address from n)) =
     record { at = from + n; pieces = record { kind = kind; address = address; code = part file from n; fields = [] } ∷ s.pieces }
-stepped file s (Fixups fixup from n) = record { at = from + n; pieces = with_fields (fields_of fixup (part file from n)) s.pieces }
-stepped file s (End entry next) = s
-stepped file s (Faulty fault offset) = s
+stepped file s (Ok (Fixups fixup from n)) = record { at = from + n; pieces = with_fields (fields_of fixup (part file from n)) s.pieces }
+stepped file s (Ok (End entry next)) = s
+stepped file s (Err e) = s
 
 -- where a record leads: on to the next; or the walk ends, accepted at the end record, refused at a fault
-abbrev pub judge : List ℕ → Bases → Progress → Check → Record → Turn Progress (Verdict Piece)
-judge file b s (Failed fault offset) r = ends (refused fault offset)
-judge file b s Passed (Code kind address from n) = leads (stepped file s (Code kind address from n))
-judge file b s Passed (Fixups fixup from n) = leads (stepped file s (Fixups fixup from n))
-judge file b s Passed (End entry next) = ends (accepted s.pieces entry)
-judge file b s Passed (Faulty fault offset) = ends (refused fault offset)
+abbrev pub judge : List ℕ → Bases → Progress → Check → Read → Turn Progress (Verdict Piece)
+judge file b s (Err e) r = ends (refused e.fault e.offset)
+judge file b s (Ok done) (Ok (Code kind address from n)) = leads (stepped file s (Ok (Code kind address from n)))
+judge file b s (Ok done) (Ok (Fixups fixup from n)) = leads (stepped file s (Ok (Fixups fixup from n)))
+judge file b s (Ok done) (Ok (End entry next)) = ends (accepted s.pieces entry)
+judge file b s (Ok done) (Err e) = ends (refused e.fault e.offset)
 
 -- one record: read, checked at the bases, and where that leads
 unfoldable pub turn : List ℕ → Bases → Progress → List ℕ → Ran (Turn Progress (Verdict Piece))
@@ -126,8 +126,8 @@ at_once fault offset = record { answer = refused fault offset; events = [] }
 
 -- the records, where the opening passed
 abbrev pub opened : Check → Ran (Verdict Piece) → Ran (Verdict Piece)
-opened Passed rest = rest
-opened (Failed fault offset) rest = at_once fault offset
+opened (Ok done) rest = rest
+opened (Err e) rest = at_once e.fault e.offset
 
 -- the whole file in its form, at its bases
 unfoldable pub judged : Form → List ℕ → Bases → Ran (Verdict Piece)
@@ -137,8 +137,8 @@ judged form file b = opened (opening form file) (records_of file b (opening_size
 
 -- "the start (present or not, address), the number of bytes placed and of fields adjusted"; "A refusal reports its number and the offset"
 abbrev pub report : {P : Type 0} → Bases → Verdict P → List Event → Outcome
-report b (accepted ps entry) es = Accepted (start_of b entry) (placed_in es) (adjusted_in es) 0 0
-report b (refused fault at) es = Refused fault at 0
+report b (accepted ps entry) es = acceptance (start_of b entry) (placed_in es) (adjusted_in es) 0 0
+report b (refused fault at) es = refusal fault at 0
 
 -- the same with the events that led to it
 abbrev pub reported : {P : Type 0} → Bases → Ran (Verdict P) → Ran Outcome

@@ -4,19 +4,18 @@
 #![tactic(auto)]
 
 ghost use Rattle.std.specs.Prelude.{true, ◌≡◌, ◌≤◌, ◌<◌, length};
-ghost use Rattle.answer.specs.Report.{address as address_of};
-ghost use Rattle.answer.specs.declared.Outcome.TheVariants.{Accepted};
-ghost use Rattle.events.specs.Events.{blank, Did};
+ghost use Rattle.answer.specs.Report.{Outcome, acceptance, address as address_of};
+ghost use Rattle.events.specs.Events.{blank, Check, Did};
 ghost use Rattle.pieces.specs.Pieces.{bases_at};
 ghost use Rattle.pieces.specs.AtBases.{start_of, EndsBy};
 ghost use Rattle.acx.specs.Walk.{records_of, opening as opening_of, opening_size, judged, reported};
 ghost use Rattle.acx.specs.Cursor.{first_cursor, advanced};
 ghost use Rattle.acx.specs.Call.{form_of, in_range, sized, load as load_of, Loaded};
 
-use answer::{Fault, Outcome, Start};
+use answer::{Acceptance, Failure, Fault, Outcome};
 use events::Check;
 use pieces::Bases;
-use records::{Entry, Last, Record};
+use records::{Entry, Kind, Record};
 
 // Disk form has an opening, device form none.
 #[derive(Clone, Copy)]
@@ -29,7 +28,7 @@ pub enum Form {
 #[derive(Clone, Copy)]
 pub struct Cursor {
     pub at: usize,
-    pub last: Last,
+    pub last: Option<Kind>,
     pub place: usize,
     pub size: usize,
     pub placed: usize,
@@ -111,7 +110,7 @@ pub fn first_cursor(at: usize) -> Cursor
 {
     Cursor {
         at,
-        last: Last::Nothing,
+        last: None,
         place: 0,
         size: 0,
         placed: 0,
@@ -133,7 +132,7 @@ pub fn advance(bases: Bases, cursor: Cursor, found: Record) -> Cursor
             size,
         } => Cursor {
             at: from + size,
-            last: Last::Of(kind),
+            last: Some(kind),
             place: pieces::place_of(bases, kind, address),
             size,
             placed: cursor.placed + size,
@@ -148,7 +147,6 @@ pub fn advance(bases: Bases, cursor: Cursor, found: Record) -> Cursor
             adjusted: cursor.adjusted + size / fields::item_size(fixup),
         },
         Record::End { entry, next } => cursor,
-        Record::Faulty(fault, offset) => cursor,
     }
 }
 
@@ -165,18 +163,9 @@ fn load_sized(
     ensures { Loaded form (bases_at main_base zero_base) file.now true memory.old map.old result memory.new map.new }
 {
     let checked = walk_call(form, file, main_base, zero_base, false, memory, map);
-    if let Outcome::Refused {
-        fault,
-        offset,
-        side,
-    } = checked
-    {
+    if checked.is_err() {
         words::fill(map, 0);
-        return Outcome::Refused {
-            fault,
-            offset,
-            side,
-        };
+        return checked;
     }
     walk_call(form, file, main_base, zero_base, true, memory, map)
 }
@@ -207,8 +196,8 @@ fn walk_file(
     ensures { Did Outcome (reported bases (judged form file.now bases)) write memory.old blank result memory.new map.new }
 {
     let opened = opening(form, file);
-    if let Check::Failed(fault, offset) = opened {
-        return answer::refused(fault, offset);
+    if let Err(failure) = opened {
+        return answer::refused(failure.fault, failure.offset);
     }
     walk(file, opening_size(form), bases, write, memory, map)
 }
@@ -220,15 +209,21 @@ fn opening(form: Form, file: &[u8]) -> Check
     match form {
         Form::Disk => {
             if file.len() < 2 {
-                return Check::Failed(Fault::CutShort, file.len());
+                return Err(Failure {
+                    fault: Fault::CutShort,
+                    offset: file.len(),
+                });
             }
             let word = words::word_at(file, 0);
             if word != 0xFFF0 {
-                return Check::Failed(Fault::WrongOpening, 0);
+                return Err(Failure {
+                    fault: Fault::WrongOpening,
+                    offset: 0,
+                });
             }
-            Check::Passed
+            Ok(())
         }
-        Form::Device => Check::Passed,
+        Form::Device => Ok(()),
     }
 }
 
@@ -247,7 +242,10 @@ fn walk(
     let mut cursor = first_cursor(at);
     loop {
         let last = cursor.last;
-        let found = records::read(file, cursor.at, last);
+        let found = match records::read(file, cursor.at, last) {
+            Ok(found) => found,
+            Err(failure) => return answer::refused(failure.fault, failure.offset),
+        };
         let check = pieces::apply(
             file,
             cursor.at,
@@ -259,8 +257,8 @@ fn walk(
             memory,
             map,
         );
-        if let Check::Failed(fault, offset) = check {
-            return answer::refused(fault, offset);
+        if let Err(failure) = check {
+            return answer::refused(failure.fault, failure.offset);
         }
         if let Record::End { entry, next } = found {
             return accepted(bases, entry, cursor.placed, cursor.adjusted);
@@ -272,13 +270,13 @@ fn walk(
 // The acceptance of a file or an index that ends with an entry, after so many bytes placed and fields adjusted.
 pub fn accepted(bases: Bases, entry: Entry, placed: usize, adjusted: usize) -> Outcome
     requires { (address_of (start_of bases entry) ≤ 65535) × (placed < 4294967296) × (adjusted < 4294967296) }
-    ensures { result ≡ Accepted (start_of bases entry) placed adjusted 0 0 }
+    ensures { result ≡ acceptance (start_of bases entry) placed adjusted 0 0 }
 {
-    Outcome::Accepted {
+    Ok(Acceptance {
         start: pieces::start(bases, entry),
         placed: placed as u32,
         adjusted: adjusted as u32,
         new_names: 0,
         low: 0,
-    }
+    })
 }

@@ -37,6 +37,3 @@ returns-in-Code c = simp (← c.place_of.ensures.0, c.in-Code.is)
 
 pub returns-in-Fixups : goal.returns-in-Fixups
 returns-in-Fixups c = simp (← c.item_size.ensures, c.in-Fixups.is)
-
-pub returns-in-Faulty : goal.returns-in-Faulty
-returns-in-Faulty c = simp c.in-Faulty.is

@@ -1,16 +1,16 @@
 -- `acx::load_sized` meets its contract: the first walk left memory alone; where it refused, the map is cleared, and where it did not, the
 -- second walk does what it said.
 -- Assumes nothing.
-use mathlib.Core.Path.{◌∙◌}
+use mathlib.Core.Path.{sym, ◌∙◌}
 use Rattle.events.proofs.Events.{cleared}
 use Rattle.acx.proofs.Calling.{loaded_refused, loaded_accepted}
 use Rattle.acx.proofs.load_sized.Goals as goal
 
-pub returns-in-Refused : goal.returns-in-Refused
-returns-in-Refused c =
-    loaded_refused c.walk_call-checked.ensures c.in-Refused.is
+pub returns-then-is_err : goal.returns-then-is_err
+returns-then-is_err c =
+    loaded_refused c.walk_call-checked.ensures (sym c.if-is_err.ensures.value)
     (cleared _ _ (c.walk_call-checked.auto.map ∙ c.requires.1) c.fill.ensures)
 
 pub returns : goal.returns
 returns c =
-    loaded_accepted c.walk_call-checked.ensures c.in_default.is c.walk_call.ensures
+    loaded_accepted c.walk_call-checked.ensures (sym c.if-is_err.ensures.value) c.walk_call.ensures

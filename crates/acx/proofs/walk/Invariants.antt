@@ -6,9 +6,9 @@ use lib.ListN.{length}
 use Rattle.acx.proofs.Going.{Going}
 use Rattle.acx.proofs.walk.Given as goal
 
-abbrev pub invariant-loop-fault : goal.invariant-loop-fault
-invariant-loop-fault l = (length l.memory ≡ 65536) × (length l.map ≡ 65536)
+abbrev pub invariant-loop-found : goal.invariant-loop-found
+invariant-loop-found l = (length l.memory ≡ 65536) × (length l.map ≡ 65536)
     × Going l.file l.bases l.at l.write l.initial.memory l.cursor l.memory l.map
 
-abbrev pub decreases-loop-fault : goal.decreases-loop-fault
-decreases-loop-fault l = length l.file - l.cursor.at
+abbrev pub decreases-loop-found : goal.decreases-loop-found
+decreases-loop-found l = length l.file - l.cursor.at

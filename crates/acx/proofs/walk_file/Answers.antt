@@ -10,12 +10,12 @@ use Rattle.acx.proofs.walk_file.Goals as goal
 
 pub refused-requires : goal.refused-requires
 refused-requires c =
-    let h = check_within (opening_faults _ _) (sym c.opening-opened.ensures ∙ c.in-Failed.is) in
+    let h = check_within (opening_faults _ _) (sym c.opening-opened.ensures ∙ c.in-Err.is) in
     omega (arith, h, c.requires.0)
 
-pub returns-in-Failed : goal.returns-in-Failed
-returns-in-Failed c =
-    file_refused _ _ _ _ _ _ c.opening-opened.ensures _ _ _ _ c.in-Failed.is c.refused.ensures
+pub returns-in-Err : goal.returns-in-Err
+returns-in-Err c =
+    file_refused _ _ _ _ _ _ c.opening-opened.ensures _ _ _ _ c.in-Err.is c.refused.ensures
     c.requires.3
 
 pub walk-requires : goal.walk-requires
