@@ -6,12 +6,11 @@ use Prim.Native.Nat.{ℕ, suc, ◌+◌, ◌%◌, ◌≤◌, ◌<◌}
 use native.Mathlib.Omega.{arith}
 use lib.ListN.{length, get_or, drop, length-drop, drop_of_length-le}
 use lib.Seq.{drop-cons}
+use Rattle.std.proofs.Common.{Option, Some, None}
 use Rattle.fields.specs.declared.Field.{Field}
 use Rattle.records.specs.Records.{type_of}
 use Rattle.records.specs.declared.Kind.{Kind}
 use Rattle.entries.specs.Entries.{listed, joined, fields_to}
-use Rattle.entries.specs.declared.Listed.{Listed}
-use Rattle.entries.specs.declared.Listed.TheVariants.{Suited, Unsuited}
 
 -- where three bytes are left, they are a fixup
 pub fixup_next : (items : List ℕ) (i : ℕ) → i + 3 ≤ length items
@@ -45,23 +44,23 @@ few kind (t ∷ index ∷ lsb ∷ items) h = absurd (omega arith)
 
 module _ (kind : Kind) (items : List ℕ) (i : ℕ) where
   -- what a whole fixup lists comes before what those after it do
-  listed_first : {l : Listed} → i + 3 ≤ length items → l ≡ listed kind (type_of (get_or items i 0)) (get_or items (i + 1) 0) (get_or items (i + 2) 0)
+  listed_first : {l : Option Field} → i + 3 ≤ length items → l ≡ listed kind (type_of (get_or items i 0)) (get_or items (i + 1) 0) (get_or items (i + 2) 0)
       → fields_to kind (drop i items) ≡ joined l (fields_to kind (drop (i + 3) items))
   unfolding fields_to
   listed_first h e = rw e (ap (fields_to kind) (fixup_next items i h))
 
   -- a field is the next one
-  pub next_listed : {l : Listed} {f : Field} → i + 3 ≤ length items
+  pub next_listed : {l : Option Field} {f : Field} → i + 3 ≤ length items
       → l ≡ listed kind (type_of (get_or items i 0)) (get_or items (i + 1) 0) (get_or items (i + 2) 0)
-      → l ≡ Suited f
+      → l ≡ Some f
       → fields_to kind (drop i items) ≡ f ∷ fields_to kind (drop (i + 3) items)
-  next_listed h e s = listed_first h e ∙ ap (λ (l : Listed). joined l (fields_to kind (drop (i + 3) items))) s
+  next_listed h e s = listed_first h e ∙ ap (λ (l : Option Field). joined l (fields_to kind (drop (i + 3) items))) s
 
   -- at a bad kind no field is left
-  pub bad_listed : {l : Listed} → i + 3 ≤ length items → l ≡ listed kind (type_of (get_or items i 0)) (get_or items (i + 1) 0) (get_or items (i + 2) 0)
-      → l ≡ Unsuited
+  pub bad_listed : {l : Option Field} → i + 3 ≤ length items → l ≡ listed kind (type_of (get_or items i 0)) (get_or items (i + 1) 0) (get_or items (i + 2) 0)
+      → l ≡ None
       → fields_to kind (drop i items) ≡ []
-  bad_listed h e s = listed_first h e ∙ ap (λ (l : Listed). joined l (fields_to kind (drop (i + 3) items))) s
+  bad_listed h e s = listed_first h e ∙ ap (λ (l : Option Field). joined l (fields_to kind (drop (i + 3) items))) s
 
   -- nor where no whole fixup is
   pub last_listed : length items < i + 3 → fields_to kind (drop i items) ≡ []

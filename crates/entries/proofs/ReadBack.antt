@@ -9,6 +9,7 @@ use native.Mathlib.Omega.{arith}
 use borrow.Author.Tests.{le-leb, eq-eqb}
 use lib.ListN.{length, get_or, take, drop, length-append, length-drop}
 use lib.Seq.{take_at, drop-drop, drop-append_seam, get_or-drop}
+use Rattle.std.proofs.Common.{Option, Some, Ok}
 use Rattle.answer.specs.Checks.{need, pick}
 use Rattle.events.specs.Lists.{Each}
 use Rattle.fields.specs.declared.Field.{Field}
@@ -26,8 +27,6 @@ use Rattle.entries.specs.Bytes.{fixup_bytes, code_bytes, end_bytes, with_length}
 use Rattle.records.specs.Types.{code_type, fixup_type, flag_of, address_in}
 use Rattle.entries.specs.Entries.{read_code, read_end, read_as, read, lsb_for, listed, joined, fields_to, all_suit}
 use Rattle.entries.specs.declared.IndexEntry.TheVariants.{Code, End}
-use Rattle.entries.specs.declared.Listed.{Listed}
-use Rattle.entries.specs.declared.Listed.TheVariants.{Suited}
 
 -- ---- what an entry can hold
 
@@ -51,7 +50,7 @@ length_fixup_bytes kind [] = refl
 length_fixup_bytes kind (f ∷ fs) = omega (arith, length_fixup_bytes kind fs)
 
 -- a fixup lists the field that it was written for
-listed_back : (kind : Kind) (f : Field) → Listable f → listed kind (type_of (fixup_type kind f.fixup)) f.index f.lsb ≡ Suited f
+listed_back : (kind : Kind) (f : Field) → Listable f → listed kind (type_of (fixup_type kind f.fixup)) f.index f.lsb ≡ Some f
 unfolding pick
 listed_back kind f y = rw (fixup_type_back kind f.fixup, fixups_suit kind, y.unused) refl
 
@@ -60,7 +59,7 @@ pub fields_back : (kind : Kind) (fs : List Field) → Each Listable fs → field
 unfolding fields_to fixup_bytes
 fields_back kind [] y = refl
 fields_back kind (f ∷ fs) y =
-    ap (λ (l : Listed). joined l (fields_to kind (fixup_bytes kind fs))) (listed_back kind f y.0)
+    ap (λ (l : Option Field). joined l (fields_to kind (fixup_bytes kind fs))) (listed_back kind f y.0)
     ∙ ap (λ (gs : List Field). f ∷ gs) (fields_back kind fs y.1)
 
 -- and none has a bad kind
@@ -163,7 +162,7 @@ module _ (index : List ℕ) (at : ℕ) (o : Outline) (rest : List ℕ) (is : dro
 
   -- read as code
   read_code_lem : (n : ℕ) → n ≡ 4 + 3 * length o.fields → Encodable o
-      → read_code index at n o.kind ≡ Code o.kind o.address o.size (at + 6) (3 * length o.fields)
+      → read_code index at n o.kind ≡ Ok (Code o.kind o.address o.size (at + 6) (3 * length o.fields))
   unfolding read_code need
   read_code_lem n e y =
       let k : ℕ = 3 * length o.fields in
@@ -173,7 +172,7 @@ module _ (index : List ℕ) (at : ℕ) (o : Outline) (rest : List ℕ) (is : dro
       rw (le-leb 4 n (omega arith), eq-eqb (n % 3) 1 third, its_size, le-leb o.size 253 y.size, its_address y.address, left) refl
 
   -- it is read back
-  pub code_back : Encodable o → length (code_bytes o) < 65536 → read index at ≡ Code o.kind o.address o.size (at + 6) (3 * length o.fields)
+  pub code_back : Encodable o → length (code_bytes o) < 65536 → read index at ≡ Ok (Code o.kind o.address o.size (at + 6) (3 * length o.fields))
   code_back y short =
       entry_read index at (code_bytes o) rest is (omega (arith, length_code_bytes o)) short
       ∙ ap (read_as index at (length (code_bytes o))) (its_type ∙ code_type_back o.kind)
@@ -183,7 +182,7 @@ module _ (index : List ℕ) (at : ℕ) (o : Outline) (rest : List ℕ) (is : dro
 
 -- its flag and its address stand for the entry
 read_end_lem : (index : List ℕ) (at : ℕ) (entry : Entry) → get_or index (at + 3) 0 ≡ flag_of entry → big_value 2 index (at + 4) ≡ address_in entry
-    → read_end index at 4 ≡ End entry (at + 6)
+    → read_end index at 4 ≡ Ok (End entry (at + 6))
 unfolding read_end need
 read_end_lem index at Nowhere f a = rw f refl
 read_end_lem index at (Fixed address) f a = rw (f, a) refl
@@ -204,6 +203,6 @@ module _ (index : List ℕ) (at : ℕ) (entry : Entry) (rest : List ℕ) (is : d
       big_value_there 2 index (at + 4) (address_in entry) rest (entry_from index at (end_bytes entry) rest is (at + 4) 2 (omega arith)) h
 
   -- it is read back
-  pub end_back : address_in entry < 65536 → read index at ≡ End entry (at + 6)
+  pub end_back : address_in entry < 65536 → read index at ≡ Ok (End entry (at + 6))
   unfolding end_bytes big_digits digits
   end_back h = entry_read index at (end_bytes entry) rest is (omega arith) (omega arith) ∙ read_end_lem index at entry end_flag (end_address h)

@@ -7,6 +7,7 @@ use Prim.Native.Nat.{ℕ, zero, suc, ◌+◌, ◌-◌, ◌*◌, ◌%◌, ◌<◌
 use native.Mathlib.Omega.{arith}
 use borrow.Author.Tests.{leb-true, eqb-true}
 use lib.ListN.{length, get_or}
+use Rattle.std.proofs.Common.{Option, Some, None, Ok, Err}
 use Rattle.answer.proofs.Checks.{on_need, on_pick, and_true}
 use Rattle.answer.specs.Report.{number_of}
 use Rattle.answer.specs.declared.Fault.{Fault}
@@ -24,11 +25,8 @@ use Rattle.words.proofs.Big.{big_value_word}
 use Rattle.words.specs.Numbers.{big_value}
 use Rattle.words.specs.Runs.{Bytes}
 use Rattle.records.specs.Types.{address_in}
-use Rattle.entries.specs.Entries.{faulty, read_code, read_end, read_as, read, lsb_for, listed, InBytes, joined, fields_to, all_suit}
-use Rattle.entries.specs.declared.IndexEntry.{IndexEntry}
-use Rattle.entries.specs.declared.IndexEntry.TheVariants.{Code, End, Faulty}
-use Rattle.entries.specs.declared.Listed.{Listed}
-use Rattle.entries.specs.declared.Listed.TheVariants.{Suited, Unsuited}
+use Rattle.entries.specs.Entries.{Read, faulty, read_code, read_end, read_as, read, lsb_for, listed, InBytes, joined, fields_to, all_suit}
+use Rattle.entries.specs.declared.IndexEntry.TheVariants.{Code, End}
 
 -- ---- where it lies
 
@@ -41,24 +39,24 @@ pub record EntryFault (len at : ℕ) (fault : Fault) : Type 0 where
   pub there : 5 < number_of fault → at + 2 ≤ len
 
 -- where an entry that begins at `at` has its bytes, in an index of `len` bytes
-abbrev pub Where : ℕ → ℕ → IndexEntry → Type 0
-Where len at (Code kind address size from count) = (from ≡ at + 6) × (from + count ≤ len) × (size ≤ 253) × (count % 3 ≡ 0)
-Where len at (End entry next) = (next ≡ at + 6) × (next ≤ len)
-Where len at (Faulty fault) = EntryFault len at fault
+abbrev pub Where : ℕ → ℕ → Read → Type 0
+Where len at (Ok (Code kind address size from count)) = (from ≡ at + 6) × (from + count ≤ len) × (size ≤ 253) × (count % 3 ≡ 0)
+Where len at (Ok (End entry next)) = (next ≡ at + 6) × (next ≤ len)
+Where len at (Err fault) = EntryFault len at fault
 
 -- the same as a record, whose arguments antt finds by itself
-pub record Lies (len at : ℕ) (e : IndexEntry) : Type 0 where
+pub record Lies (len at : ℕ) (e : Read) : Type 0 where
   pub lies : Where len at e
 
 -- an entry that is cut
-cut : {len at : ℕ} → Lies len at (Faulty CutShort)
+cut : {len at : ℕ} → Lies len at (Err CutShort)
 cut = record { lies = record { late = omega arith; known = omega arith; there = λ l. absurd (omega arith) } }
 
 -- one whose length is wrong, or its type or flag is not known
-wrong : {len at : ℕ} → at + 2 ≤ len → Lies len at (Faulty LengthNotAllowed)
+wrong : {len at : ℕ} → at + 2 ≤ len → Lies len at (Err LengthNotAllowed)
 wrong h = record { lies = record { late = omega arith; known = omega arith; there = λ l. h } }
 
-strange : {len at : ℕ} → at + 2 ≤ len → Lies len at (Faulty NotKnown)
+strange : {len at : ℕ} → at + 2 ≤ len → Lies len at (Err NotKnown)
 strange h = record { lies = record { late = omega arith; known = omega arith; there = λ l. h } }
 
 -- what is left of an entry's length is fixups
@@ -107,22 +105,22 @@ read_lies index at =
     typed h l unknown = strange h
 
 -- the same of an entry known to be what is read
-pub lies_as : (index : List ℕ) (at : ℕ) (e : IndexEntry) → read index at ≡ e → Where (length index) at e
+pub lies_as : (index : List ℕ) (at : ℕ) (e : Read) → read index at ≡ e → Where (length index) at e
 lies_as index at e is =
     let h : Lies (length index) at e = rw (← is) (read_lies index at) in
     h.lies
 
 -- what is not cut
-abbrev pub Whole : IndexEntry → Type 0
-Whole (Code kind address size from count) = Unit {0}
-Whole (End entry next) = Unit {0}
-Whole (Faulty fault) = 5 < number_of fault
+abbrev pub Whole : Read → Type 0
+Whole (Ok (Code kind address size from count)) = Unit {0}
+Whole (Ok (End entry next)) = Unit {0}
+Whole (Err fault) = 5 < number_of fault
 
 -- has its length word in the index
-pub word_there : (len at : ℕ) (e : IndexEntry) → Where len at e → Whole e → at + 2 ≤ len
-word_there len at (Code kind address size from count) w h = omega (arith, w.0, w.1)
-word_there len at (End entry next) w h = omega (arith, w.0, w.1)
-word_there len at (Faulty fault) w h = w.there h
+pub word_there : (len at : ℕ) (e : Read) → Where len at e → Whole e → at + 2 ≤ len
+word_there len at (Ok (Code kind address size from count)) w h = omega (arith, w.0, w.1)
+word_there len at (Ok (End entry next)) w h = omega (arith, w.0, w.1)
+word_there len at (Err fault) w h = w.there h
 
 -- ---- its fixups
 
@@ -134,17 +132,17 @@ fixups_all kind items e = eqb-true _ _ e
 -- ---- in an index of bytes
 
 -- the addresses of an entry
-abbrev pub Addressed : IndexEntry → Type 0
-Addressed (Code kind address size from count) = address < 65536
-Addressed (End entry next) = address_in entry < 65536
-Addressed (Faulty fault) = Unit {0}
+abbrev pub Addressed : Read → Type 0
+Addressed (Ok (Code kind address size from count)) = address < 65536
+Addressed (Ok (End entry next)) = address_in entry < 65536
+Addressed (Err fault) = Unit {0}
 
 -- (the same as a record)
-record Words (e : IndexEntry) : Type 0 where
+record Words (e : Read) : Type 0 where
   words : Addressed e
 
 -- a fault has none
-none : {fault : Fault} → Words (Faulty fault)
+none : {fault : Fault} → Words (Err fault)
 none = record { words = tt }
 
 -- a word of bytes
@@ -179,7 +177,7 @@ read_words index at b =
         (λ h₂. record { words = flag_below _ (get_or index (at + 3) 0) (word_below index (at + 4) b (omega (arith, four, l))) }))
     typed l unknown = none
 
-pub addressed_as : (index : List ℕ) (at : ℕ) (e : IndexEntry) → Bytes index → read index at ≡ e → Addressed e
+pub addressed_as : (index : List ℕ) (at : ℕ) (e : Read) → Bytes index → read index at ≡ e → Addressed e
 addressed_as index at e b is =
     let h : Words e = rw (← is) (read_words index at b) in
     h.words
@@ -200,9 +198,9 @@ listed_bytes kind (fixups of fixup) i lsb h k = on_pick InBytes _ _ _ (λ _. (h,
 listed_bytes kind end i lsb h k = tt
 listed_bytes kind unknown i lsb h k = tt
 
-joined_bytes : (x : Listed) (fs : List Field) → InBytes x → Each FieldBytes fs → Each FieldBytes (joined x fs)
-joined_bytes (Suited f) fs h k = (h, k)
-joined_bytes Unsuited fs h k = tt
+joined_bytes : (x : Option Field) (fs : List Field) → InBytes x → Each FieldBytes fs → Each FieldBytes (joined x fs)
+joined_bytes (Some f) fs h k = (h, k)
+joined_bytes None fs h k = tt
 
 pub fields_bytes : (kind : Kind) (items : List ℕ) → Bytes items → Each FieldBytes (fields_to kind items)
 unfolding fields_to

@@ -2,7 +2,7 @@
 -- the definition alone, so here it is held to the words of document 02, wish 5. `ExamplesHold` is the statement, proved in proofs/Examples.antt.
 -- (Whole indexes by hand: crates/index, specs/Examples.antt.)
 -- Assumes nothing.
-use Rattle.std.specs.Prelude.{Bool, true, false, List, [], ◌∷◌, map, ◌≡◌, ℕ}
+use Rattle.std.specs.Prelude.{Bool, true, false, List, [], ◌∷◌, map, ◌≡◌, ℕ, Ok, Err}
 use Rattle.answer.specs.declared.Fault.TheVariants.{CutShort, NotKnown, LengthNotAllowed}
 use Rattle.fields.specs.declared.Field.{Field}
 use Rattle.fields.specs.declared.Fixup.{Fixup}
@@ -13,9 +13,8 @@ use Rattle.records.specs.declared.Entry.TheVariants.{Nowhere, Fixed, Relative}
 use Rattle.records.specs.declared.Kind.{Kind}
 use Rattle.records.specs.declared.Kind.TheVariants.{Main, ZeroPage, Absolute}
 use Rattle.entries.specs.Bytes.{index_bytes}
-use Rattle.entries.specs.Entries.{read, fields_to, all_suit}
-use Rattle.entries.specs.declared.IndexEntry.{IndexEntry}
-use Rattle.entries.specs.declared.IndexEntry.TheVariants.{Code, End, Faulty}
+use Rattle.entries.specs.Entries.{Read, read, fields_to, all_suit}
+use Rattle.entries.specs.declared.IndexEntry.TheVariants.{Code, End}
 
 abbrev pub piece : Kind → ℕ → ℕ → List Field → Outline
 piece kind address size fields = record { kind = kind; address = address; size = size; fields = fields }
@@ -68,32 +67,32 @@ many_index =
 -- the bytes of an index from an entry on, and what is read there
 pub record EntryExample : Type 0 where
   pub bytes : List ℕ
-  pub entry : IndexEntry
+  pub entry : Read
 
-abbrev pub reads : List ℕ → IndexEntry → EntryExample
+abbrev pub reads : List ℕ → Read → EntryExample
 reads bytes entry = record { bytes = bytes; entry = entry }
 
 abbrev pub entry_examples : List EntryExample
 entry_examples =
     -- code of 253 bytes is the longest: "9 where .. its code passes 253"
-    reads (0x00 ∷ 0x04 ∷ 0x00 ∷ 0x01 ∷ 0x02 ∷ 0xFD ∷ []) (Code Main 0x0102 253 6 0)
-    ∷ reads (0x00 ∷ 0x04 ∷ 0x00 ∷ 0x01 ∷ 0x02 ∷ 0xFE ∷ []) (Faulty LengthNotAllowed)
+    reads (0x00 ∷ 0x04 ∷ 0x00 ∷ 0x01 ∷ 0x02 ∷ 0xFD ∷ []) (Ok (Code Main 0x0102 253 6 0))
+    ∷ reads (0x00 ∷ 0x04 ∷ 0x00 ∷ 0x01 ∷ 0x02 ∷ 0xFE ∷ []) (Err LengthNotAllowed)
     -- with a fixup, which is not looked at yet
-    ∷ reads (0x00 ∷ 0x07 ∷ 0x0A ∷ 0x00 ∷ 0x00 ∷ 0x01 ∷ 0x0C ∷ 0xFF ∷ 0xFF ∷ []) (Code ZeroPage 0 1 6 3)
+    ∷ reads (0x00 ∷ 0x07 ∷ 0x0A ∷ 0x00 ∷ 0x00 ∷ 0x01 ∷ 0x0C ∷ 0xFF ∷ 0xFF ∷ []) (Ok (Code ZeroPage 0 1 6 3))
     -- less than a fixup more: "9 where its length is wrong"
-    ∷ reads (0x00 ∷ 0x06 ∷ 0x01 ∷ 0x00 ∷ 0x00 ∷ 0x01 ∷ 0x02 ∷ 0x00 ∷ []) (Faulty LengthNotAllowed)
+    ∷ reads (0x00 ∷ 0x06 ∷ 0x01 ∷ 0x00 ∷ 0x00 ∷ 0x01 ∷ 0x02 ∷ 0x00 ∷ []) (Err LengthNotAllowed)
     -- the end entry by its flag: "flag 0 none, 1 absolute, 2 plus main base (6)"
-    ∷ reads (0x00 ∷ 0x04 ∷ 0x0B ∷ 0x00 ∷ 0x12 ∷ 0x34 ∷ []) (End Nowhere 6)
-    ∷ reads (0x00 ∷ 0x04 ∷ 0x0B ∷ 0x01 ∷ 0x12 ∷ 0x34 ∷ []) (End (Fixed 0x1234) 6)
-    ∷ reads (0x00 ∷ 0x04 ∷ 0x0B ∷ 0x02 ∷ 0x12 ∷ 0x34 ∷ []) (End (Relative 0x1234) 6)
-    ∷ reads (0x00 ∷ 0x04 ∷ 0x0B ∷ 0x03 ∷ 0x12 ∷ 0x34 ∷ []) (Faulty NotKnown)
+    ∷ reads (0x00 ∷ 0x04 ∷ 0x0B ∷ 0x00 ∷ 0x12 ∷ 0x34 ∷ []) (Ok (End Nowhere 6))
+    ∷ reads (0x00 ∷ 0x04 ∷ 0x0B ∷ 0x01 ∷ 0x12 ∷ 0x34 ∷ []) (Ok (End (Fixed 0x1234) 6))
+    ∷ reads (0x00 ∷ 0x04 ∷ 0x0B ∷ 0x02 ∷ 0x12 ∷ 0x34 ∷ []) (Ok (End (Relative 0x1234) 6))
+    ∷ reads (0x00 ∷ 0x04 ∷ 0x0B ∷ 0x03 ∷ 0x12 ∷ 0x34 ∷ []) (Err NotKnown)
     -- no other type has an entry (6): a fixup's, an unknown one
-    ∷ reads (0x00 ∷ 0x01 ∷ 0x06 ∷ []) (Faulty NotKnown)
-    ∷ reads (0x00 ∷ 0x01 ∷ 0x0C ∷ []) (Faulty NotKnown)
+    ∷ reads (0x00 ∷ 0x01 ∷ 0x06 ∷ []) (Err NotKnown)
+    ∷ reads (0x00 ∷ 0x01 ∷ 0x0C ∷ []) (Err NotKnown)
     -- "5 if cut, 9 if empty": the length word, its bytes, and no byte
-    ∷ reads (0x00 ∷ []) (Faulty CutShort)
-    ∷ reads (0x00 ∷ 0x04 ∷ 0x0C ∷ 0x00 ∷ 0x00 ∷ []) (Faulty CutShort)
-    ∷ reads (0x00 ∷ 0x00 ∷ []) (Faulty LengthNotAllowed)
+    ∷ reads (0x00 ∷ []) (Err CutShort)
+    ∷ reads (0x00 ∷ 0x04 ∷ 0x0C ∷ 0x00 ∷ 0x00 ∷ []) (Err CutShort)
+    ∷ reads (0x00 ∷ 0x00 ∷ []) (Err LengthNotAllowed)
     ∷ []
 
 -- ---- fixups by hand

@@ -7,13 +7,13 @@ ghost use Rattle.entries.specs.Entries.{read_code, read_end, read as read_of, ls
 
 use answer::Fault;
 use fields::{Field, Fixup};
-use records::{Entry, Kind, Last, RecordType};
+use records::{Entry, Kind, RecordType};
 
 // The first byte of an index.
 pub const VERSION: u8 = 1;
 
-// An entry: a code record of `size` code bytes, whose fixups are the `length` bytes of the index from `from` on; the end record, with the offset after
-// it; or a fault.
+// An entry: a code record of `size` code bytes, whose fixups are the `length` bytes of the index from `from` on; or the end record, with the offset
+// after it.
 #[derive(Clone, Copy)]
 pub enum IndexEntry {
     Code {
@@ -27,85 +27,80 @@ pub enum IndexEntry {
         entry: Entry,
         next: usize,
     },
-    Faulty(Fault),
 }
 
-// What a fixup of an entry lists: a field, or nothing where its kind does not suit the code.
-#[derive(Clone, Copy)]
-pub enum Listed {
-    Suited(Field),
-    Unsuited,
-}
-
-// Reads the entry at `at`.
-pub fn read(index: &[u8], at: usize) -> IndexEntry
+// Reads the entry at `at`, or says what is wrong with it.
+#[tactic(auto, unfolding(crate::specs::Entries::read, answer::specs::Checks::need))]
+pub fn read(index: &[u8], at: usize) -> Result<IndexEntry, Fault>
     requires { (at ≤ length index.now) × (length index.now ≤ 65536) }
     ensures { result ≡ read_of index.now at }
 {
     if index.len() < at + 2 {
-        return IndexEntry::Faulty(Fault::CutShort);
+        return Err(Fault::CutShort);
     }
     let length = words::big_word_at(index, at) as usize;
     if index.len() < at + 2 + length {
-        return IndexEntry::Faulty(Fault::CutShort);
+        return Err(Fault::CutShort);
     }
     if length < 1 {
-        return IndexEntry::Faulty(Fault::LengthNotAllowed);
+        return Err(Fault::LengthNotAllowed);
     }
     let record_type = records::type_of(index[at + 2]);
     match record_type {
         RecordType::Code(kind) => read_code(index, at, length, kind),
-        RecordType::Fixups(kind, fixup) => IndexEntry::Faulty(Fault::NotKnown),
         RecordType::End => read_end(index, at, length),
-        RecordType::Unknown => IndexEntry::Faulty(Fault::NotKnown),
+        RecordType::Fixups(_, _) | RecordType::Unknown => Err(Fault::NotKnown),
     }
 }
 
 // Reads a code record whose entry has `count` bytes after its length.
-fn read_code(index: &[u8], at: usize, count: usize, kind: Kind) -> IndexEntry
+#[tactic(auto, unfolding(crate::specs::Entries::read_code, answer::specs::Checks::need))]
+fn read_code(index: &[u8], at: usize, count: usize, kind: Kind) -> Result<IndexEntry, Fault>
     requires { (at + 2 + count ≤ length index.now) × (length index.now ≤ 65536) }
     ensures { result ≡ read_code index.now at count kind }
 {
     if count < 4 {
-        return IndexEntry::Faulty(Fault::LengthNotAllowed);
+        return Err(Fault::LengthNotAllowed);
     }
     if count % 3 != 1 {
-        return IndexEntry::Faulty(Fault::LengthNotAllowed);
+        return Err(Fault::LengthNotAllowed);
     }
     let size = words::wide(index[at + 5]);
     if 253 < size {
-        return IndexEntry::Faulty(Fault::LengthNotAllowed);
+        return Err(Fault::LengthNotAllowed);
     }
-    IndexEntry::Code {
+    Ok(IndexEntry::Code {
         kind,
         address: words::big_word_at(index, at + 3),
         size,
         from: at + 6,
         length: count - 4,
-    }
+    })
 }
 
 // Reads an end record whose entry has `count` bytes after its length.
-fn read_end(index: &[u8], at: usize, count: usize) -> IndexEntry
+#[tactic(auto, unfolding(crate::specs::Entries::read_end, answer::specs::Checks::need))]
+fn read_end(index: &[u8], at: usize, count: usize) -> Result<IndexEntry, Fault>
     requires { (at + 2 + count ≤ length index.now) × (length index.now ≤ 65536) }
     ensures { result ≡ read_end index.now at count }
 {
     if count != 4 {
-        return IndexEntry::Faulty(Fault::LengthNotAllowed);
+        return Err(Fault::LengthNotAllowed);
     }
     let flag = index[at + 3];
     if 2 < flag {
-        return IndexEntry::Faulty(Fault::NotKnown);
+        return Err(Fault::NotKnown);
     }
     let address = words::big_word_at(index, at + 4);
-    IndexEntry::End {
+    Ok(IndexEntry::End {
         entry: records::entry_of(flag, address),
         next: at + 6,
-    }
+    })
 }
 
-// What the fixup at `at` of an entry's fixups lists, after code of a kind.
-pub fn listed_at(items: &[u8], at: usize, kind: Kind) -> Listed
+// The field that the fixup at `at` of an entry's fixups lists, after code of a kind; none where its kind does not suit the code.
+#[tactic(auto, using(crate::proofs::Reading::lsb_below), unfolding(answer::specs::Checks::pick))]
+pub fn listed_at(items: &[u8], at: usize, kind: Kind) -> Option<Field>
     requires { at + 3 ≤ length items.now }
     ensures { (result ≡ listed kind (type_of (get_or items.now at 0)) (get_or items.now (at + 1) 0) (get_or items.now (at + 2) 0)) × InBytes result }
 {
@@ -113,20 +108,17 @@ pub fn listed_at(items: &[u8], at: usize, kind: Kind) -> Listed
     let index = words::wide(items[at + 1]);
     let lsb = words::wide(items[at + 2]);
     match record_type {
-        RecordType::Code(of) => Listed::Unsuited,
         RecordType::Fixups(of, fixup) => {
-            let suited = records::suits(of, Last::Of(kind));
-            if !suited {
-                return Listed::Unsuited;
+            if !records::suits(of, Some(kind)) {
+                return None;
             }
-            Listed::Suited(Field {
+            Some(Field {
                 fixup,
                 index,
                 lsb: lsb_for(fixup, lsb),
             })
         }
-        RecordType::End => Listed::Unsuited,
-        RecordType::Unknown => Listed::Unsuited,
+        RecordType::Code(_) | RecordType::End | RecordType::Unknown => None,
     }
 }
 
@@ -135,9 +127,7 @@ fn lsb_for(fixup: Fixup, lsb: usize) -> usize
     ensures { result ≡ lsb_for fixup lsb }
 {
     match fixup {
-        Fixup::LowByte => 0,
-        Fixup::ZeroPageByte => 0,
-        Fixup::Word => 0,
+        Fixup::LowByte | Fixup::ZeroPageByte | Fixup::Word => 0,
         Fixup::HighByte => lsb,
     }
 }
