@@ -6,13 +6,13 @@ use Prim.Native.Nat.{ℕ, ◌+◌, ◌-◌, ◌%◌, ◌≤◌}
 use native.Mathlib.Omega.{arith}
 use borrow.Rule.Slice.PartMut.{mid_of}
 use lib.ListN.{length, replicate}
+use Rattle.answer.specs.Checks.{failure}
+use Rattle.std.proofs.Common.{Ok}
 use Rattle.answer.specs.declared.Fault.{Fault}
 use Rattle.entries.specs.declared.IndexEntry.{IndexEntry}
-use Rattle.entries.specs.declared.IndexEntry.TheVariants.{Code, End, Faulty}
-use Rattle.events.proofs.Events.{marks_append, noted_none, length_run}
-use Rattle.events.specs.Events.{marks, Ran, Noted}
-use Rattle.events.specs.declared.Check.{Check}
-use Rattle.events.specs.declared.Check.TheVariants.{Passed, Failed}
+use Rattle.entries.specs.declared.IndexEntry.TheVariants.{Code, End}
+use Rattle.events.proofs.Events.{marks_append, length_run}
+use Rattle.events.specs.Events.{marks, Ran, Noted, Check}
 use Rattle.pieces.proofs.Applying.{ending_none}
 use Rattle.pieces.proofs.Checks.{placing_passed}
 use Rattle.pieces.specs.AtBases.{placing, ending}
@@ -29,15 +29,15 @@ use Rattle.index.specs.Walk.{fixing, coding, applied}
 
 module _ {o : Ran Check} (next : List ℕ → Ran Check) {p : List ℕ} {r : Check} {p' : List ℕ} (d : Noted Check o p r p') where
   -- one that failed is all that was done
-  noted_stops : {fault : Fault} {offset : ℕ} → r ≡ Failed fault offset → Noted Check (and_then p o.answer o.events next) p (Failed fault offset) p'
+  noted_stops : {fault : Fault} {offset : ℕ} → r ≡ failure fault offset → Noted Check (and_then p o.answer o.events next) p (failure fault offset) p'
   noted_stops e =
-      let z : o.answer ≡ Failed _ _ = sym d.answer ∙ e in
+      let z : o.answer ≡ failure _ _ = sym d.answer ∙ e in
       rw z (record { answer = refl; map = d.map })
 
   -- after one that passed the other is done, over the map as it was left
-  noted_then : {s : Check} {p'' : List ℕ} → r ≡ Passed → Noted Check (next p') p' s p'' → Noted Check (and_then p o.answer o.events next) p s p''
+  noted_then : {s : Check} {p'' : List ℕ} → r ≡ Ok tt → Noted Check (next p') p' s p'' → Noted Check (and_then p o.answer o.events next) p s p''
   noted_then {s} {p''} e n =
-      let z : o.answer ≡ Passed = sym d.answer ∙ e in
+      let z : o.answer ≡ Ok tt = sym d.answer ∙ e in
       let q = d.map in
       rw z
       (record {
@@ -53,20 +53,20 @@ module _ {o : Ran Check} (next : List ℕ → Ran Check) {p : List ℕ} {r : Che
 -- code that passes lies in memory
 pub code_room : (at place limit n : ℕ) {p : List ℕ} {r : Check} {p' : List ℕ} → Noted Check (placing at place limit (replicate n 0) p) p r p'
     → limit ≤ 65536
-    → r ≡ Passed
+    → r ≡ Ok tt
     → place + n ≤ 65536
 code_room at place limit n {p} d l e = omega (arith, l, (placing_passed at place limit (replicate n 0) p (sym d.answer ∙ e)).0, length_run n 0)
 
 module _ (at : ℕ) (b : Bases) (kind : Kind) (address n : ℕ) (items : List ℕ) {place limit : ℕ} (ep : place ≡ place_at b kind address)
     (el : limit ≡ limit_of kind) {p : List ℕ} {r : Check} {p' : List ℕ} (d : Noted Check (placing at place limit (replicate n 0) p) p r p') where
   -- code that fails is all that was marked
-  pub coding_refused : {fault : Fault} {offset : ℕ} → r ≡ Failed fault offset
-      → Noted Check (coding at b kind address n items p) p (Failed fault offset) p'
+  pub coding_refused : {fault : Fault} {offset : ℕ} → r ≡ failure fault offset
+      → Noted Check (coding at b kind address n items p) p (failure fault offset) p'
   unfolding coding
   coding_refused e = rw (← ep, ← el) (noted_stops (λ q. fixing at b kind place n items q) d e)
 
   -- where it passes its fixups decide
-  pub coding_fixed : {s : Check} {p'' : List ℕ} → r ≡ Passed → Noted Check (fixing at b kind place n items p') p' s p''
+  pub coding_fixed : {s : Check} {p'' : List ℕ} → r ≡ Ok tt → Noted Check (fixing at b kind place n items p') p' s p''
       → Noted Check (coding at b kind address n items p) p s p''
   unfolding coding
   coding_fixed e f = rw (← ep, ← el) (noted_then (λ q. fixing at b kind place n items q) d e f)
@@ -93,7 +93,3 @@ module _ (index : List ℕ) (at : ℕ) (b : Bases) (found : IndexEntry) (p : Lis
   applied_end {entry} {next} e er =
       let z = ending_none at b entry next (length index) in
       rw e (record { answer = er; map = rw z refl })
-
-  pub applied_faulty : {fault : Fault} → found ≡ Faulty fault → Noted Check (applied index at b found p) p (Failed fault at) p
-  unfolding applied
-  applied_faulty e = rw e (noted_none _ p)

@@ -6,12 +6,11 @@ use mathlib.Core.Path.{◌≡◌}
 use Prim.Native.Nat.{ℕ, ◌≤◌, ◌<◌}
 use borrow.Author.Tests.{le-leb, lt-leb, eq-eqb, ne_eqb}
 use lib.ListN.{length, get_or}
+use Rattle.answer.specs.Report.{refusal, Outcome}
 use Rattle.acx.specs.Call.{in_range}
 use Rattle.acx.specs.Walk.{reported}
 use Rattle.answer.specs.Checks.{need}
 use Rattle.answer.specs.declared.Fault.TheVariants.{SettingOutOfRange, FileTooLong, CutShort, WrongVersion}
-use Rattle.answer.specs.declared.Outcome.{Outcome}
-use Rattle.answer.specs.declared.Outcome.TheVariants.{Refused}
 use Rattle.entries.specs.Bytes.{version}
 use Rattle.events.proofs.Events.{noted_none}
 use Rattle.events.specs.Events.{blank, Noted}
@@ -22,13 +21,13 @@ module _ (index : List ℕ) (b : Bases) {r : Outcome} {p : List ℕ} where
   -- ---- the version and the entries
 
   -- an empty index is the refusal
-  pub index_empty : length index < 1 → r ≡ Refused CutShort 0 0 → p ≡ blank → Noted Outcome (reported b (judged index b)) blank r p
+  pub index_empty : length index < 1 → r ≡ refusal CutShort 0 0 → p ≡ blank → Noted Outcome (reported b (judged index b)) blank r p
   unfolding judged need
   index_empty h er ep = rw (lt-leb _ _ h, er, ep) (noted_none _ blank)
 
   module _ (there : 1 ≤ length index) where
     -- then another version is
-    pub index_other : (get_or index 0 0 ≡ version → ⊥) → r ≡ Refused WrongVersion 0 0 → p ≡ blank → Noted Outcome (reported b (judged index b)) blank r p
+    pub index_other : (get_or index 0 0 ≡ version → ⊥) → r ≡ refusal WrongVersion 0 0 → p ≡ blank → Noted Outcome (reported b (judged index b)) blank r p
     unfolding judged need
     index_other h er ep = rw (le-leb _ _ there, ne_eqb _ _ h, er, ep) (noted_none _ blank)
 
@@ -41,13 +40,13 @@ module _ (index : List ℕ) (b : Bases) {r : Outcome} {p : List ℕ} where
   -- ---- the settings and the length
 
   -- settings out of range are the refusal
-  pub call_range : in_range formless b ≡ false → r ≡ Refused SettingOutOfRange 0 0 → p ≡ blank → Noted Outcome (reported b (indexed b index)) blank r p
+  pub call_range : in_range formless b ≡ false → r ≡ refusal SettingOutOfRange 0 0 → p ≡ blank → Noted Outcome (reported b (indexed b index)) blank r p
   unfolding indexed need
   call_range h er ep = rw (h, er, ep) (noted_none _ blank)
 
   module _ (ranged : in_range formless b ≡ true) where
     -- then an index that is too long is
-    pub call_long : 65536 < length index → r ≡ Refused FileTooLong 0 0 → p ≡ blank → Noted Outcome (reported b (indexed b index)) blank r p
+    pub call_long : 65536 < length index → r ≡ refusal FileTooLong 0 0 → p ≡ blank → Noted Outcome (reported b (indexed b index)) blank r p
     unfolding indexed need
     call_long h er ep = rw (ranged, lt-leb _ _ h, er, ep) (noted_none _ blank)
 

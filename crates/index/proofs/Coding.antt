@@ -6,17 +6,16 @@ use mathlib.Core.Path.{◌≡◌, refl, sym, ap, ◌∙◌}
 use Prim.Native.Nat.{ℕ, ◌+◌, ◌≤◌}
 use native.Mathlib.Omega.{arith}
 use lib.ListN.{length, get_or, replicate}
-use Rattle.answer.specs.Checks.{need}
+use Rattle.std.proofs.Common.{Ok, Err}
+use Rattle.answer.specs.Checks.{need, failure}
 use Rattle.answer.specs.declared.Fault.{Fault}
 use Rattle.answer.specs.declared.Fault.TheVariants.{FixupUnsuited}
 use Rattle.entries.specs.Entries.{fields_to, all_suit}
 use Rattle.events.proofs.Checks.{failed_passed, need_passed}
 use Rattle.events.proofs.Events.{length_run, length_marks, fill_inside}
 use Rattle.events.proofs.Lists.{each_map}
-use Rattle.events.specs.Events.{Event, place, marks, Ran, passed}
+use Rattle.events.specs.Events.{Event, place, marks, Ran, passed, Check}
 use Rattle.events.specs.Lists.{Each, Pairwise}
-use Rattle.events.specs.declared.Check.{Check}
-use Rattle.events.specs.declared.Check.TheVariants.{Passed, Failed}
 use Rattle.fields.specs.declared.Field.{Field}
 use Rattle.pieces.proofs.Checks.{placing_passed, adjusting_all, limit_le}
 use Rattle.pieces.proofs.Marks.{fields_fresh}
@@ -31,19 +30,19 @@ use Rattle.events.specs.Walk.{and_then}
 use Rattle.index.specs.Walk.{fixing, coding}
 
 -- two parts of the work that passed, one after the other
-both_passed : (map : List ℕ) (c : Check) (es : List Event) (next : List ℕ → Ran Check) → (and_then map c es next).answer ≡ Passed
-    → (c ≡ Passed) × ((next (marks es map)).answer ≡ Passed) × ((and_then map c es next).events ≡ es ++ (next (marks es map)).events)
-both_passed map Passed es next e = (refl, e, refl)
-both_passed map (Failed fault offset) es next e = absurd (failed_passed e)
+both_passed : (map : List ℕ) (c : Check) (es : List Event) (next : List ℕ → Ran Check) → (and_then map c es next).answer ≡ Ok tt
+    → (c ≡ Ok tt) × ((next (marks es map)).answer ≡ Ok tt) × ((and_then map c es next).events ≡ es ++ (next (marks es map)).events)
+both_passed map (Ok done) es next e = (refl, e, refl)
+both_passed map (Err f) es next e = absurd (failed_passed e)
 
 -- after a part that passed the other decides
-second_answers : (map : List ℕ) (c : Check) (es : List Event) (next : List ℕ → Ran Check) → c ≡ Passed
+second_answers : (map : List ℕ) (c : Check) (es : List Event) (next : List ℕ → Ran Check) → c ≡ Ok tt
     → (and_then map c es next).answer ≡ (next (marks es map)).answer
 second_answers map c es next e = rw e refl
 
 -- one that failed decides
-first_fails : (map : List ℕ) (c : Check) (es : List Event) (next : List ℕ → Ran Check) (fault : Fault) (offset : ℕ) → c ≡ Failed fault offset
-    → (and_then map c es next).answer ≡ Failed fault offset
+first_fails : (map : List ℕ) (c : Check) (es : List Event) (next : List ℕ → Ran Check) (fault : Fault) (offset : ℕ) → c ≡ failure fault offset
+    → (and_then map c es next).answer ≡ failure fault offset
 first_fails map c es next fault offset e = rw e refl
 
 module _ (at : ℕ) (b : Bases) (kind : Kind) (address n : ℕ) (items map : List ℕ) where
@@ -68,11 +67,11 @@ module _ (at : ℕ) (b : Bases) (kind : Kind) (address n : ℕ) (items map : Lis
   pub record CodePassed : Type 0 where
     pub below : a + n ≤ limit_of kind
     pub clear : all_zero (part map a n) ≡ true
-    pub adjusts : (adjusting at 0 b a n (fields_to kind items) (marks (place a zeros ∷ []) map)).answer ≡ Passed
+    pub adjusts : (adjusting at 0 b a n (fields_to kind items) (marks (place a zeros ∷ []) map)).answer ≡ Ok tt
     pub suited : all_suit kind items ≡ true
     pub events : (coding at b kind address n items map).events ≡ place a zeros ∷ adjustments b a (fields_to kind items)
 
-  pub code_passed : (coding at b kind address n items map).answer ≡ Passed → CodePassed
+  pub code_passed : (coding at b kind address n items map).answer ≡ Ok tt → CodePassed
   unfolding coding fixing
   code_passed e =
       let l : length zeros ≡ n = length_run n 0 in
@@ -104,20 +103,20 @@ module _ (at : ℕ) (b : Bases) (kind : Kind) (address n : ℕ) (items map : Lis
       (f.inside, f.distinct)
 
   -- where the code fails, the entry does
-  pub code_fails : (fault : Fault) (offset : ℕ) → (placing at a (limit_of kind) zeros map).answer ≡ Failed fault offset
-      → (coding at b kind address n items map).answer ≡ Failed fault offset
+  pub code_fails : (fault : Fault) (offset : ℕ) → (placing at a (limit_of kind) zeros map).answer ≡ failure fault offset
+      → (coding at b kind address n items map).answer ≡ failure fault offset
   unfolding coding
   code_fails fault offset e = first_fails map code.answer code.events _ fault offset e
 
   -- where code and fixups pass, it does
-  pub code_passes : (placing at a (limit_of kind) zeros map).answer ≡ Passed
-      → (adjusting at 0 b a n (fields_to kind items) (marks (place a zeros ∷ []) map)).answer ≡ Passed
+  pub code_passes : (placing at a (limit_of kind) zeros map).answer ≡ Ok tt
+      → (adjusting at 0 b a n (fields_to kind items) (marks (place a zeros ∷ []) map)).answer ≡ Ok tt
       → all_suit kind items ≡ true
-      → (coding at b kind address n items map).answer ≡ Passed
+      → (coding at b kind address n items map).answer ≡ Ok tt
   unfolding coding fixing need
   code_passes e f g =
       let c = placing_passed at a (limit_of kind) zeros map e in
-      let h : fields.answer ≡ Passed = ap (λ (es : List Event). (adjusting at 0 b a n (fields_to kind items) (marks es map)).answer) c.2 ∙ f in
+      let h : fields.answer ≡ Ok tt = ap (λ (es : List Event). (adjusting at 0 b a n (fields_to kind items) (marks es map)).answer) c.2 ∙ f in
       second_answers map code.answer code.events _ e
       ∙ second_answers left fields.answer fields.events _ h
       ∙ rw g refl
@@ -130,7 +129,7 @@ placed_ones a n map h x w = ap (λ (k : ℕ). get_or (put map a (replicate k 1))
 
 -- so fields that lie in it and apart pass
 pub placed_adjusts : (at : ℕ) (b : Bases) (a n : ℕ) (fs : List Field) (map : List ℕ) → a + n ≤ length map → Each (Inside n) fs → Pairwise FieldsApart fs
-    → (adjusting at 0 b a n fs (marks (place a (replicate n 0) ∷ []) map)).answer ≡ Passed
+    → (adjusting at 0 b a n fs (marks (place a (replicate n 0) ∷ []) map)).answer ≡ Ok tt
 placed_adjusts at b a n fs map h i d =
     let q : List ℕ = marks (place a (replicate n 0) ∷ []) map in
     let room : a + n ≤ length q = omega (arith, h, length_marks (place a (replicate n 0) ∷ []) map) in

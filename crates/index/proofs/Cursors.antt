@@ -1,25 +1,23 @@
 -- The definition's walk has come to the program's cursor: what holds there, and what an entry that is read there leads to.
 -- Assumes nothing.
-use mathlib.Core.List.{List, [], ◌∷◌, ◌++◌, map}
+use mathlib.Core.List.{List, ◌++◌, map}
 use mathlib.Core.Path.{◌≡◌, refl, sym, ap, ◌∙◌}
 use Prim.Native.Nat.{ℕ, ◌+◌, ◌*◌, ◌≤◌}
 use native.Mathlib.Omega.{arith}
-use types.Run.{OneOf, miss}
-use denote.Enum.Declared.{tag_of}
 use lib.ListN.{length}
+use Rattle.std.proofs.Common.{Ok}
 use Rattle.acx.specs.Walk.{Verdict, refused}
-use Rattle.answer.specs.declared.Fault.{Fault}
 use Rattle.answer.specs.declared.Fault.TheVariants.{CutShort}
-use Rattle.entries.specs.contracts.IndexEntry.{the_type}
 use Rattle.entries.proofs.Reading.{lies_as}
-use Rattle.entries.specs.Entries.{read}
+use Rattle.entries.specs.Entries.{read, Read}
 use Rattle.entries.specs.declared.IndexEntry.{IndexEntry}
-use Rattle.entries.specs.declared.IndexEntry.TheVariants.{Code, End, Faulty}
+use Rattle.entries.specs.declared.IndexEntry.TheVariants.{Code, End}
 use Rattle.events.proofs.Walks.{walk_goes_on, walk_ends}
 use Rattle.events.specs.Events.{Event, marks, blank, placed_in, adjusted_in}
 use Rattle.events.specs.Walk.{ends, after, bytes_left}
 use Rattle.pieces.specs.Pieces.{Outline, events}
 use Rattle.pieces.specs.declared.Bases.{Bases}
+use Rattle.records.specs.declared.Entry.{Entry}
 use Rattle.index.proofs.Hollow.{hollow}
 use Rattle.index.proofs.Standing.{placed_by, adjusted_by, Stands, stands_first, stands_on, counts_after}
 use Rattle.index.proofs.Turning.{further, entry_lies, turn_events, turn_on, turn_falls, events_after}
@@ -44,19 +42,17 @@ cursor_same : (at i j k l : ℕ) → i ≡ j → k ≡ l
 cursor_same at i j k l e f = rw (e, f) refl
 
 -- the cursor after an entry is that of the walk after it
-advanced_is : (index : List ℕ) (b : Bases) (s : Progress) (e : IndexEntry) → entry_at index s ≡ e → Onward e → Passes index b s
-    → advanced (cursor_of b s) e ≡ cursor_of b (stepped index s e)
+advanced_is : (index : List ℕ) (b : Bases) (s : Progress) (e : IndexEntry) → entry_at index s ≡ Ok e → Onward (Ok e) → Passes index b s
+    → advanced (cursor_of b s) e ≡ cursor_of b (stepped index s (Ok e))
 advanced_is index b s (Code kind address n from count) is o ok =
     let k = counts_after index b s _ kind address n from count is ok in
     cursor_same (from + count) _ _ _ _ (sym k.0) (sym k.1)
 advanced_is index b s (End entry next) is o ok = absurd o
-advanced_is index b s (Faulty fault) is o ok = absurd o
 
--- an entry that is read and not the end (whose tag is 1), nor a fault, is code
-pub onward_by_tag : (e : IndexEntry) → OneOf (0 ∷ 2 ∷ []) (tag_of the_type e) → ((fault : Fault) → e ≡ Faulty fault → ⊥) → Onward e
-onward_by_tag (Code kind address n from count) t h = tt
-onward_by_tag (End entry next) t h = miss (0 ∷ 2 ∷ []) 1 tt t
-onward_by_tag (Faulty fault) t h = h fault refl
+-- an entry that is not the end is code
+pub onward_else : (e : IndexEntry) → ((entry : Entry) (next : ℕ) → e ≡ End entry next → ⊥) → Onward (Ok e)
+onward_else (Code kind address n from count) h = tt
+onward_else (End entry next) h = absurd (h entry next refl)
 
 -- ---- where the walk has come to
 
@@ -83,8 +79,8 @@ module _ {index : List ℕ} {b : Bases} where
           omega (arith, at, ap (λ (k : Cursor). k.adjusted) x.here, x.stands.adjusted),
         )
 
-    -- the entry that the program reads is the definition's
-    pub tracks_found : {found : IndexEntry} → found ≡ read index c.at → entry_at index s ≡ found
+    -- what the program reads is the definition's
+    pub tracks_found : {found : Read} → found ≡ read index c.at → entry_at index s ≡ found
     tracks_found is = ap (λ (k : Cursor). read index k.at) (sym x.here) ∙ sym is
 
     -- the turn there ends the walk
@@ -95,28 +91,28 @@ module _ {index : List ℕ} {b : Bases} where
         walk_ends (turn index b) (λ z. refused CutShort z.at) (λ z. bytes_left index z.at) (turn_falls index b) _ (done_by b s) s blank x.came v e
         ∙ ap (λ (es : List Event). record { answer = v; events = done_by b s ++ es }) (turn_events index b s _)
 
-    module _ {found : IndexEntry} (is : entry_at index s ≡ found) where
+    module _ {found : IndexEntry} (is : entry_at index s ≡ Ok found) where
       -- the entry lies in the index
       pub tracks_lies : (limit : ℕ) → length index ≤ limit → Lies limit found
-      tracks_lies limit l = entry_lies index s.at limit found (lies_as index s.at found is) l
+      tracks_lies limit l = entry_lies index s.at limit found (lies_as index s.at (Ok found) is) l
 
-      module _ (on : Onward found) (ok : Passes index b s) where
+      module _ (on : Onward (Ok found)) (ok : Passes index b s) where
         -- one that passed leads on
-        pub tracks_on : Tracks index b (advanced c found) (stepped index s found)
+        pub tracks_on : Tracks index b (advanced c found) (stepped index s (Ok found))
         unfolding entries_from
         tracks_on =
             let p = marks (done_by b s) blank in
-            let es = ap (λ (fs : List Event). done_by b s ++ fs) (turn_events index b s p) ∙ sym (events_after index b s p found is on ok) in
+            let es = ap (λ (fs : List Event). done_by b s ++ fs) (turn_events index b s p) ∙ sym (events_after index b s p (Ok found) is on ok) in
             record {
               here = ap (λ (k : Cursor). advanced k found) x.here ∙ advanced_is index b s found is on ok;
-              in_index = (further index s found is on).1;
-              stands = stands_on index b s p found x.stands is on ok;
+              in_index = (further index s (Ok found) is on).1;
+              stands = stands_on index b s p (Ok found) x.stands is on ok;
               came =
                   rw es at
                   (walk_goes_on (turn index b) (λ z. refused CutShort z.at) (λ z. bytes_left index z.at) (turn_falls index b) _ (done_by b s) s blank
-                  x.came (stepped index s found) (turn_on index b s p found is on ok));
+                  x.came (stepped index s (Ok found)) (turn_on index b s p (Ok found) is on ok));
             }
 
         -- with the cursor further on
         pub tracks_further : c.at + 6 ≤ (advanced c found).at
-        tracks_further = omega (arith, ap (λ (k : Cursor). k.at) x.here, ap (λ (k : Cursor). k.at) tracks_on.here, (further index s found is on).0)
+        tracks_further = omega (arith, ap (λ (k : Cursor). k.at) x.here, ap (λ (k : Cursor). k.at) tracks_on.here, (further index s (Ok found) is on).0)

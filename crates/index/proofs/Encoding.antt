@@ -11,7 +11,9 @@ use Rattle.acx.proofs.Walking.{accepted_keeps}
 use Rattle.acx.specs.Call.{form_of}
 use Rattle.acx.specs.Rules.{Onward, Accepts}
 use Rattle.acx.specs.Walk.{Progress, last_of, record_at, with_fields, stepped}
+use Rattle.std.proofs.Common.{Option, Ok, Err}
 use Rattle.answer.proofs.Checks.{on_need}
+use Rattle.answer.specs.Checks.{failure}
 use Rattle.answer.specs.declared.Fault.{Fault}
 use Rattle.entries.proofs.ReadBack.{Listable, Encodable}
 use Rattle.entries.proofs.Reading.{flag_below}
@@ -26,11 +28,10 @@ use Rattle.fields.specs.declared.Fixup.TheVariants.{LowByte, ZeroPageByte, Word,
 use Rattle.pieces.specs.Pieces.{Piece, outline}
 use Rattle.pieces.specs.declared.Bases.{Bases}
 use Rattle.records.proofs.Reading.{lies_as, code_few}
-use Rattle.records.specs.Records.{type_of, read_code, read_items, read_fixups, read_end, read_as, read}
+use Rattle.records.specs.Records.{Read, type_of, read_code, read_items, read_fixups, read_end, read_as, read}
 use Rattle.records.specs.declared.Entry.{Entry}
-use Rattle.records.specs.declared.Last.{Last}
-use Rattle.records.specs.declared.Record.{Record}
-use Rattle.records.specs.declared.Record.TheVariants.{Code, Fixups, End, Faulty}
+use Rattle.records.specs.declared.Kind.{Kind}
+use Rattle.records.specs.declared.Record.TheVariants.{Code, Fixups, End}
 use Rattle.records.specs.declared.RecordType.{RecordType}
 use Rattle.records.specs.declared.RecordType.TheVariants.{Code as code, Fixups as fixups, End as end, Unknown as unknown}
 use Rattle.words.proofs.Changes.{value_lt}
@@ -40,47 +41,47 @@ use Rattle.words.specs.Runs.{Bytes, part}
 -- ---- an address that is read has two bytes
 
 -- that of code, and that of the entry
-abbrev InWord : Record → Type 0
-InWord (Code kind address from n) = address < 65536
-InWord (Fixups fixup from n) = Unit {0}
-InWord (End entry next) = address_in entry < 65536
-InWord (Faulty fault offset) = Unit {0}
+abbrev InWord : Read → Type 0
+InWord (Ok (Code kind address from n)) = address < 65536
+InWord (Ok (Fixups fixup from n)) = Unit {0}
+InWord (Ok (End entry next)) = address_in entry < 65536
+InWord (Err e) = Unit {0}
 
 -- (the same as a record)
-record Narrow (r : Record) : Type 0 where
+record Narrow (r : Read) : Type 0 where
   in_word : InWord r
 
 -- a fault has none
-none : {fault : Fault} {offset : ℕ} → Narrow (Faulty fault offset)
+none : {fault : Fault} {offset : ℕ} → Narrow (failure fault offset)
 none = record { in_word = tt }
 
 -- whatever the type
-read_narrow : (file : List ℕ) (at : ℕ) (last : Last) → Bytes file → Narrow (read file at last)
+read_narrow : (file : List ℕ) (at : ℕ) (last : Option Kind) → Bytes file → Narrow (read file at last)
 unfolding read read_code read_fixups read_items read_end
-read_narrow file at last b = on_need Faulty Narrow _ _ _ _ none (λ _. typed (type_of (get_or file at 0)))
+read_narrow file at last b = on_need failure Narrow _ _ _ _ none (λ _. typed (type_of (get_or file at 0)))
   where
     typed : (t : RecordType) → Narrow (read_as file at last t)
     typed (code kind) =
-        on_need Faulty Narrow _ _ _ _ none
-        (λ _. on_need Faulty Narrow _ _ _ _ none
+        on_need failure Narrow _ _ _ _ none
+        (λ _. on_need failure Narrow _ _ _ _ none
         (λ h₂. let two = leb-true 2 (get_or file (at + 1) 0) h₂ in
-        on_need Faulty Narrow _ _ _ _ none
+        on_need failure Narrow _ _ _ _ none
         (λ h₃. let l = leb-true (at + 2 + get_or file (at + 1) 0) (length file) h₃ in
         record { in_word = value_lt 2 file (at + 2) (omega arith) b })))
     typed (fixups kind fixup) =
-        on_need Faulty Narrow _ _ _ _ none
-        (λ _. on_need Faulty Narrow _ _ _ _ none
-        (λ _. on_need Faulty Narrow _ _ _ _ none
-        (λ _. on_need Faulty Narrow _ _ _ _ none
+        on_need failure Narrow _ _ _ _ none
+        (λ _. on_need failure Narrow _ _ _ _ none
+        (λ _. on_need failure Narrow _ _ _ _ none
+        (λ _. on_need failure Narrow _ _ _ _ none
         (λ _. record { in_word = tt }))))
     typed end =
-        on_need Faulty Narrow _ _ _ _ none
+        on_need failure Narrow _ _ _ _ none
         (λ h₁. let l = leb-true (at + 4) (length file) h₁ in
-        on_need Faulty Narrow _ _ _ _ none
+        on_need failure Narrow _ _ _ _ none
         (λ _. record { in_word = flag_below _ (get_or file (at + 1) 0) (value_lt 2 file (at + 2) (omega arith) b) }))
     typed unknown = none
 
-in_word_as : (file : List ℕ) (at : ℕ) (last : Last) (r : Record) → Bytes file → read file at last ≡ r → InWord r
+in_word_as : (file : List ℕ) (at : ℕ) (last : Option Kind) (r : Read) → Bytes file → read file at last ≡ r → InWord r
 in_word_as file at last r b e =
     let h : Narrow r = rw (← e) (read_narrow file at last b) in
     h.in_word
@@ -120,9 +121,9 @@ written_fields fs (p ∷ ps) f h =
     (record { address = h.0.address; size = h.0.size; fields = each_append Listable p.fields fs h.0.fields f }, h.1)
 
 -- every record keeps it so
-written_on : (file : List ℕ) (s : Progress) (r : Record) → Bytes file → Written s.pieces → record_at file s ≡ r → Onward r
+written_on : (file : List ℕ) (s : Progress) (r : Read) → Bytes file → Written s.pieces → record_at file s ≡ r → Onward r
     → Written (stepped file s r).pieces
-written_on file s (Code kind address from n) b h e o =
+written_on file s (Ok (Code kind address from n)) b h e o =
     let last = last_of s.pieces in
     let l : length (part file from n) ≡ n = length_part file from n (lies_as file s.at last _ e).1 in (
       record {
@@ -132,10 +133,10 @@ written_on file s (Code kind address from n) b h e o =
       },
       h,
     )
-written_on file s (Fixups fixup from n) b h e o =
+written_on file s (Ok (Fixups fixup from n)) b h e o =
     written_fields (fields_of fixup (part file from n)) s.pieces (fields_listable fixup (part file from n) (bytes_part file from n b)) h
-written_on file s (End entry next) b h e o = absurd o
-written_on file s (Faulty fault offset) b h e o = absurd o
+written_on file s (Ok (End entry next)) b h e o = absurd o
+written_on file s (Err f) b h e o = absurd o
 
 -- an accepted file: all of them, and its entry
 pub accepted_encodable : (form : ℕ) (b : Bases) (file : List ℕ) (ps : List Piece) (entry : Entry) → Bytes file → Accepts form b file ps entry

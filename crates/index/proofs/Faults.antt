@@ -5,18 +5,17 @@ use mathlib.Core.Path.{◌≡◌, refl, ap, subst}
 use Prim.Native.Nat.{ℕ, ◌+◌, ◌≤◌, ◌<◌}
 use native.Mathlib.Omega.{arith}
 use lib.ListN.{length, replicate}
+use Rattle.answer.specs.Checks.{failure}
+use Rattle.std.proofs.Common.{Ok, Err}
 use Rattle.answer.proofs.Checks.{on_need}
 use Rattle.answer.specs.Report.{number_of}
 use Rattle.answer.specs.declared.Fault.{Fault}
 use Rattle.answer.specs.declared.Fault.TheVariants.{WrongVersion}
 use Rattle.entries.proofs.Reading.{EntryFault, Where, lies_as, word_there}
-use Rattle.entries.specs.Entries.{fields_to}
-use Rattle.entries.specs.declared.IndexEntry.{IndexEntry}
-use Rattle.entries.specs.declared.IndexEntry.TheVariants.{Code, End, Faulty}
-use Rattle.events.specs.Events.{Event, marks, blank, Ran, failed}
+use Rattle.entries.specs.Entries.{fields_to, Read}
+use Rattle.entries.specs.declared.IndexEntry.TheVariants.{Code, End}
+use Rattle.events.specs.Events.{Event, marks, blank, Ran, failed, Check}
 use Rattle.events.specs.Trace.{Trace, at_start, after_step}
-use Rattle.events.specs.declared.Check.{Check}
-use Rattle.events.specs.declared.Check.TheVariants.{Passed, Failed}
 use Rattle.fields.specs.declared.Field.{Field}
 use Rattle.pieces.specs.AtBases.{placing, adjusting, ending}
 use Rattle.pieces.specs.Pieces.{place_at, limit_of}
@@ -27,14 +26,14 @@ use Rattle.words.specs.Runs.{part}
 use Rattle.index.proofs.Turning.{further}
 use Rattle.index.specs.Rules.{NextEntry, Fails, empty, of_version, in_entry, out_of_range, too_long, by_index, LocatedEntry, LocatedClaim}
 use Rattle.events.specs.Walk.{and_then}
-use Rattle.index.specs.Walk.{fixing, coding, applied, Progress, begun, entry_at, checked}
+use Rattle.index.specs.Walk.{fixing, coding, applied, Progress, begun, entry_at, checked_as, checked}
 
 -- ---- what an entry is refused with
 
 -- a check of the entry at an offset passed, or failed with a fault of it
 abbrev CheckFaults : ℕ → ℕ → Check → Type 0
-CheckFaults len at Passed = Unit {0}
-CheckFaults len at (Failed fault offset) = EntryFault len at fault
+CheckFaults len at (Ok done) = Unit {0}
+CheckFaults len at (Err e) = EntryFault len at e.fault
 
 -- (the same as a record)
 record Checks (len at : ℕ) (c : Check) : Type 0 where
@@ -44,18 +43,18 @@ record Checks (len at : ℕ) (c : Check) : Type 0 where
 abbrev Faults : ℕ → ℕ → Ran Check → Type 0
 Faults len at o = Checks len at o.answer
 
-passes : {len at : ℕ} → Checks len at Passed
+passes : {len at : ℕ} → Checks len at (Ok tt)
 passes = record { faults = tt }
 
 -- a fault other than 1 to 5 and 24, of an entry that has its length word
-fails : {len at : ℕ} {fault : Fault} {offset : ℕ} → at + 2 ≤ len → 4 < number_of fault → number_of fault < 24 → Checks len at (Failed fault offset)
+fails : {len at : ℕ} {fault : Fault} {offset : ℕ} → at + 2 ≤ len → 4 < number_of fault → number_of fault < 24 → Checks len at (failure fault offset)
 fails h l k = record { faults = record { late = l; known = k; there = λ _. h } }
 
 -- two parts of the work, one after the other
 both_fault : (len at : ℕ) (map : List ℕ) (c : Check) (es : List Event) (next : List ℕ → Ran Check) → Checks len at c
     → Faults len at (next (marks es map)) → Faults len at (and_then map c es next)
-both_fault len at map Passed es next h k = record { faults = k.faults }
-both_fault len at map (Failed fault offset) es next h k = h
+both_fault len at map (Ok done) es next h k = record { faults = k.faults }
+both_fault len at map (Err e) es next h k = h
 
 module _ (len at : ℕ) (there : at + 2 ≤ len) where
   -- code
@@ -100,20 +99,20 @@ module _ (len at : ℕ) (there : at + 2 ≤ len) where
       (λ _. on_need failed P _ _ _ _ (fails there (omega arith) (omega arith)) (λ _. passes))
 
 -- an entry that lies in the index
-applied_faults : (index : List ℕ) (at : ℕ) (b : Bases) (e : IndexEntry) (map : List ℕ) → Where (length index) at e
-    → Faults (length index) at (applied index at b e map)
+applied_faults : (index : List ℕ) (b : Bases) (s : Progress) (e : Read) (map : List ℕ) → Where (length index) s.at e
+    → Faults (length index) s.at (checked_as index b s e map)
 unfolding applied
-applied_faults index at b (Code kind address n from count) map w =
-    coding_faults (length index) at (word_there _ at (Code kind address n from count) w tt) b kind address n (part index from count) map
-applied_faults index at b (End entry next) map w = ending_faults (length index) at (word_there _ at (End entry next) w tt) b entry next
-applied_faults index at b (Faulty fault) map w = record { faults = w }
+applied_faults index b s (Ok (Code kind address n from count)) map w =
+    coding_faults (length index) s.at (word_there _ s.at (Ok (Code kind address n from count)) w tt) b kind address n (part index from count) map
+applied_faults index b s (Ok (End entry next)) map w = ending_faults (length index) s.at (word_there _ s.at (Ok (End entry next)) w tt) b entry next
+applied_faults index b s (Err fault) map w = record { faults = w }
 
 pub checked_fault : (index : List ℕ) (b : Bases) (s : Progress) (map : List ℕ) (fault : Fault) (offset : ℕ)
-    → (checked index b s map).answer ≡ Failed fault offset → EntryFault (length index) s.at fault
+    → (checked index b s map).answer ≡ failure fault offset → EntryFault (length index) s.at fault
 unfolding checked
 checked_fault index b s map fault offset e =
-    let h = applied_faults index s.at b (entry_at index s) map (lies_as index s.at _ refl) in
-    let k : Checks (length index) s.at (Failed fault offset) = subst (Checks (length index) s.at) e h in
+    let h = applied_faults index b s (entry_at index s) map (lies_as index s.at _ refl) in
+    let k : Checks (length index) s.at (failure fault offset) = subst (Checks (length index) s.at) e h in
     k.faults
 
 -- ---- where

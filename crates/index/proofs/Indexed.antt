@@ -6,18 +6,18 @@ use mathlib.Core.Path.{◌≡◌, sym, ap, ◌∙◌, subst}
 use Prim.Native.Nat.{ℕ, ◌+◌, ◌*◌, ◌≤◌, ◌<◌}
 use native.Mathlib.Omega.{arith}
 use lib.ListN.{length}
+use Rattle.entries.specs.Entries.{Read}
+use Rattle.std.proofs.Common.{Ok, Err}
 use Rattle.acx.proofs.WellPlaced.{code_fits}
 use Rattle.acx.specs.Call.{in_range}
 use Rattle.acx.specs.Walk.{Verdict, accepted}
 use Rattle.answer.specs.Report.{address as address_of}
 use Rattle.entries.proofs.Reading.{FieldBytes, lies_as, addressed_as, fields_bytes}
 use Rattle.records.specs.Types.{address_in}
-use Rattle.entries.specs.declared.IndexEntry.{IndexEntry}
-use Rattle.entries.specs.declared.IndexEntry.TheVariants.{Code, End, Faulty}
+use Rattle.entries.specs.declared.IndexEntry.TheVariants.{Code, End}
 use Rattle.events.proofs.Events.{length_marks, length_blank, length_run}
-use Rattle.events.specs.Events.{marks, blank, placed_in, adjusted_in, Ran}
+use Rattle.events.specs.Events.{marks, blank, placed_in, adjusted_in, Ran, Check}
 use Rattle.events.specs.Lists.{Each}
-use Rattle.events.specs.declared.Check.{Check}
 use Rattle.pieces.proofs.Applying.{ending_passed}
 use Rattle.pieces.specs.AtBases.{start_of}
 use Rattle.pieces.specs.Pieces.{Outline, outline, place_of, limit_of, events}
@@ -53,9 +53,9 @@ outline_fits b o os h f l z =
 
 module _ (index : List ℕ) (b : Bases) where
   -- a code entry that passes: its outline found room and nothing placed there, and its fields are sound
-  placed_code : (s : Progress) (kind : Kind) (address n from count : ℕ) → WellPlaced b s.outlines → entry_at index s ≡ Code kind address n from count
+  placed_code : (s : Progress) (kind : Kind) (address n from count : ℕ) → WellPlaced b s.outlines → entry_at index s ≡ Ok (Code kind address n from count)
       → Passes index b s
-      → WellPlaced b (stepped index s (Code kind address n from count)).outlines
+      → WellPlaced b (stepped index s (Ok (Code kind address n from count))).outlines
   placed_code s kind address n from count h is c =
       let left : List ℕ = marks (events b (map hollow s.outlines)) blank in
       let x = passed_code index b s left kind address n from count is c in
@@ -66,11 +66,11 @@ module _ (index : List ℕ) (b : Bases) where
       }
 
   -- every entry that passes
-  pub placed_on : (s : Progress) (e : IndexEntry) → WellPlaced b s.outlines → entry_at index s ≡ e → Onward e → Passes index b s
+  pub placed_on : (s : Progress) (e : Read) → WellPlaced b s.outlines → entry_at index s ≡ e → Onward e → Passes index b s
       → WellPlaced b (stepped index s e).outlines
-  placed_on s (Code kind address n from count) h is o c = placed_code s kind address n from count h is c
-  placed_on s (End entry next) h is o c = absurd o
-  placed_on s (Faulty fault) h is o c = absurd o
+  placed_on s (Ok (Code kind address n from count)) h is o c = placed_code s kind address n from count h is c
+  placed_on s (Ok (End entry next)) h is o c = absurd o
+  placed_on s (Err fault) h is o c = absurd o
 
 -- before the first entry
 pub placed_first : (b : Bases) → WellPlaced b []
@@ -118,14 +118,14 @@ index_accepted b index os entry e =
 abbrev pub OutlineBytes : Outline → Type 0
 OutlineBytes o = (o.address < 65536) × (o.size ≤ 253) × Each FieldBytes o.fields
 
-outlines_bytes : (index : List ℕ) (s : Progress) (e : IndexEntry) → Bytes index → Each OutlineBytes s.outlines → entry_at index s ≡ e → Onward e
+outlines_bytes : (index : List ℕ) (s : Progress) (e : Read) → Bytes index → Each OutlineBytes s.outlines → entry_at index s ≡ e → Onward e
     → Each OutlineBytes (stepped index s e).outlines
-outlines_bytes index s (Code kind address n from count) b h is o = (
+outlines_bytes index s (Ok (Code kind address n from count)) b h is o = (
   (addressed_as index s.at _ b is, (lies_as index s.at _ is).2, fields_bytes kind (part index from count) (bytes_part index from count b)),
   h,
 )
-outlines_bytes index s (End entry next) b h is o = absurd o
-outlines_bytes index s (Faulty fault) b h is o = absurd o
+outlines_bytes index s (Ok (End entry next)) b h is o = absurd o
+outlines_bytes index s (Err fault) b h is o = absurd o
 
 -- of an accepted index, and of its entry
 pub accepted_bytes : (b : Bases) (index : List ℕ) (os : List Outline) (entry : Entry) → Bytes index → (indexed b index).answer ≡ accepted os entry

@@ -8,23 +8,22 @@ use native.Mathlib.Omega.{arith}
 use borrow.Author.Tests.{leb-true, leb-false, le-leb, lt-leb, eqb-true, eqb-false, eq-eqb, ne_eqb}
 use lib.Dec.{leb, eqb}
 use lib.ListN.{length, get_or}
+use Rattle.entries.specs.Entries.{Read}
+use Rattle.std.proofs.Common.{Ok, Err}
 use Rattle.acx.proofs.Turning.{refused_accepted, as_refused}
 use Rattle.acx.specs.Call.{in_range}
 use Rattle.acx.specs.Walk.{Verdict, accepted, refused, at_once}
-use Rattle.answer.specs.Checks.{need}
+use Rattle.answer.specs.Checks.{need, failure}
 use Rattle.answer.specs.declared.Fault.{Fault}
 use Rattle.answer.specs.declared.Fault.TheVariants.{SettingOutOfRange, FileTooLong, CutShort, WrongVersion}
 use Rattle.entries.specs.Bytes.{version}
-use Rattle.entries.specs.declared.IndexEntry.{IndexEntry}
-use Rattle.entries.specs.declared.IndexEntry.TheVariants.{Code, End, Faulty}
+use Rattle.entries.specs.declared.IndexEntry.TheVariants.{Code, End}
 use Rattle.events.proofs.Checks.{failed_passed}
 use Rattle.events.proofs.Traces.{steps_traced, trace_answers}
 use Rattle.events.proofs.Walks.{ends_leads, ends_same, EndsAt}
-use Rattle.events.specs.Events.{Event, marks, blank, Ran}
+use Rattle.events.specs.Events.{Event, marks, blank, Ran, Check}
 use Rattle.events.specs.Trace.{Trace}
 use Rattle.events.specs.Walk.{ends}
-use Rattle.events.specs.declared.Check.{Check}
-use Rattle.events.specs.declared.Check.TheVariants.{Passed, Failed}
 use Rattle.pieces.specs.Pieces.{Outline}
 use Rattle.pieces.specs.declared.Bases.{Bases}
 use Rattle.records.specs.declared.Entry.{Entry}
@@ -76,21 +75,22 @@ module _ (index : List ℕ) (b : Bases) where
 
   -- a turn refuses an index where its entry does not pass, at the entry
   turn_failed : (s : Progress) (es : List Event) (fault : Fault) (at : ℕ) → (turn index b s (marks es blank)).answer ≡ ends (refused fault at)
-      → (s.at ≡ at) × (offset : ℕ) × ((checked index b s (marks es blank)).answer ≡ Failed fault offset)
+      → (s.at ≡ at) × (offset : ℕ) × ((checked index b s (marks es blank)).answer ≡ failure fault offset)
   unfolding checked applied
   turn_failed s es fault at e =
       by (checked index b s (marks es blank)).answer (entry_at index s) refl refl (sym (turn_is index b s (marks es blank) _ _ refl refl) ∙ e)
     where
-      by : (c : Check) (r : IndexEntry) → (checked index b s (marks es blank)).answer ≡ c → entry_at index s ≡ r → judge index s c r ≡ ends (refused fault at)
-          → (s.at ≡ at) × (offset : ℕ) × ((checked index b s (marks es blank)).answer ≡ Failed fault offset)
-      by (Failed f i) r c j e =
-          let v : refused f s.at ≡ refused fault at = ends_same e in
-          let w : Failed f i ≡ Failed fault i = cc in
+      by : (c : Check) (r : Read) → (checked index b s (marks es blank)).answer ≡ c → entry_at index s ≡ r → judge index s c r ≡ ends (refused fault at)
+          → (s.at ≡ at) × (offset : ℕ) × ((checked index b s (marks es blank)).answer ≡ failure fault offset)
+      by (Err f) r c j e =
+          let v : refused f.fault s.at ≡ refused fault at = ends_same e in
+          let g : f.fault ≡ fault = cc in
+          let w : ◌≡◌ {A = Check} (Err f) (failure fault f.offset) = ap (λ (k : Fault). failure k f.offset) g in
           let a : s.at ≡ at = cc in
-          (a, i, c ∙ w)
-      by Passed (Code kind address n from count) c i e = absurd (ends_leads (sym e))
-      by Passed (End entry next) c i e = absurd (refused_accepted (sym (ends_same e)))
-      by Passed (Faulty f) c i e = absurd (failed_passed (rw i at c))
+          (a, f.offset, c ∙ w)
+      by (Ok done) (Ok (Code kind address n from count)) c i e = absurd (ends_leads (sym e))
+      by (Ok done) (Ok (End entry next)) c i e = absurd (refused_accepted (sym (ends_same e)))
+      by (Ok done) (Err f) c i e = absurd (failed_passed (rw i at c))
 
   pub failed : (fault : Fault) (at : ℕ) → (judged index b).answer ≡ refused fault at → Fails index b fault at
   unfolding judged need
@@ -112,7 +112,7 @@ module _ (index : List ℕ) (b : Bases) where
   fails_judged fault at (of_version h k) = rw (le-leb _ _ h, ne_eqb _ _ k) refl
   fails_judged fault at (in_entry {offset = offset} {s = s} {es = es} h k t c) =
       ap (λ (q : Ran (Verdict Outline)). q.answer) (judged_entries h k)
-      ∙ trace_entries index b s es (refused fault s.at) t (turn_is index b s (marks es blank) (Failed fault offset) _ c refl)
+      ∙ trace_entries index b s es (refused fault s.at) t (turn_is index b s (marks es blank) (failure fault offset) _ c refl)
 
 -- ---- with the right buffers
 

@@ -5,13 +5,12 @@ use mathlib.Core.Path.{◌≡◌, ap, ◌∙◌}
 use Prim.Native.Nat.{ℕ, ◌+◌, ◌*◌, ◌/◌, ◌≤◌}
 use native.Mathlib.Omega.{arith}
 use lib.ListN.{length, replicate}
+use Rattle.std.proofs.Common.{Ok, Err}
 use Rattle.entries.proofs.Reading.{lies_as, fixups_all}
-use Rattle.entries.specs.Entries.{fields_to}
-use Rattle.entries.specs.declared.IndexEntry.{IndexEntry}
-use Rattle.entries.specs.declared.IndexEntry.TheVariants.{Code, End, Faulty}
+use Rattle.entries.specs.Entries.{fields_to, Read}
+use Rattle.entries.specs.declared.IndexEntry.TheVariants.{Code, End}
 use Rattle.events.proofs.Events.{placed_append, adjusted_append, length_run}
 use Rattle.events.specs.Events.{place, placed_in, adjusted_in}
-use Rattle.events.specs.declared.Check.TheVariants.{Passed}
 use Rattle.pieces.proofs.PieceEvents.{placed_adjustments, adjusted_adjustments}
 use Rattle.pieces.specs.Pieces.{Outline, place_of, adjustments, events}
 use Rattle.pieces.specs.declared.Bases.{Bases}
@@ -47,7 +46,7 @@ thirds : (n k : ℕ) → 3 * n ≡ k → n ≡ k / 3
 thirds n k e = omega arith
 
 module _ (index : List ℕ) (b : Bases) (s : Progress) (map : List ℕ) (kind : Kind) (address n from count : ℕ)
-    (is : entry_at index s ≡ Code kind address n from count) (ok : (checked index b s map).answer ≡ Passed) where
+    (is : entry_at index s ≡ Ok (Code kind address n from count)) (ok : (checked index b s map).answer ≡ Ok tt) where
   -- the fields of a code entry that passed are a third of its fixups' bytes
   pub fields_counted : 3 * length (fields_to kind (part index from count)) ≡ count
   fields_counted =
@@ -55,8 +54,8 @@ module _ (index : List ℕ) (b : Bases) (s : Progress) (map : List ℕ) (kind : 
       ∙ length_part index from count (lies_as index s.at _ is).1
 
   -- so the counts after it
-  pub counts_after : (placed_by b (stepped index s (Code kind address n from count)).outlines ≡ placed_by b s.outlines + n)
-      × (adjusted_by b (stepped index s (Code kind address n from count)).outlines ≡ adjusted_by b s.outlines + count / 3)
+  pub counts_after : (placed_by b (stepped index s (Ok (Code kind address n from count))).outlines ≡ placed_by b s.outlines + n)
+      × (adjusted_by b (stepped index s (Ok (Code kind address n from count))).outlines ≡ adjusted_by b s.outlines + count / 3)
   counts_after =
       let fs = fields_to kind (part index from count) in
       let x = outline_more b (record { kind = kind; address = address; size = n; fields = fs }) s.outlines in
@@ -73,12 +72,12 @@ unfolding events placed_in adjusted_in
 stands_first b = record { placed = omega arith; adjusted = omega arith }
 
 -- every entry that passes leads to where a walk can stand
-pub stands_on : (index : List ℕ) (b : Bases) (s : Progress) (map : List ℕ) (e : IndexEntry) → Stands b s → entry_at index s ≡ e → Onward e
-    → (checked index b s map).answer ≡ Passed
+pub stands_on : (index : List ℕ) (b : Bases) (s : Progress) (map : List ℕ) (e : Read) → Stands b s → entry_at index s ≡ e → Onward e
+    → (checked index b s map).answer ≡ Ok tt
     → Stands b (stepped index s e)
-stands_on index b s map (Code kind address n from count) h is o c =
+stands_on index b s map (Ok (Code kind address n from count)) h is o c =
     let w = lies_as index s.at _ is in
     let k = counts_after index b s map kind address n from count is c in
     record { placed = omega (arith, k.0, h.placed, w.0, w.2); adjusted = omega (arith, k.1, h.adjusted, w.0) }
-stands_on index b s map (End entry next) h is o c = absurd o
-stands_on index b s map (Faulty fault) h is o c = absurd o
+stands_on index b s map (Ok (End entry next)) h is o c = absurd o
+stands_on index b s map (Err fault) h is o c = absurd o

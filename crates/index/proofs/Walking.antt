@@ -6,6 +6,8 @@ use mathlib.Core.Path.{◌≡◌, refl, sym, ap, ◌∙◌}
 use Prim.Native.Nat.{ℕ, ◌≤◌}
 use borrow.Author.Tests.{leb-true, eqb-true}
 use lib.ListN.{length, get_or}
+use Rattle.entries.specs.Entries.{Read}
+use Rattle.std.proofs.Common.{Ok}
 use Rattle.acx.proofs.Turning.{refused_accepted}
 use Rattle.acx.specs.Call.{in_range}
 use Rattle.acx.specs.Walk.{Verdict, accepted, refused, at_once}
@@ -13,11 +15,9 @@ use Rattle.answer.specs.Checks.{need}
 use Rattle.answer.specs.declared.Fault.{Fault}
 use Rattle.answer.specs.declared.Fault.TheVariants.{CutShort}
 use Rattle.entries.specs.Bytes.{version}
-use Rattle.entries.specs.declared.IndexEntry.{IndexEntry}
 use Rattle.events.proofs.Traces.{steps_keep}
 use Rattle.events.specs.Events.{Event, marks, blank, Ran}
 use Rattle.events.specs.Walk.{ends, bytes_left}
-use Rattle.events.specs.declared.Check.TheVariants.{Passed}
 use Rattle.pieces.specs.Pieces.{Outline, events}
 use Rattle.pieces.specs.declared.Bases.{Bases}
 use Rattle.records.specs.declared.Entry.{Entry}
@@ -67,7 +67,7 @@ index_admitted b index os entry e =
 
 -- the next entry passes its checks over the map of the outlines so far
 abbrev pub Passes : List ℕ → Bases → Progress → Type 0
-Passes index b s = (checked index b s (marks (events b (map hollow s.outlines)) blank)).answer ≡ Passed
+Passes index b s = (checked index b s (marks (events b (map hollow s.outlines)) blank)).answer ≡ Ok tt
 
 -- an index ended at an end entry, after outlines of which P holds, and its events are those of the outlines
 pub record EndedAt (P : Progress → Type 0) (index : List ℕ) (b : Bases) (os : List Outline) (entry : Entry) (es : List Event) : Type 0 where
@@ -78,7 +78,7 @@ pub record EndedAt (P : Progress → Type 0) (index : List ℕ) (b : Bases) (os 
   pub events : es ≡ events b (map hollow os)
 
 module _ (index : List ℕ) (b : Bases) (P : Progress → Type 0)
-    (keeps : (s : Progress) (e : IndexEntry) → P s → entry_at index s ≡ e → Onward e → Passes index b s → P (stepped index s e)) where
+    (keeps : (s : Progress) (e : Read) → P s → entry_at index s ≡ e → Onward e → Passes index b s → P (stepped index s e)) where
   -- the whole index: what holds before its entries holds at its end
   pub accepted_keeps : (os : List Outline) (entry : Entry) → P begun → (judged index b).answer ≡ accepted os entry
       → EndedAt P index b os entry (judged index b).events

@@ -6,21 +6,20 @@ use mathlib.Core.Path.{◌≡◌, refl, sym, ap, ◌∙◌, subst}
 use Prim.Native.Nat.{ℕ, ◌+◌, ◌≤◌}
 use native.Mathlib.Omega.{arith}
 use lib.ListN.{length, replicate}
+use Rattle.answer.specs.Checks.{failure}
+use Rattle.std.proofs.Common.{Ok, Err}
 use Rattle.acx.proofs.Settling.{Settles, fits, unfit, settled_where}
 use Rattle.acx.specs.Call.{in_range}
 use Rattle.acx.specs.Walk.{Verdict, accepted, refused}
 use Rattle.acx.specs.Where.{PiecesUnfit, earlier, too_high, overlaps, HandlerUnfit, of_pieces, of_start, AcceptedWhere}
 use Rattle.answer.specs.declared.Fault.{Fault}
-use Rattle.entries.specs.Entries.{fields_to, all_suit}
-use Rattle.entries.specs.declared.IndexEntry.{IndexEntry}
-use Rattle.entries.specs.declared.IndexEntry.TheVariants.{Code, End, Faulty}
+use Rattle.entries.specs.Entries.{fields_to, all_suit, Read}
+use Rattle.entries.specs.declared.IndexEntry.TheVariants.{Code, End}
 use Rattle.events.proofs.Checks.{passed_is}
 use Rattle.events.proofs.Events.{length_marks, length_blank, length_run}
-use Rattle.events.specs.Events.{Event, marks, blank, Ran}
+use Rattle.events.specs.Events.{Event, marks, blank, Ran, Check}
 use Rattle.events.specs.Lists.{Each}
 use Rattle.events.specs.Trace.{Trace, at_start, after_step}
-use Rattle.events.specs.declared.Check.{Check}
-use Rattle.events.specs.declared.Check.TheVariants.{Passed, Failed}
 use Rattle.pieces.proofs.Applying.{ending_passed}
 use Rattle.pieces.proofs.Checks.{placing_passed, limit_le}
 use Rattle.pieces.proofs.Passing.{Unplaced, ends_above, taken, placing_failed, apart_clear, ending_failed}
@@ -45,12 +44,12 @@ use Rattle.index.specs.Where.{WhereClaim}
 -- ---- an index that follows the rules holds its outlines
 
 -- every entry that passes can be read
-passes_readable : (index : List ℕ) (b : Bases) (s : Progress) (map : List ℕ) (e : IndexEntry) → entry_at index s ≡ e → Onward e
-    → (checked index b s map).answer ≡ Passed
+passes_readable : (index : List ℕ) (b : Bases) (s : Progress) (map : List ℕ) (e : Read) → entry_at index s ≡ e → Onward e
+    → (checked index b s map).answer ≡ Ok tt
     → Readable index e
-passes_readable index b s map (Code kind address n from count) is o c = (passed_code index b s map kind address n from count is c).suited
-passes_readable index b s map (End entry next) is o c = absurd o
-passes_readable index b s map (Faulty fault) is o c = absurd o
+passes_readable index b s map (Ok (Code kind address n from count)) is o c = (passed_code index b s map kind address n from count is c).suited
+passes_readable index b s map (Ok (End entry next)) is o c = absurd o
+passes_readable index b s map (Err fault) is o c = absurd o
 
 trace_leads : (index : List ℕ) (b : Bases) (s : Progress) (es : List Event) → Trace (NextEntry index b) begun s es → Leads index s
 trace_leads index b s es at_start = at_first
@@ -81,10 +80,10 @@ accepted_holds index b os entry e = (
 -- ---- the walk at a pair of bases
 
 -- the fields before an entry are sound too
-sound_before : (index : List ℕ) (s : Progress) (e : IndexEntry) → FieldsSound (stepped index s e).outlines → FieldsSound s.outlines
-sound_before index s (Code kind address n from count) h = record { inside = h.inside.1; distinct = h.distinct.1 }
-sound_before index s (End entry next) h = h
-sound_before index s (Faulty fault) h = h
+sound_before : (index : List ℕ) (s : Progress) (e : Read) → FieldsSound (stepped index s e).outlines → FieldsSound s.outlines
+sound_before index s (Ok (Code kind address n from count)) h = record { inside = h.inside.1; distinct = h.distinct.1 }
+sound_before index s (Ok (End entry next)) h = h
+sound_before index s (Err fault) h = h
 
 module _ (index : List ℕ) (b : Bases) where
   -- the map of the outlines so far
@@ -97,7 +96,7 @@ module _ (index : List ℕ) (b : Bases) where
     ended : {fault : Fault} {offset : ℕ} → PiecesUnfit b s.outlines fault → (entries_from index b begun blank).answer ≡ refused fault offset → Comes s
 
   -- an entry that passes is a step further
-  goes_on : (s : Progress) (e : IndexEntry) → entry_at index s ≡ e → Onward e → Passes index b s
+  goes_on : (s : Progress) (e : Read) → entry_at index s ≡ e → Onward e → Passes index b s
       → Trace (NextEntry index b) begun s (events b (map hollow s.outlines))
       → Trace (NextEntry index b) begun (stepped index s e) (events b (map hollow (stepped index s e).outlines))
   goes_on s e is o ok t =
@@ -111,14 +110,14 @@ module _ (index : List ℕ) (b : Bases) where
 
   -- one that fails ends the walk
   stops : (s : Progress) (fault : Fault) (offset : ℕ) → Trace (NextEntry index b) begun s (events b (map hollow s.outlines))
-      → (checked index b s (left s)).answer ≡ Failed fault offset
+      → (checked index b s (left s)).answer ≡ failure fault offset
       → (entries_from index b begun blank).answer ≡ refused fault s.at
   stops s fault offset t e =
-      trace_entries index b s (events b (map hollow s.outlines)) (refused fault s.at) t (turn_is index b s (left s) (Failed fault offset) _ e refl)
+      trace_entries index b s (events b (map hollow s.outlines)) (refused fault s.at) t (turn_is index b s (left s) (failure fault offset) _ e refl)
 
   -- a code entry
-  module _ (s : Progress) (kind : Kind) (address n from count : ℕ) (is : entry_at index s ≡ Code kind address n from count)
-      (suits : all_suit kind (part index from count) ≡ true) (h : FieldsSound (stepped index s (Code kind address n from count)).outlines)
+  module _ (s : Progress) (kind : Kind) (address n from count : ℕ) (is : entry_at index s ≡ Ok (Code kind address n from count))
+      (suits : all_suit kind (part index from count) ≡ true) (h : FieldsSound (stepped index s (Ok (Code kind address n from count))).outlines)
       (f : PiecesFit b s.outlines) (t : Trace (NextEntry index b) begun s (events b (map hollow s.outlines))) where
     abbrev o : Outline
     o = record { kind = kind; address = address; size = n; fields = fields_to kind (part index from count) }
@@ -137,8 +136,8 @@ module _ (index : List ℕ) (b : Bases) where
         false≢true (sym z ∙ apart_clear b o (map hollow s.outlines) (hollow_inside s.outlines h.inside.1) low d'))
 
     comes_code : (v : Check) → (placing s.at (place_of b o) (limit_of kind) zeros (left s)).answer ≡ v
-        → Comes (stepped index s (Code kind address n from count))
-    comes_code Passed e =
+        → Comes (stepped index s (Ok (Code kind address n from count)))
+    comes_code (Ok done) e =
         let k : length zeros ≡ n = length_run n 0 in
         let x = placing_passed _ _ _ _ _ e in
         let low : place_of b o + n ≤ limit_of kind = rw k at x.0 in
@@ -148,23 +147,23 @@ module _ (index : List ℕ) (b : Bases) where
         let ok : Passes index b s =
         ap (λ (q : Ran Check). q.answer) (checked_code index b s (left s) kind address n from count is)
         ∙ code_passes s.at b kind address n (part index from count) (left s) e adjusts suits in
-        so_far (outline_fits b o s.outlines (sound_before index s (Code kind address n from count) h) f low (rw k at x.1)) (goes_on s _ is tt ok t)
-    comes_code (Failed fault offset) e =
+        so_far (outline_fits b o s.outlines (sound_before index s (Ok (Code kind address n from count)) h) f low (rw k at x.1)) (goes_on s _ is tt ok t)
+    comes_code (Err g) e =
         let k : length zeros ≡ n = length_run n 0 in
-        let x : Unplaced (place_of b o) n (limit_of kind) (left s) fault = rw k at (placing_failed _ _ _ _ _ fault offset e) in
-        ended (unplaced fault x)
-        (stops s fault offset t
+        let x : Unplaced (place_of b o) n (limit_of kind) (left s) g.fault = rw k at (placing_failed _ _ _ _ _ g.fault g.offset e) in
+        ended (unplaced g.fault x)
+        (stops s g.fault g.offset t
         (ap (λ (q : Ran Check). q.answer) (checked_code index b s (left s) kind address n from count is)
-        ∙ code_fails s.at b kind address n (part index from count) (left s) fault offset e))
+        ∙ code_fails s.at b kind address n (part index from count) (left s) g.fault g.offset e))
 
   -- every entry that is read
-  comes_on : (s : Progress) (e : IndexEntry) → entry_at index s ≡ e → Readable index e → FieldsSound (stepped index s e).outlines → Comes s
+  comes_on : (s : Progress) (e : Read) → entry_at index s ≡ e → Readable index e → FieldsSound (stepped index s e).outlines → Comes s
       → Comes (stepped index s e)
-  comes_on s (Code kind address n from count) is r h (so_far f t) =
+  comes_on s (Ok (Code kind address n from count)) is r h (so_far f t) =
       comes_code s kind address n from count is r h f t (placing s.at _ (limit_of kind) (replicate n 0) (left s)).answer refl
-  comes_on s (Code kind address n from count) is r h (ended m e) = ended (earlier m) e
-  comes_on s (End entry next) is r h x = absurd r
-  comes_on s (Faulty fault) is r h x = absurd r
+  comes_on s (Ok (Code kind address n from count)) is r h (ended m e) = ended (earlier m) e
+  comes_on s (Ok (End entry next)) is r h x = absurd r
+  comes_on s (Err fault) is r h x = absurd r
 
   -- all of them
   comes : (s : Progress) → Leads index s → FieldsSound s.outlines → Comes s
@@ -175,19 +174,19 @@ module _ (index : List ℕ) (b : Bases) where
   -- ---- the whole index
 
   -- at the end entry the start decides
-  ends_at : (s : Progress) (entry : Entry) → entry_at index s ≡ End entry (length index) → Comes s
+  ends_at : (s : Progress) (entry : Entry) → entry_at index s ≡ Ok (End entry (length index)) → Comes s
       → Settles b s.outlines s.outlines entry (entries_from index b begun blank).answer
   ends_at s entry is (ended m e) = subst (Settles b s.outlines s.outlines entry) (sym e) (unfit (of_pieces m))
   ends_at s entry is (so_far f t) = by (checked index b s (left s)).answer refl
     where
       by : (v : Check) → (checked index b s (left s)).answer ≡ v → Settles b s.outlines s.outlines entry (entries_from index b begun blank).answer
-      by Passed e =
+      by (Ok done) e =
           let x = ending_passed _ b entry (length index) (length index) (end_answers index b s _ entry (length index) is e) in
-          let v = trace_entries index b s _ (accepted s.outlines entry) t (turn_is index b s (left s) Passed _ e is) in
+          let v = trace_entries index b s _ (accepted s.outlines entry) t (turn_is index b s (left s) (Ok tt) _ e is) in
           subst (Settles b s.outlines s.outlines entry) (sym v) (fits (record { pieces = f; start = x.0 }))
-      by (Failed fault offset) e =
-          let x = ending_failed _ b entry (length index) fault offset (end_answers index b s _ entry (length index) is e) in
-          subst (Settles b s.outlines s.outlines entry) (sym (stops s fault offset t e))
+      by (Err g) e =
+          let x = ending_failed _ b entry (length index) g.fault g.offset (end_answers index b s _ entry (length index) is e) in
+          subst (Settles b s.outlines s.outlines entry) (sym (stops s g.fault g.offset t e))
           (unfit (subst (HandlerUnfit b s.outlines entry) (sym x.0) (of_start f x.1)))
 
   -- an index that holds sound outlines

@@ -11,6 +11,7 @@ use Rattle.entries.proofs.ReadBack.{Encodable, fields_back, all_suit_lem, length
 use Rattle.entries.specs.Bytes.{code_bytes, end_bytes, with_length, code_entries, index_bytes}
 use Rattle.records.specs.Types.{address_in}
 use Rattle.entries.specs.Entries.{fields_to, all_suit}
+use Rattle.std.proofs.Common.{Ok}
 use Rattle.entries.specs.declared.IndexEntry.TheVariants.{Code, End}
 use Rattle.events.specs.Lists.{Each}
 use Rattle.pieces.specs.Pieces.{Outline}
@@ -79,7 +80,7 @@ module _ (os : List Outline) (entry : Entry) where
     abbrev count : ℕ
     count = 3 * length o.fields
 
-    found : entry_at index (behind older) ≡ Code o.kind o.address o.size (at + 6) count
+    found : entry_at index (behind older) ≡ Ok (Code o.kind o.address o.size (at + 6) count)
     found = code_back index at o rest is y short
 
     readable : Readable index (entry_at index (behind older))
@@ -119,6 +120,6 @@ module _ (os : List Outline) (entry : Entry) where
         versioned = refl;
         last = behind os;
         entries = leads os [] refl short y;
-        end = end_back index at entry [] end_there small ∙ ap (End entry) n;
+        end = end_back index at entry [] end_there small ∙ ap (λ (next : ℕ). Ok (End entry next)) n;
         outlines = refl;
       }

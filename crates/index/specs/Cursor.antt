@@ -2,7 +2,7 @@
 -- Assumes nothing.
 use Rattle.std.specs.Prelude.{◌≡◌, ℕ, ◌+◌, ◌/◌, ◌%◌, ◌≤◌}
 use Rattle.entries.specs.declared.IndexEntry.{IndexEntry}
-use Rattle.entries.specs.declared.IndexEntry.TheVariants.{Code, End, Faulty}
+use Rattle.entries.specs.declared.IndexEntry.TheVariants.{Code, End}
 use Rattle.index.specs.declared.Cursor.{Cursor}
 
 -- the cursor before the first entry
@@ -13,10 +13,8 @@ first_cursor = record { at = 1; placed = 0; adjusted = 0 }
 abbrev pub advanced : Cursor → IndexEntry → Cursor
 advanced c (Code kind address n from count) = record { at = from + count; placed = c.placed + n; adjusted = c.adjusted + count / 3 }
 advanced c (End entry next) = c
-advanced c (Faulty fault) = c
 
 -- an entry that was read lies below an offset; its code is at most 253 bytes, and its fixups are three bytes each
 abbrev pub Lies : ℕ → IndexEntry → Type 0
 Lies limit (Code kind address n from count) = (from + count ≤ limit) × (n ≤ 253) × (count % 3 ≡ 0)
 Lies limit (End entry next) = next ≤ limit
-Lies limit (Faulty fault) = Unit {0}

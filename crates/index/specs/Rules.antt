@@ -3,19 +3,19 @@
 -- (`by_rules : RulesClaim`; `refusals_located : LocatedClaim` in proofs/Faults.antt).
 -- (An entry of an index is an `IndexEntry`; an `Entry` is what the end record says of the start, by its flag.)
 -- Assumes nothing.
-use Rattle.std.specs.Prelude.{true, false, List, [], ◌≡◌, ℕ, ◌+◌, ◌≤◌, ◌<◌, length, get_or}
+use Rattle.std.specs.Prelude.{true, false, List, [], ◌≡◌, ℕ, ◌+◌, ◌≤◌, ◌<◌, length, get_or, Ok, Err}
 use Rattle.acx.specs.Call.{in_range}
 use Rattle.acx.specs.Rules.{ByRules}
+use Rattle.answer.specs.Checks.{failure}
 use Rattle.answer.specs.Report.{number_of}
 use Rattle.answer.specs.declared.Fault.{Fault}
 use Rattle.answer.specs.declared.Fault.TheVariants.{SettingOutOfRange, FileTooLong, CutShort, WrongVersion}
 use Rattle.entries.specs.Bytes.{version}
-use Rattle.entries.specs.declared.IndexEntry.{IndexEntry}
-use Rattle.entries.specs.declared.IndexEntry.TheVariants.{Code, End, Faulty}
+use Rattle.entries.specs.Entries.{Read}
+use Rattle.entries.specs.declared.IndexEntry.TheVariants.{Code, End}
 use Rattle.events.specs.Events.{Event, marks, blank, passed}
 use Rattle.events.specs.Sizes.{file_limit}
 use Rattle.events.specs.Trace.{Trace, NextStep}
-use Rattle.events.specs.declared.Check.TheVariants.{Failed}
 use Rattle.pieces.specs.Pieces.{Outline}
 use Rattle.pieces.specs.declared.Bases.{Bases}
 use Rattle.records.specs.declared.Entry.{Entry}
@@ -24,10 +24,10 @@ use Rattle.index.specs.Walk.{Progress, begun, entry_at, checked, stepped, formle
 -- ---- the index
 
 -- a code entry: it is not the last, and no fault
-abbrev pub Onward : IndexEntry → Type 0
-Onward (Code kind address n from count) = Unit {0}
-Onward (End entry next) = ⊥
-Onward (Faulty fault) = ⊥
+abbrev pub Onward : Read → Type 0
+Onward (Ok (Code kind address n from count)) = Unit {0}
+Onward (Ok (End entry next)) = ⊥
+Onward (Err fault) = ⊥
 
 -- The entry at s passes, over the map as the events es left it, and leads on to z by the events fs.
 abbrev pub NextEntry : List ℕ → Bases → Progress → List Event → Progress → List Event → Type 0
@@ -35,7 +35,7 @@ NextEntry index b s es z fs = NextStep Onward (entry_at index) (checked index b)
 
 -- It is the end entry, passes, and ends the index: the outlines so far are those of the handler.
 pub record EndEntry (index : List ℕ) (b : Bases) (s : Progress) (es : List Event) (os : List Outline) (entry : Entry) : Type 0 where
-  pub is : entry_at index s ≡ End entry (length index)
+  pub is : entry_at index s ≡ Ok (End entry (length index))
   pub passes : checked index b s (marks es blank) ≡ passed []
   pub outlines : os ≡ s.outlines
 
@@ -59,7 +59,7 @@ pub data Fails (index : List ℕ) (b : Bases) : Fault → ℕ → Type 0 where
   -- "refusal offsets are those of its entries": in an entry after others that passed, wherever in it
   in_entry : {fault : Fault} {offset : ℕ} {s : Progress} {es : List Event} → 1 ≤ length index → get_or index 0 0 ≡ version
       → Trace (NextEntry index b) begun s es
-      → (checked index b s (marks es blank)).answer ≡ Failed fault offset
+      → (checked index b s (marks es blank)).answer ≡ failure fault offset
       → Fails index b fault s.at
 
 -- ---- with the right buffers

@@ -1,20 +1,18 @@
 -- An index at a pair of bases, entry by entry: document 02, wish 5, "Any other index is itself the handler, accepted where its entries are".
 -- The entries are a walk by turns (`events`, specs/Walk.antt), one entry to a turn, as the records of a file are (`acx`).
 -- Assumes nothing.
-use Rattle.std.specs.Prelude.{List, [], ◌∷◌, ℕ, ◌+◌, leb, eqb, length, get_or, replicate}
+use Rattle.std.specs.Prelude.{List, [], ◌∷◌, ℕ, ◌+◌, leb, eqb, length, get_or, replicate, Ok, Err}
 use Rattle.acx.specs.Call.{in_range}
 use Rattle.acx.specs.Walk.{Verdict, accepted, refused, at_once}
 use Rattle.answer.specs.Checks.{need}
 use Rattle.answer.specs.declared.Fault.TheVariants.{SettingOutOfRange, FileTooLong, CutShort, FixupUnsuited, WrongVersion}
 use Rattle.entries.specs.Bytes.{version}
-use Rattle.entries.specs.Entries.{read, fields_to, all_suit}
+use Rattle.entries.specs.Entries.{Read, read, fields_to, all_suit}
 use Rattle.entries.specs.declared.IndexEntry.{IndexEntry}
-use Rattle.entries.specs.declared.IndexEntry.TheVariants.{Code, End, Faulty}
-use Rattle.events.specs.Events.{blank, Ran, failed, passed}
+use Rattle.entries.specs.declared.IndexEntry.TheVariants.{Code, End}
+use Rattle.events.specs.Events.{blank, Ran, Check, failed, passed}
 use Rattle.events.specs.Sizes.{file_limit}
 use Rattle.events.specs.Walk.{Turn, ends, leads, and_then, from, bytes_left}
-use Rattle.events.specs.declared.Check.{Check}
-use Rattle.events.specs.declared.Check.TheVariants.{Passed, Failed}
 use Rattle.pieces.specs.AtBases.{placing, adjusting, ending}
 use Rattle.pieces.specs.Pieces.{Outline, place_at, limit_of}
 use Rattle.pieces.specs.declared.Bases.{Bases}
@@ -40,7 +38,6 @@ coding at b kind address n items map =
 unfoldable pub applied : List ℕ → ℕ → Bases → IndexEntry → List ℕ → Ran Check
 applied index at b (Code kind address n from count) map = coding at b kind address n (part index from count) map
 applied index at b (End entry next) map = ending at b entry next (length index)
-applied index at b (Faulty fault) map = failed fault at
 
 -- ---- the walk
 
@@ -54,30 +51,35 @@ abbrev pub begun : Progress
 begun = record { at = 1; outlines = [] }
 
 -- the next entry
-abbrev pub entry_at : List ℕ → Progress → IndexEntry
+abbrev pub entry_at : List ℕ → Progress → Read
 entry_at index s = read index s.at
+
+-- what reading it came to: an entry as its part says at the bases, over a map; a fault at once
+abbrev pub checked_as : List ℕ → Bases → Progress → Read → List ℕ → Ran Check
+checked_as index b s (Ok e) map = applied index s.at b e map
+checked_as index b s (Err fault) map = failed fault s.at
 
 -- what it comes to at the bases, over a map
 unfoldable pub checked : List ℕ → Bases → Progress → List ℕ → Ran Check
-checked index b s map = applied index s.at b (entry_at index s) map
+checked index b s map = checked_as index b s (entry_at index s) map
 
 -- the outline of a code entry with these fixups
 abbrev pub outline_of : Kind → ℕ → ℕ → List ℕ → Outline
 outline_of kind address n items = record { kind = kind; address = address; size = n; fields = fields_to kind items }
 
 -- where the walk stands after an entry that passed: a code entry is an outline more
-abbrev pub stepped : List ℕ → Progress → IndexEntry → Progress
-stepped index s (Code kind address n from count) =
+abbrev pub stepped : List ℕ → Progress → Read → Progress
+stepped index s (Ok (Code kind address n from count)) =
     record { at = from + count; outlines = outline_of kind address n (part index from count) ∷ s.outlines }
-stepped index s (End entry next) = s
-stepped index s (Faulty fault) = s
+stepped index s (Ok (End entry next)) = s
+stepped index s (Err fault) = s
 
 -- where an entry leads: on to the next; or the walk ends, accepted at the end entry, refused at a fault. "refusal offsets are those of its entries"
-abbrev pub judge : List ℕ → Progress → Check → IndexEntry → Turn Progress (Verdict Outline)
-judge index s (Failed fault offset) e = ends (refused fault s.at)
-judge index s Passed (Code kind address n from count) = leads (stepped index s (Code kind address n from count))
-judge index s Passed (End entry next) = ends (accepted s.outlines entry)
-judge index s Passed (Faulty fault) = ends (refused fault s.at)
+abbrev pub judge : List ℕ → Progress → Check → Read → Turn Progress (Verdict Outline)
+judge index s (Err e) r = ends (refused e.fault s.at)
+judge index s (Ok done) (Ok (Code kind address n from count)) = leads (stepped index s (Ok (Code kind address n from count)))
+judge index s (Ok done) (Ok (End entry next)) = ends (accepted s.outlines entry)
+judge index s (Ok done) (Err fault) = ends (refused fault s.at)
 
 -- one entry: read, checked at the bases, and where that leads
 unfoldable pub turn : List ℕ → Bases → Progress → List ℕ → Ran (Turn Progress (Verdict Outline))

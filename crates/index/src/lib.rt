@@ -3,13 +3,14 @@
 
 ghost use Rattle.std.specs.Prelude.{◌≡◌, ◌+◌, ◌%◌, ◌≤◌, length};
 ghost use Rattle.acx.specs.Walk.{reported};
-ghost use Rattle.events.specs.Events.{blank, Noted};
+ghost use Rattle.answer.specs.Report.{Outcome};
+ghost use Rattle.events.specs.Events.{blank, Check, Noted};
 ghost use Rattle.pieces.specs.Pieces.{bases_at};
 ghost use Rattle.index.specs.Walk.{fixing, coding, applied, begun, entries_from, judged, indexed};
 ghost use Rattle.index.specs.Cursor.{first_cursor, advanced, Lies};
 
-use answer::{Fault, Outcome};
-use entries::{IndexEntry, Listed};
+use answer::{Failure, Fault, Outcome};
+use entries::IndexEntry;
 use events::Check;
 use pieces::Bases;
 use records::Kind;
@@ -66,12 +67,14 @@ fn walk(index: &[u8], bases: Bases, map: &mut [u8]) -> Outcome
 {
     let mut cursor = first_cursor();
     loop {
-        let found = entries::read(index, cursor.at);
-        let check = apply(index, cursor.at, bases, found, map);
-        if let Check::Failed(fault, offset) = check {
-            return answer::refused(fault, cursor.at);
+        let found = match entries::read(index, cursor.at) {
+            Ok(found) => found,
+            Err(fault) => return answer::refused(fault, cursor.at),
+        };
+        if let Err(failure) = apply(index, cursor.at, bases, found, map) {
+            return answer::refused(failure.fault, cursor.at);
         }
-        if let IndexEntry::End { entry, next } = found {
+        if let IndexEntry::End { entry, .. } = found {
             return acx::accepted(bases, entry, cursor.placed, cursor.adjusted);
         }
         cursor = advance(cursor, found);
@@ -96,18 +99,16 @@ fn advance(cursor: Cursor, found: IndexEntry) -> Cursor
 {
     match found {
         IndexEntry::Code {
-            kind,
-            address,
             size,
             from,
             length,
+            ..
         } => Cursor {
             at: from + length,
             placed: cursor.placed + size,
             adjusted: cursor.adjusted + length / 3,
         },
-        IndexEntry::End { entry, next } => cursor,
-        IndexEntry::Faulty(fault) => cursor,
+        IndexEntry::End { .. } => cursor,
     }
 }
 
@@ -128,7 +129,6 @@ fn apply(index: &[u8], at: usize, bases: Bases, found: IndexEntry, map: &mut [u8
             mark_entry(&index[from..next], at, bases, kind, address, size, map)
         }
         IndexEntry::End { entry, next } => pieces::end(at, bases, entry, next, index.len()),
-        IndexEntry::Faulty(fault) => Check::Failed(fault, at),
     }
 }
 
@@ -146,10 +146,7 @@ fn mark_entry(
     ensures { Noted Check (coding at bases kind address size items.now map.old) map.old result map.new }
 {
     let place = pieces::place_of(bases, kind, address);
-    let check = pieces::mark_code(at, place, size, pieces::limit(kind), map);
-    if let Check::Failed(fault, offset) = check {
-        return Check::Failed(fault, offset);
-    }
+    pieces::mark_code(at, place, size, pieces::limit(kind), map)?;
     mark_fixups(items, at, kind, place, size, map)
 }
 
@@ -165,21 +162,14 @@ fn mark_fixups(
     requires { (length items.now ≤ 65536) × (length items.now % 3 ≡ 0) × (place + size ≤ 65536) × (length map.old ≡ 65536) }
     ensures { (bases : Bases) → Noted Check (fixing at bases kind place size items.now map.old) map.old result map.new }
 {
-    let mut i = 0;
-    while i + 3 <= items.len() {
-        let listed = entries::listed_at(items, i, kind);
-        match listed {
-            Listed::Suited(field) => {
-                let check = pieces::mark_field(field, at, place, size, map);
-                if let Check::Failed(fault, offset) = check {
-                    return Check::Failed(fault, offset);
-                }
-            }
-            Listed::Unsuited => {
-                return Check::Failed(Fault::FixupUnsuited, at);
-            }
-        }
-        i += 3;
+    for i in 0..items.len() / 3 {
+        let Some(field) = entries::listed_at(items, 3 * i, kind) else {
+            return Err(Failure {
+                fault: Fault::FixupUnsuited,
+                offset: at,
+            });
+        };
+        pieces::mark_field(field, at, place, size, map)?;
     }
-    Check::Passed
+    Ok(())
 }

@@ -17,6 +17,3 @@ overflow_add-result-in-Code c =
 
 pub returns-in-Code : goal.returns-in-Code
 returns-in-Code c = sym (ap (advanced c.args.cursor) c.in-Code.is)
-
-pub returns-in-Faulty : goal.returns-in-Faulty
-returns-in-Faulty c = sym (ap (advanced c.args.cursor) c.in-Faulty.is)

@@ -1,7 +1,7 @@
 -- `index::apply` meets its contract: each kind of entry comes to what its part comes to, and lies in the index.
 -- Assumes nothing.
 use native.Mathlib.Omega.{arith}
-use Rattle.index.proofs.Applying.{items_fit, applied_code, applied_end, applied_faulty}
+use Rattle.index.proofs.Applying.{items_fit, applied_code, applied_end}
 use Rattle.index.proofs.apply.Goals as goal
 
 pub overflow_add-next : goal.overflow_add-next
@@ -26,6 +26,3 @@ returns-in-Code c =
 
 pub returns-in-End : goal.returns-in-End
 returns-in-End c = applied_end _ _ _ _ _ c.in-End.is c.end.ensures
-
-pub returns-in-Faulty : goal.returns-in-Faulty
-returns-in-Faulty c = applied_faulty _ _ _ _ _ c.in-Faulty.is

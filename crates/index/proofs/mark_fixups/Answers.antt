@@ -1,48 +1,36 @@
 -- `index::mark_fixups` meets its contract: the definition's fixups have come to the one at hand, with the map that those before it left (`Fixing`), at
 -- whatever bases.
 -- Assumes nothing.
-use mathlib.Core.Path.{refl, ◌∙◌}
-use native.Mathlib.Omega.{arith}
-use Rattle.index.proofs.Fixing.{fixing_none, fixing_unsuited, fixing_more, fixing_fails, fixing_end}
+use Rattle.std.proofs.Common.{◌∙◌, arith}
+use Rattle.std.proofs.lemmas.Result.{err_from_is_err_and}
+use Rattle.index.proofs.Fixing.{fixing_none, fixing_unsuited, fixing_more, fixing_fails, fixing_end, listed_none}
 use Rattle.index.proofs.mark_fixups.Goals as goal
 
 pub loop-i-init : goal.loop-i-init
-loop-i-init c = (omega arith, refl, c.requires.3, λ b. fixing_none)
+loop-i-init c = (c.requires.3, λ b. fixing_none)
 
-pub overflow_add-i : goal.overflow_add-i
-overflow_add-i c = omega (arith, c.loop-i.invariant.0, c.requires.0)
+pub mark_field-requires : goal.mark_field-requires
+mark_field-requires c =
+    let w = rw c.in-Some.is at c.listed_at.ensures.1 in
+    (w.0, c.requires.2, c.loop-i.invariant.0)
 
-pub listed_at-listed-requires : goal.listed_at-listed-requires
-listed_at-listed-requires c = c.loop-i-test.true
+pub returns-in_default : goal.returns-in_default
+returns-in_default c = λ b. fixing_unsuited (omega arith) (c.loop-i.invariant.1 b) c.listed_at.ensures.0 (listed_none _ c.in_default.not-Some)
 
-pub mark_field-check-requires : goal.mark_field-check-requires
-mark_field-check-requires c =
-    let w = rw c.in-Suited.is at c.listed_at-listed.ensures.1 in
-    (w.0, c.requires.2, c.loop-i.invariant.2)
-
-pub returns-in-Failed : goal.returns-in-Failed
-returns-in-Failed c =
+pub returns-in_err-mark_field : goal.returns-in_err-mark_field
+returns-in_err-mark_field c =
+    let p = err_from_is_err_and c.from_residual.result c.from_residual.ensures.1 in
     λ b.
-    fixing_fails c.loop-i-test.true (c.loop-i.invariant.3 b) c.listed_at-listed.ensures.0 c.in-Suited.is
-    (c.mark_field-check.ensures b) c.in-Failed.is
-
-pub returns-in-Unsuited : goal.returns-in-Unsuited
-returns-in-Unsuited c =
-    λ b.
-    fixing_unsuited c.loop-i-test.true (c.loop-i.invariant.3 b) c.listed_at-listed.ensures.0 c.in-Unsuited.is
+    rw (p.1, p.2)
+    (fixing_fails (omega arith) (c.loop-i.invariant.1 b) c.listed_at.ensures.0 c.in-Some.is (c.mark_field.ensures b) c.in_err-mark_field.was)
 
 pub loop-i-preserved : goal.loop-i-preserved
-loop-i-preserved c =
-    let l = c.loop-i.invariant in (
-      c.loop-i-test.true,
-      omega (arith, l.1),
-      c.mark_field-check.auto.map ∙ l.2,
-      λ b.
-          fixing_more c.loop-i-test.true (l.3 b) c.listed_at-listed.ensures.0 c.in-Suited.is (c.mark_field-check.ensures b)
-          c.in_default.is,
-    )
+loop-i-preserved c = (
+  c.mark_field.auto.map ∙ c.loop-i.invariant.0,
+  λ b.
+      fixing_more (omega arith) (c.loop-i.invariant.1 b) c.listed_at.ensures.0 c.in-Some.is (c.mark_field.ensures b) (omega arith)
+      c.in_ok-mark_field.was,
+)
 
 pub returns : goal.returns
-returns c =
-    let l = c.loop-i.invariant in
-    λ b. fixing_end c.requires.1 l.1 l.0 c.loop-i-test.false (l.3 b)
+returns c = λ b. fixing_end (omega arith) (c.loop-i.invariant.1 b)

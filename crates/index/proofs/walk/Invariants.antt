@@ -6,8 +6,8 @@ use lib.ListN.{length}
 use Rattle.index.proofs.Going.{Going}
 use Rattle.index.proofs.walk.Given as goal
 
-abbrev pub invariant-loop-fault : goal.invariant-loop-fault
-invariant-loop-fault l = (length l.map ≡ 65536) × Going l.index l.bases l.cursor l.map
+abbrev pub invariant-loop-found : goal.invariant-loop-found
+invariant-loop-found l = (length l.map ≡ 65536) × Going l.index l.bases l.cursor l.map
 
-abbrev pub decreases-loop-fault : goal.decreases-loop-fault
-decreases-loop-fault l = length l.index - l.cursor.at
+abbrev pub decreases-loop-found : goal.decreases-loop-found
+decreases-loop-found l = length l.index - l.cursor.at
