@@ -13,9 +13,8 @@ use Rattle.acx.specs.Call.{load}
 use Rattle.acx.specs.Demand2.{total}
 use Rattle.answer.proofs.Checks.{and_true}
 use Rattle.answer.specs.Checks.{pick}
-use Rattle.answer.specs.declared.Outcome.{Outcome}
-use Rattle.answer.specs.declared.Outcome.TheVariants.{Accepted}
-use Rattle.answer.specs.declared.Start.{Start}
+use Rattle.answer.specs.Report.{Outcome, acceptance}
+use Rattle.std.proofs.Common.{Option}
 use Rattle.events.specs.Events.{marks, blank}
 use Rattle.index.proofs.Hollow.{hollow, hollow_outlines}
 use Rattle.pieces.specs.AtBases.{start_of}
@@ -72,7 +71,7 @@ module _ (c : Call) (m : List ℕ) where
   module _ (ps : List Outline) (x : Allowed c m ps) where
     -- what a call reports that may move the pieces
     pub reports_moved : outcome_of c m
-        ≡ Accepted (start_of c.new x.new.entry) (total (λ o. o.size) ps) (total (λ o. length o.fields) ps) 0 0
+        ≡ acceptance (start_of c.new x.new.entry) (total (λ o. o.size) ps) (total (λ o. length o.fields) ps) 0 0
     reports_moved = ap (λ (t : Report). t.outcome) (report_is c m ps x)
 
     -- demand 3 of it, as a list of one
@@ -88,7 +87,7 @@ module _ (c : Call) (m : List ℕ) where
 
 module _ (c : Call) (m : List ℕ) (r : Outcome) (m' p' s' : List ℕ) (w : Moved c m r m' p' s') where
   -- what document 01 says of a call that is accepted
-  leaves : Bytes c.source.bytes → Bytes m → (start : Start) (placed adjusted names low : ℕ) → r ≡ Accepted start placed adjusted names low
+  leaves : Bytes c.source.bytes → Bytes m → (start : Option ℕ) (placed adjusted names low : ℕ) → r ≡ acceptance start placed adjusted names low
       → AcceptedMove c m r m' p' s'
   unfolding scratch_after pick
   leaves b y start placed adjusted names low e =
@@ -117,7 +116,7 @@ module _ (c : Call) (m : List ℕ) (r : Outcome) (m' p' s' : List ℕ) (w : Move
 
   -- it is accepted where the handler is at both bases
   accepts : sized c m ≡ true → (ps qs : List Outline) → AcceptedAt c.source ps c.old → (at_new : AcceptedAt c.source qs c.new)
-      → r ≡ Accepted (start_of c.new at_new.entry) (total (λ o. o.size) qs) (total (λ o. length o.fields) qs) 0 0
+      → r ≡ acceptance (start_of c.new at_new.entry) (total (λ o. o.size) qs) (total (λ o. length o.fields) qs) 0 0
   accepts z ps qs at_old at_new =
       let e = (same_at c.source ps qs c.old c.new at_old at_new).0 in
       let old = subst (λ (os : List Outline). AcceptedAt c.source os c.old) e at_old in

@@ -11,11 +11,10 @@ use lib.ListN.{length}
 use Rattle.acx.specs.Walk.{Verdict, accepted, refused, report}
 use Rattle.answer.proofs.Outcomes.{is_refused, fault_in}
 use Rattle.answer.specs.Checks.{need, pick}
-use Rattle.answer.specs.Report.{number_of}
+use Rattle.std.proofs.Common.{Ok, Err}
+use Rattle.answer.specs.Report.{Outcome, refusal, number_of}
 use Rattle.answer.specs.declared.Fault.{Fault}
 use Rattle.answer.specs.declared.Fault.TheVariants.{WrongBuffer, SettingOutOfRange, FileTooLong}
-use Rattle.answer.specs.declared.Outcome.{Outcome}
-use Rattle.answer.specs.declared.Outcome.TheVariants.{Refused}
 use Rattle.events.specs.Events.{Ran}
 use Rattle.events.specs.Sizes.{file_limit}
 use Rattle.pieces.specs.Pieces.{Outline}
@@ -26,18 +25,18 @@ use Rattle.moves.specs.Outcomes.{RefusedMove, RefusesMove, at_old, at_new, OutOf
 use Rattle.moves.specs.Sources.{judged_at, ranged, LocatedIn}
 
 -- two refusals that are one have the same parts
-same_parts : {f g : Fault} {i j k l : ℕ} (P : Fault → ℕ → ℕ → Type 0) → P f i j → Refused f i j ≡ Refused g k l → P g k l
-same_parts {f} {g} {i} {j} {k} {l} P h e =
-    let ef : f ≡ g = cc in
-    let ei : i ≡ k = cc in
-    let ej : j ≡ l = cc in
-    subst (P g k) ej (subst (λ (n : ℕ). P g n j) ei (subst (λ (a : Fault). P a i j) ef h))
+same_parts : {f g : Fault} {i j k l : ℕ} (P : Fault → ℕ → ℕ → Type 0) → P f i j → refusal f i j ≡ refusal g k l → P g k l
+same_parts P h e = subst Parts e h
+  where
+    Parts : Outcome → Type 0
+    Parts (Ok counts) = Unit {0}
+    Parts (Err why) = P why.fault why.offset why.side
 
 module _ (c : Call) (m : List ℕ) where
   -- ---- the outcome, by the lengths and the two sides
 
   -- a length is wrong
-  outcome_wrong : sized c m ≡ false → outcome_of c m ≡ Refused WrongBuffer 0 0
+  outcome_wrong : sized c m ≡ false → outcome_of c m ≡ refusal WrongBuffer 0 0
   unfolding outcome_of ruling need
   outcome_wrong h = rw h refl
 
@@ -48,7 +47,7 @@ module _ (c : Call) (m : List ℕ) where
     outcome_right = rw h refl
 
     -- a call is refused as a side is
-    pub outcome_refused : (fault : Fault) (offset side : ℕ) → RefusesMove c fault offset side → outcome_of c m ≡ Refused fault offset side
+    pub outcome_refused : (fault : Fault) (offset side : ℕ) → RefusesMove c fault offset side → outcome_of c m ≡ refusal fault offset side
     outcome_refused fault offset side (at_old k) =
         let n = judged_at c.source c.new in
         outcome_right ∙ ap (λ (v : Verdict Outline). outcome_by c.new n (sides v n.answer)) (judged_refused c.source c.old fault offset k)
@@ -59,13 +58,13 @@ module _ (c : Call) (m : List ℕ) where
         ∙ ap (λ (v : Verdict Outline). outcome_by c.new n (sides (accepted ps a.entry) v)) (judged_refused c.source c.new fault offset k)
 
     -- and only so
-    refused_outcome : (fault : Fault) (offset side : ℕ) → outcome_of c m ≡ Refused fault offset side → RefusesMove c fault offset side
+    refused_outcome : (fault : Fault) (offset side : ℕ) → outcome_of c m ≡ refusal fault offset side → RefusesMove c fault offset side
     refused_outcome fault offset side e = by (judged_at c.source c.old).answer n.answer refl refl (sym outcome_right ∙ e)
       where
         n : Ran (Verdict Outline)
         n = judged_at c.source c.new
 
-        by : (u v : Verdict Outline) → (judged_at c.source c.old).answer ≡ u → n.answer ≡ v → outcome_by c.new n (sides u v) ≡ Refused fault offset side
+        by : (u v : Verdict Outline) → (judged_at c.source c.old).answer ≡ u → n.answer ≡ v → outcome_by c.new n (sides u v) ≡ refusal fault offset side
             → RefusesMove c fault offset side
         by (refused f a) v eu ev e = same_parts (RefusesMove c) (at_old (refused_as c.source c.old f a eu)) e
         by (accepted ps entry) (refused f a) eu ev e =
@@ -107,7 +106,7 @@ module _ (c : Call) where
 
 module _ (c : Call) (m : List ℕ) (r : Outcome) (m' p' s' : List ℕ) (w : Moved c m r m' p' s') where
   -- whichever fault is not 1 came with the right lengths
-  right_lengths : (fault : Fault) (offset side : ℕ) → r ≡ Refused fault offset side → ¬ (fault ≡ WrongBuffer) → sized c m ≡ true
+  right_lengths : (fault : Fault) (offset side : ℕ) → r ≡ refusal fault offset side → ¬ (fault ≡ WrongBuffer) → sized c m ≡ true
   right_lengths fault offset side e n = by (sized c m) refl
     where
       by : (t : Bool) → sized c m ≡ t → sized c m ≡ true
@@ -115,14 +114,14 @@ module _ (c : Call) (m : List ℕ) (r : Outcome) (m' p' s' : List ℕ) (w : Move
       by false h = absurd (n (ap fault_in (sym e ∙ w.outcome ∙ outcome_wrong c m h)))
 
   -- and 1 with a wrong one
-  wrong_lengths : (fault : Fault) (offset side : ℕ) → r ≡ Refused fault offset side → fault ≡ WrongBuffer → sized c m ≡ false
+  wrong_lengths : (fault : Fault) (offset side : ℕ) → r ≡ refusal fault offset side → fault ≡ WrongBuffer → sized c m ≡ false
   wrong_lengths fault offset side e f = by (sized c m) refl
     where
       by : (t : Bool) → sized c m ≡ t → sized c m ≡ false
       by true h = absurd (move_sized_lem c fault offset side (refused_outcome c m h fault offset side (sym w.outcome ∙ e)) f)
       by false h = h
 
-  located : (fault : Fault) (offset side : ℕ) → r ≡ Refused fault offset side → LocatedIn c.source.format (length c.source.bytes) fault offset
+  located : (fault : Fault) (offset side : ℕ) → r ≡ refusal fault offset side → LocatedIn c.source.format (length c.source.bytes) fault offset
   located fault offset side e = by (sized c m) refl
     where
       by : (t : Bool) → sized c m ≡ t → LocatedIn c.source.format (length c.source.bytes) fault offset
@@ -130,7 +129,7 @@ module _ (c : Call) (m : List ℕ) (r : Outcome) (m' p' s' : List ℕ) (w : Move
       by false h =
           same_parts (λ f i j. LocatedIn c.source.format (length c.source.bytes) f i) (located_wrong c.source.format (length c.source.bytes)) (sym (outcome_wrong c m h) ∙ sym w.outcome ∙ e)
 
-  leaves : (fault : Fault) (offset side : ℕ) → r ≡ Refused fault offset side → RefusedMove c fault m m' p' s'
+  leaves : (fault : Fault) (offset side : ℕ) → r ≡ refusal fault offset side → RefusedMove c fault m m' p' s'
   unfolding map_after scratch_after pick
   leaves fault offset side e =
       record {

@@ -11,8 +11,8 @@ use Rattle.answer.proofs.Outcomes.{is_refused}
 use Rattle.answer.specs.Checks.{need, pick}
 use Rattle.answer.specs.declared.Fault.{Fault}
 use Rattle.answer.specs.declared.Fault.TheVariants.{WrongBuffer}
-use Rattle.answer.specs.declared.Outcome.TheVariants.{Accepted, Refused}
-use Rattle.answer.specs.declared.Start.{Start}
+use Rattle.answer.specs.Report.{acceptance, refusal}
+use Rattle.std.proofs.Common.{Option}
 use Rattle.events.specs.Events.{blank, Ran}
 use Rattle.pieces.specs.Pieces.{Outline}
 use Rattle.pieces.specs.declared.Bases.{Bases}
@@ -58,7 +58,7 @@ ranges h old new a =
 -- ---- what an outcome says of the ruling
 
 -- an acceptance is of a move that is allowed
-pub accepted_allows : (b : Bases) (o : Ran (Verdict Outline)) (v : Ruling) {start : Start} {i j k l : ℕ} → outcome_by b o v ≡ Accepted start i j k l
+pub accepted_allows : (b : Bases) (o : Ran (Verdict Outline)) (v : Ruling) {start : Option ℕ} {i j k l : ℕ} → outcome_by b o v ≡ acceptance start i j k l
     → Allows v
 accepted_allows b o (allows ps) e = tt
 accepted_allows b o (refuses fault at side) e = absurd (false≢true (sym (ap is_refused e)))
@@ -125,14 +125,14 @@ module _ (c : Call) (m : List ℕ) (ps : List Outline) (x : Allowed c m ps) wher
   report_is = rw (allows_ruling c m ps x, x.buffers) refl ∙ report_at_lem c.source ps c.new x.new
 
 -- a call that was accepted may move its pieces
-pub accepted_allowed : (c : Call) (m : List ℕ) {start : Start} {i j k l : ℕ} → outcome_of c m ≡ Accepted start i j k l → Allowed c m (pieces_of (ruling c m))
+pub accepted_allowed : (c : Call) (m : List ℕ) {start : Option ℕ} {i j k l : ℕ} → outcome_of c m ≡ acceptance start i j k l → Allowed c m (pieces_of (ruling c m))
 unfolding outcome_of
 accepted_allowed c m e =
     let v = ruling c m in
     ruling_allows c m (pieces_of v) (allows_is v (accepted_allows c.new (judged_at c.source c.new) v e))
 
 -- a call that was refused leaves memory, and would leave the map clear
-pub refused_call : (c : Call) (m : List ℕ) {fault : Fault} {at side : ℕ} → outcome_of c m ≡ Refused fault at side
+pub refused_call : (c : Call) (m : List ℕ) {fault : Fault} {at side : ℕ} → outcome_of c m ≡ refusal fault at side
     → (memory_after c m ≡ m) × (map_by (judged_at c.source c.new) (ruling c m) ≡ blank)
 unfolding outcome_of memory_after
 refused_call c m e =

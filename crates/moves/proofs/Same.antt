@@ -7,8 +7,7 @@ use Prim.Native.Nat.{ℕ}
 use Rattle.acx.specs.Walk.{Verdict, accepted, refused}
 use Rattle.answer.specs.Checks.{pick}
 use Rattle.answer.specs.declared.Fault.{Fault}
-use Rattle.answer.specs.declared.Outcome.{Outcome}
-use Rattle.answer.specs.declared.Outcome.TheVariants.{Refused}
+use Rattle.answer.specs.Report.{Outcome, refusal}
 use Rattle.events.specs.Events.{blank}
 use Rattle.index.proofs.Built.{agrees}
 use Rattle.index.specs.Built.{BuiltFrom}
@@ -35,7 +34,7 @@ module _ (c : Call) (m : List ℕ) (h : sized c m ≡ true) where
   scratch_clear = ap (λ (t : Bool). pick t blank c.scratch) h
 
   -- and where it was refused its map
-  map_clear : {fault : Fault} {at side : ℕ} → outcome_of c m ≡ Refused fault at side → map_after c m ≡ blank
+  map_clear : {fault : Fault} {at side : ℕ} → outcome_of c m ≡ refusal fault at side → map_after c m ≡ blank
   unfolding map_after pick
   map_clear e = ap (λ (t : Bool). pick t (map_by (judged_at c.source c.new) (ruling c m)) c.map) h ∙ (refused_call c m e).1
 

@@ -17,10 +17,9 @@ use Rattle.acx.specs.Rules.{out_of_range, too_long}
 use Rattle.acx.specs.Walk.{Verdict, accepted, refused, report, reported}
 use Rattle.answer.proofs.Faults.{early_located}
 use Rattle.answer.proofs.Outcomes.{is_refused}
-use Rattle.answer.specs.Report.{adjusted_of}
+use Rattle.answer.specs.Report.{acceptance, refusal, adjusted_of}
 use Rattle.answer.specs.declared.Fault.{Fault}
 use Rattle.answer.specs.declared.Fault.TheVariants.{WrongBuffer, SettingOutOfRange, FileTooLong}
-use Rattle.answer.specs.declared.Outcome.TheVariants.{Accepted, Refused}
 use Rattle.events.specs.Events.{Event, marks, blank, placed_in, adjusted_in, Ran}
 use Rattle.events.specs.Sizes.{file_limit}
 use Rattle.index.proofs.Hollow.{hollow, hollow_outlines, same_marks}
@@ -51,7 +50,7 @@ marks_for b os = marks (events b (map hollow os)) blank
 -- the answer and the map
 abbrev pub report_for : Bases → List Outline → Entry → Report
 report_for b os entry =
-    record { outcome = Accepted (start_of b entry) (total (λ o. o.size) os) (total (λ o. length o.fields) os) 0 0; map = marks_for b os }
+    record { outcome = acceptance (start_of b entry) (total (λ o. o.size) os) (total (λ o. length o.fields) os) 0 0; map = marks_for b os }
 
 -- a sum over outlines is one over their pieces
 total_outlines : (n : Outline → ℕ) (ps : List Piece) → total n (map outline ps) ≡ total (λ p. n (outline p)) ps
@@ -72,8 +71,8 @@ reports_by b o os entry ps e i es =
     sym (same_marks b ps blank) ∙ ap (λ (qs : List Outline). marks (events b (map hollow qs)) blank) (sym i) in
     ap (λ (v : Verdict Outline). record { outcome = report b v o.events; map = loaded_map v o.events }) e
     ∙ ap (λ (gs : List Event). record { outcome = report b (accepted os entry) gs; map = marks gs blank }) es
-    ∙ ap (λ (t : ℕ). record { outcome = Accepted (start_of b entry) t (adjusted_in (events b ps)) 0 0; map = marks (events b ps) blank }) n
-    ∙ ap (λ (t : ℕ). record { outcome = Accepted (start_of b entry) (total (λ q. q.size) os) t 0 0; map = marks (events b ps) blank }) k
+    ∙ ap (λ (t : ℕ). record { outcome = acceptance (start_of b entry) t (adjusted_in (events b ps)) 0 0; map = marks (events b ps) blank }) n
+    ∙ ap (λ (t : ℕ). record { outcome = acceptance (start_of b entry) (total (λ q. q.size) os) t 0 0; map = marks (events b ps) blank }) k
     ∙ ap (λ (t : List ℕ). record { outcome = (report_for b os entry).outcome; map = t }) l
 
 -- ---- accepted
@@ -267,6 +266,6 @@ pub counted : (h : Source) (b : Bases) → Counted h.format (length h.bytes) (re
 counted h b = counted_by h.format h.bytes b
 
 -- a refusal counts nothing
-pub counted_refused : (f : Format) (len : ℕ) (fault : Fault) (offset side : ℕ) → Counted f len (Refused fault offset side)
+pub counted_refused : (f : Format) (len : ℕ) (fault : Fault) (offset side : ℕ) → Counted f len (refusal fault offset side)
 counted_refused (File form) len fault offset side = (omega arith, omega arith)
 counted_refused Index len fault offset side = omega arith

@@ -17,10 +17,8 @@ use Rattle.pieces.specs.Pieces.{Piece, outline, amount_of, edited, adjustments, 
 use Rattle.acx.specs.Walk.{refused, checked, turn, records_from, opening, judged}
 use Rattle.answer.specs.Checks.{need}
 use Rattle.answer.specs.declared.Fault.TheVariants.{PiecesOverlap}
-use Rattle.answer.specs.declared.Outcome.{Outcome}
-use Rattle.answer.specs.declared.Outcome.TheVariants.{Accepted, Refused}
-use Rattle.answer.specs.declared.Start.{Start}
-use Rattle.answer.specs.declared.Start.TheVariants.{At}
+use Rattle.answer.specs.Report.{Outcome, acceptance, refusal}
+use Rattle.std.proofs.Common.{Option, Some}
 use Rattle.events.proofs.Events.{length_blank}
 use Rattle.events.specs.Events.{marks, blank}
 use Rattle.events.specs.Lists.{Each}
@@ -89,13 +87,13 @@ hooked_bytes = bytes_digits 19 (number hooked)
 
 -- the handler is moved to a main base: four bytes placed, one field adjusted
 abbrev pub moved_to : ℕ → Outcome
-moved_to main = Accepted (At main) 4 1 0 0
+moved_to main = acceptance (Some main) 4 1 0 0
 
 abbrev pub list : List Answers
 list =
     record { call = asks (file_in 1 hooked) 8192 8448 blank true; answer = moved_to 8448 }
     -- onto its own vector
-    ∷ record { call = asks (file_in 1 hooked) 8448 0x0201 blank true; answer = Refused PiecesOverlap 7 1 }
+    ∷ record { call = asks (file_in 1 hooked) 8448 0x0201 blank true; answer = refusal PiecesOverlap 7 1 }
     ∷ record { call = asks (file_in 1 hooked) 8448 12416 blank true; answer = moved_to 12416 }
     ∷ []
 
@@ -128,8 +126,8 @@ beside m h = (used m h).plain.0 2 (omega arith) ((λ w. omega arith), tt)
 -- ---- a single call
 
 -- one that was accepted keeps the byte beside the vector, since no piece affects it: a place of the absolute piece, and in no field
-pub beside_kept : (m : List ℕ) → Bytes m → (start : Start) (i j k l : ℕ) (m' p' s' : List ℕ)
-    → Moved (asks (file_in 1 hooked) 8192 8448 blank true) m (Accepted start i j k l) m' p' s'
+pub beside_kept : (m : List ℕ) → Bytes m → (start : Option ℕ) (i j k l : ℕ) (m' p' s' : List ℕ)
+    → Moved (asks (file_in 1 hooked) 8192 8448 blank true) m (acceptance start i j k l) m' p' s'
     → get_or m' 0x0202 0 ≡ get_or m 0x0202 0
 beside_kept m b start i j k l m' p' s' w =
     let x = (call_exactly (asks (file_in 1 hooked) 8192 8448 blank true) m _ m' p' s' w hooked_bytes b).only start i j k l refl in

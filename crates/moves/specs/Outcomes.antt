@@ -1,14 +1,12 @@
 -- What a single call of the mover comes to, in the document's words: when it is accepted and what it then leaves, and when it is refused and
 -- with what. Proved in proofs/Outcomes.antt and Refusals.antt: `call_exactly : Claim` and `call_refusals : RefusalsClaim`.
 -- Assumes nothing.
-use Rattle.std.specs.Prelude.{true, false, List, ◌≡◌, ℕ, ◌+◌, leb, length, get_or}
+use Rattle.std.specs.Prelude.{true, false, List, ◌≡◌, ℕ, ◌+◌, leb, length, get_or, Option}
 use Rattle.acx.specs.Call.{Loaded}
 use Rattle.acx.specs.Demand2.{total}
 use Rattle.answer.specs.declared.Fault.{Fault}
 use Rattle.answer.specs.declared.Fault.TheVariants.{WrongBuffer, SettingOutOfRange, FileTooLong}
-use Rattle.answer.specs.declared.Outcome.{Outcome}
-use Rattle.answer.specs.declared.Outcome.TheVariants.{Accepted, Refused}
-use Rattle.answer.specs.declared.Start.{Start}
+use Rattle.answer.specs.Report.{Outcome, acceptance, refusal}
 use Rattle.events.specs.Events.{blank}
 use Rattle.events.specs.Lists.{Each}
 use Rattle.events.specs.Sizes.{file_limit}
@@ -66,10 +64,10 @@ pub record AcceptedMove (c : Call) (m : List ℕ) (r : Outcome) (m' p' s' : List
 -- When a call is accepted.
 pub record Exactly (c : Call) (m : List ℕ) (r : Outcome) (m' p' s' : List ℕ) : Type 0 where
   -- only if the handler is at both bases, and then it leaves what the document says
-  pub only : (start : Start) (placed adjusted names low : ℕ) → r ≡ Accepted start placed adjusted names low → AcceptedMove c m r m' p' s'
+  pub only : (start : Option ℕ) (placed adjusted names low : ℕ) → r ≡ acceptance start placed adjusted names low → AcceptedMove c m r m' p' s'
   -- if it is, and all that is lent has its length, it is, with the start and the counts at the new bases
   pub all : sized c m ≡ true → (ps qs : List Outline) → AcceptedAt c.source ps c.old → (at_new : AcceptedAt c.source qs c.new)
-      → r ≡ Accepted (start_of c.new at_new.entry) (total (λ o. o.size) qs) (total (λ o. length o.fields) qs) 0 0
+      → r ≡ acceptance (start_of c.new at_new.entry) (total (λ o. o.size) qs) (total (λ o. length o.fields) qs) 0 0
 
 -- The claim: of every call that keeps the mover's contract, by a file or an index of bytes in a memory of bytes.
 abbrev pub Claim : Type 0
@@ -101,22 +99,22 @@ pub data OutOfRange (c : Call) : ℕ → Type 0 where
 -- When a call is refused, with which fault, offset and side, and what it then leaves.
 pub record Refusals (c : Call) (m : List ℕ) (r : Outcome) (m' p' s' : List ℕ) : Type 0 where
   -- "A wrong scratch length is 1, side 0", and so is that of memory, map or C answer: 1 exactly if a length is wrong
-  pub wrong_buffer : sized c m ≡ false → r ≡ Refused WrongBuffer 0 0
-  pub wrong_buffer_only : (offset side : ℕ) → r ≡ Refused WrongBuffer offset side → sized c m ≡ false
+  pub wrong_buffer : sized c m ≡ false → r ≡ refusal WrongBuffer 0 0
+  pub wrong_buffer_only : (offset side : ℕ) → r ≡ refusal WrongBuffer offset side → sized c m ≡ false
   -- otherwise 2 exactly if a setting is out of its range
-  pub out_of_range : sized c m ≡ true → (side : ℕ) → OutOfRange c side → r ≡ Refused SettingOutOfRange 0 side
-  pub out_of_range_only : (offset side : ℕ) → r ≡ Refused SettingOutOfRange offset side → (sized c m ≡ true) × OutOfRange c side
+  pub out_of_range : sized c m ≡ true → (side : ℕ) → OutOfRange c side → r ≡ refusal SettingOutOfRange 0 side
+  pub out_of_range_only : (offset side : ℕ) → r ≡ refusal SettingOutOfRange offset side → (sized c m ≡ true) × OutOfRange c side
   -- otherwise 3 exactly if the file, or the index, is too long, which is seen at the old bases
-  pub too_long : sized c m ≡ true → ranged c.source c.old ≡ true → leb (length c.source.bytes) file_limit ≡ false → r ≡ Refused FileTooLong 0 0
-  pub too_long_only : (offset side : ℕ) → r ≡ Refused FileTooLong offset side
+  pub too_long : sized c m ≡ true → ranged c.source c.old ≡ true → leb (length c.source.bytes) file_limit ≡ false → r ≡ refusal FileTooLong 0 0
+  pub too_long_only : (offset side : ℕ) → r ≡ refusal FileTooLong offset side
       → (sized c m ≡ true) × (ranged c.source c.old ≡ true) × (leb (length c.source.bytes) file_limit ≡ false)
   -- "Beyond that it is refused exactly if .."
-  pub only : sized c m ≡ true → (fault : Fault) (offset side : ℕ) → r ≡ Refused fault offset side → RefusesMove c fault offset side
-  pub all : sized c m ≡ true → (fault : Fault) (offset side : ℕ) → RefusesMove c fault offset side → r ≡ Refused fault offset side
+  pub only : sized c m ≡ true → (fault : Fault) (offset side : ℕ) → r ≡ refusal fault offset side → RefusesMove c fault offset side
+  pub all : sized c m ≡ true → (fault : Fault) (offset side : ℕ) → RefusesMove c fault offset side → r ≡ refusal fault offset side
   -- its offset is that of a byte of the file, of 5 the file's length, of 1 to 4 zero; or that of an entry of the index
-  pub located : (fault : Fault) (offset side : ℕ) → r ≡ Refused fault offset side
+  pub located : (fault : Fault) (offset side : ℕ) → r ≡ refusal fault offset side
       → LocatedIn c.source.format (length c.source.bytes) fault offset
-  pub leaves : (fault : Fault) (offset side : ℕ) → r ≡ Refused fault offset side → RefusedMove c fault m m' p' s'
+  pub leaves : (fault : Fault) (offset side : ℕ) → r ≡ refusal fault offset side → RefusedMove c fault m m' p' s'
 
 -- The claim: of every call that keeps the mover's contract.
 abbrev pub RefusalsClaim : Type 0

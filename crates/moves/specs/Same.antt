@@ -3,8 +3,7 @@
 -- Assumes nothing.
 use Rattle.std.specs.Prelude.{true, List, ◌≡◌, ℕ}
 use Rattle.answer.specs.declared.Fault.{Fault}
-use Rattle.answer.specs.declared.Outcome.{Outcome}
-use Rattle.answer.specs.declared.Outcome.TheVariants.{Refused}
+use Rattle.answer.specs.Report.{Outcome, refusal}
 use Rattle.index.specs.Built.{BuiltFrom}
 use Rattle.words.specs.Runs.{Bytes}
 use Rattle.moves.specs.Call.{Call, sized, Moved}
@@ -13,7 +12,7 @@ use Rattle.moves.specs.Sources.{file_in, the_index}
 -- one answer, but for the offset of a refusal (where that lies: `RefusesMove` in Outcomes.antt)
 pub data SameAnswer : Outcome → Outcome → Type 0 where
   same : {r : Outcome} → SameAnswer r r
-  elsewhere : {fault : Fault} {offset other side : ℕ} → SameAnswer (Refused fault offset side) (Refused fault other side)
+  elsewhere : {fault : Fault} {offset other side : ℕ} → SameAnswer (refusal fault offset side) (refusal fault other side)
 
 -- Two calls in memories that were alike: they answered r and t, and left the memories m and n, the maps p and q and the scratches s and u.
 pub record SameMove (r t : Outcome) (m n p q s u : List ℕ) : Type 0 where

@@ -4,9 +4,8 @@ use Rattle.std.specs.Prelude.{Bool, List, map, ◌≡◌, ℕ, ◌≤◌}
 use Rattle.acx.specs.Call.{load, in_range}
 use Rattle.acx.specs.Rules.{Accepts, Refuses}
 use Rattle.acx.specs.Walk.{Verdict, accepted, refused}
-use Rattle.answer.specs.Report.{placed_of, adjusted_of, Located}
+use Rattle.answer.specs.Report.{Outcome, placed_of, adjusted_of, Located}
 use Rattle.answer.specs.declared.Fault.{Fault}
-use Rattle.answer.specs.declared.Outcome.{Outcome}
 use Rattle.events.specs.Events.{Ran}
 use Rattle.index.specs.Built.{BuiltFrom}
 use Rattle.index.specs.Rules.{LocatedEntry, Accepts as IndexAccepts, Refuses as IndexRefuses}

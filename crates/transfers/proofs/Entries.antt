@@ -6,12 +6,11 @@ use Prim.Native.Nat.{ℕ, ◌+◌, ◌-◌, ◌≤◌, ◌<◌}
 use native.Mathlib.Omega.{arith}
 use borrow.Rule.Slice.PartMut.{mid_of, put_mid}
 use lib.ListN.{length}
+use Rattle.std.proofs.Common.{Ok, Err}
 use Rattle.acx.proofs.WellPlaced.{fits_memory}
-use Rattle.answer.specs.declared.Fault.{Fault}
 use Rattle.entries.proofs.Reading.{lies_as}
-use Rattle.entries.specs.Entries.{fields_to, read}
-use Rattle.entries.specs.declared.IndexEntry.{IndexEntry}
-use Rattle.entries.specs.declared.IndexEntry.TheVariants.{Code, End, Faulty}
+use Rattle.entries.specs.Entries.{Read, fields_to, read}
+use Rattle.entries.specs.declared.IndexEntry.TheVariants.{Code, End}
 use Rattle.events.proofs.Lists.{each_zip3}
 use Rattle.events.specs.Lists.{Each}
 use Rattle.index.proofs.Holding.{Readable, Leads, at_first, and_then, Holds}
@@ -76,25 +75,25 @@ module _ (index : List ℕ) (last : Progress) where
   so_far P s arrived h = h
   so_far P s (goes_on r x) h = before (entry_at index s) (so_far P (stepped index s (entry_at index s)) x h)
     where
-      before : (e : IndexEntry) → Each P (stepped index s e).outlines → Each P s.outlines
-      before (Code kind address n from count) k = k.1
-      before (End entry next) k = k
-      before (Faulty fault) k = k
+      before : (e : Read) → Each P (stepped index s e).outlines → Each P s.outlines
+      before (Ok (Code kind address n from count)) k = k.1
+      before (Ok (End entry next)) k = k
+      before (Err fault) k = k
 
   -- an entry that is read: code leads on, and the end entry is the last
-  abbrev There : Progress → IndexEntry → Type 0
-  There s (Code kind address n from count) = Onto (stepped index s (Code kind address n from count))
-  There s (End entry next) = s ≡ last
-  There s (Faulty fault) = ⊥
+  abbrev There : Progress → Read → Type 0
+  There s (Ok (Code kind address n from count)) = Onto (stepped index s (Ok (Code kind address n from count)))
+  There s (Ok (End entry next)) = s ≡ last
+  There s (Err fault) = ⊥
 
-  there : (s : Progress) {entry : Entry} {next : ℕ} → entry_at index last ≡ End entry next → Onto s → There s (entry_at index s)
+  there : (s : Progress) {entry : Entry} {next : ℕ} → entry_at index last ≡ Ok (End entry next) → Onto s → There s (entry_at index s)
   there s e arrived = subst (There s) (sym e) refl
   there s e (goes_on r x) = by (entry_at index s) r x
     where
-      by : (e : IndexEntry) → Readable index e → Onto (stepped index s e) → There s e
-      by (Code kind address n from count) r x = x
-      by (End entry next) r x = absurd r
-      by (Faulty fault) r x = absurd r
+      by : (e : Read) → Readable index e → Onto (stepped index s e) → There s e
+      by (Ok (Code kind address n from count)) r x = x
+      by (Ok (End entry next)) r x = absurd r
+      by (Err fault) r x = absurd r
 
 -- ---- one entry
 
@@ -157,7 +156,7 @@ module _ {index : List ℕ} {old new : Bases} {m t₀ : List ℕ} where
         gathered = refl;
       }
 
-  module _ {at : ℕ} {t : List ℕ} (x : Gathering index old new m t₀ at t) {found : IndexEntry} (is : found ≡ read index at) where
+  module _ {at : ℕ} {t : List ℕ} (x : Gathering index old new m t₀ at t) {found : Read} (is : found ≡ read index at) where
     abbrev last : Progress
     last = x.whole.holds.last
 
@@ -168,18 +167,24 @@ module _ {index : List ℕ} {old new : Bases} {m t₀ : List ℕ} where
     found_there = subst (There index last x.progress) found_is (there index last x.progress x.whole.holds.end x.onto)
 
     -- at the end entry all pieces are gathered
-    pub gathering_end : {entry : Entry} {next : ℕ} → found ≡ End entry next → t ≡ transfer old new (pieces_of (ruling_of (the_index index) old new)) m t₀
-    gathering_end e =
+    gathered_all : x.progress ≡ last → t ≡ transfer old new (pieces_of (ruling_of (the_index index) old new)) m t₀
+    gathered_all e =
         x.gathered
-        ∙ ap (λ (s : Progress). transfer old new s.outlines m t₀) (subst (There index last x.progress) e found_there)
+        ∙ ap (λ (s : Progress). transfer old new s.outlines m t₀) e
         ∙ ap (λ (os : List Outline). transfer old new os m t₀) (sym x.whole.holds.outlines)
 
-    -- no entry is at fault
-    pub gathering_fault : {fault : Fault} → found ≡ Faulty fault → t ≡ transfer old new (pieces_of (ruling_of (the_index index) old new)) m t₀
-    gathering_fault e = absurd (subst (There index last x.progress) e found_there)
+    -- what is no code is the end entry: none is at fault
+    pub gathering_end : ((kind : Kind) (address n from count : ℕ) → found ≡ Ok (Code kind address n from count) → ⊥)
+        → t ≡ transfer old new (pieces_of (ruling_of (the_index index) old new)) m t₀
+    gathering_end none = by found refl found_there
+      where
+        by : (r : Read) → found ≡ r → There index last x.progress r → t ≡ transfer old new (pieces_of (ruling_of (the_index index) old new)) m t₀
+        by (Ok (Code kind address n from count)) e h = absurd (none kind address n from count e)
+        by (Ok (End entry next)) e h = gathered_all h
+        by (Err fault) e h = absurd h
 
-    module _ {kind : Kind} {address n from count : ℕ} (e : found ≡ Code kind address n from count) where
-      onward : Onto index last (stepped index x.progress (Code kind address n from count))
+    module _ {kind : Kind} {address n from count : ℕ} (e : found ≡ Ok (Code kind address n from count)) where
+      onward : Onto index last (stepped index x.progress (Ok (Code kind address n from count)))
       onward = subst (There index last x.progress) e found_there
 
       -- a code entry may be gathered
@@ -190,7 +195,7 @@ module _ {index : List ℕ} {old new : Bases} {m t₀ : List ℕ} where
             behind = omega (arith, w.0, x.here);
             within = w.1;
             movable =
-                (so_far index last (Movable old new) (stepped index x.progress (Code kind address n from count)) onward
+                (so_far index last (Movable old new) (stepped index x.progress (Ok (Code kind address n from count))) onward
                 (subst (Each (Movable old new)) x.whole.holds.outlines x.whole.movable)
                 ).0;
           }
@@ -202,7 +207,7 @@ module _ {index : List ℕ} {old new : Bases} {m t₀ : List ℕ} where
       gathering_on {t'} d =
           record {
             whole = x.whole;
-            progress = stepped index x.progress (Code kind address n from count);
+            progress = stepped index x.progress (Ok (Code kind address n from count));
             here = refl;
             in_index = gathering_code.within;
             onto = onward;
@@ -214,8 +219,4 @@ module _ {index : List ℕ} {old new : Bases} {m t₀ : List ℕ} where
 
       -- what is lent of the index
       pub gathering_lent : Movable old new (outline_of kind address n (mid_of from (from + count - from) index))
-          × (length (mid_of from (from + count - from) index) ≤ 65536)
-      gathering_lent =
-          let c = gathering_code in
-          let l = ap length (lent_is from count index) ∙ length_part index from count c.within in
-          (rw (lent_is from count index) c.movable, omega (arith, l, c.within, x.whole.fits))
+      gathering_lent = rw (lent_is from count index) gathering_code.movable

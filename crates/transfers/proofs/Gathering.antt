@@ -4,10 +4,9 @@ use mathlib.Core.List.{List, [], ◌∷◌, ◌++◌, map}
 use mathlib.Core.Path.{◌≡◌, refl, sym, ap, ◌∙◌}
 use Prim.Native.Nat.{ℕ, ◌+◌, ◌-◌, ◌≤◌}
 use native.Mathlib.Omega.{arith}
-use types.Run.{OneOf}
-use denote.Enum.Declared.{tag_of}
 use borrow.Rule.Slice.PartMut.{mid_of, put_mid}
 use lib.ListN.{length}
+use Rattle.std.proofs.Common.{Ok, Err}
 use Rattle.acx.proofs.Cursors.{Tracks, tracks_first, tracks_found, tracks_on, tracks_passes, tracks_to_end, tracks_onward}
 use Rattle.pieces.proofs.Edits.{length_edited, edited_append}
 use Rattle.pieces.proofs.Marks.{fields_fresh}
@@ -18,23 +17,23 @@ use Rattle.acx.specs.Cursor.{first_cursor, advanced}
 use Rattle.acx.specs.Rules.{Onward}
 use Rattle.pieces.specs.Places.{Inside}
 use Rattle.pieces.specs.Pieces.{Piece, Outline, outline, place_at, place_of, edited, events}
-use Rattle.acx.specs.Walk.{Verdict, accepted, Progress, begun, last_of, last_place, last_size, record_at, with_fields, stepped, records_of, opening_size}
+use Rattle.acx.specs.Walk.{Verdict, accepted, Progress, begun, last_of, last_place, last_size, record_at, checked_as, checked, with_fields, stepped, records_of, opening_size}
 use Rattle.pieces.specs.declared.Bases.{Bases}
 use Rattle.acx.specs.declared.Cursor.{Cursor}
-use Rattle.answer.specs.declared.Fault.{Fault}
+use Rattle.answer.specs.declared.Failure.{Failure}
+use Rattle.events.proofs.Checks.{failed_passed}
 use Rattle.events.proofs.Events.{length_marks, length_blank}
 use Rattle.events.specs.Events.{marks, blank, Ran}
 use Rattle.events.specs.Lists.{Each}
 use Rattle.records.proofs.Reading.{AfterCode, lies_as, fixups_after}
-use Rattle.records.specs.contracts.Record.{the_type}
 use Rattle.fields.specs.Fields.{item_size, fields_of}
-use Rattle.records.specs.Records.{read}
+use Rattle.records.specs.Records.{Read, read}
 use Rattle.records.specs.declared.Entry.{Entry}
 use Rattle.fields.specs.declared.Field.{Field}
 use Rattle.fields.specs.declared.Fixup.{Fixup}
 use Rattle.records.specs.declared.Kind.{Kind}
 use Rattle.records.specs.declared.Record.{Record}
-use Rattle.records.specs.declared.Record.TheVariants.{Code, Fixups, End, Faulty}
+use Rattle.records.specs.declared.Record.TheVariants.{Code, Fixups, End}
 use Rattle.words.proofs.Lent.{lent_is, back_is}
 use Rattle.words.proofs.Runs.{length_part, length_put, part_put_long, put_put}
 use Rattle.words.specs.Runs.{part, put}
@@ -126,7 +125,7 @@ fields_gathered old new m t₀ t fs (p ∷ ps) h i j e = fields_taken old new m 
 
 -- the fields of a record that passed lie in the last code
 fields_inside : (file : List ℕ) (b : Bases) (s : Progress) (fixup : Fixup) (from n : ℕ) → last_place b s.pieces + last_size s.pieces ≤ 65536
-    → record_at file s ≡ Fixups fixup from n
+    → record_at file s ≡ Ok (Fixups fixup from n)
     → Passes file b s → Each (Inside (last_size s.pieces)) (fields_of fixup (part file from n))
 fields_inside file b s fixup from n h e c =
     let p = marks (events b s.pieces) blank in
@@ -141,10 +140,10 @@ gathered_on : (file : List ℕ) (old new : Bases) (m t₀ t : List ℕ) (source 
     → last_place new s.pieces + last_size s.pieces ≤ 65536
     → target.place ≡ last_place new s.pieces
     → target.size ≡ last_size s.pieces
-    → record_at file s ≡ r
-    → Onward r
+    → record_at file s ≡ Ok r
+    → Onward (Ok r)
     → t ≡ transfer old new (map outline s.pieces) m t₀
-    → scratch_with file old new (advanced old source r) (advanced new target r) m t r ≡ transfer old new (map outline (stepped file s r).pieces) m t₀
+    → scratch_with file old new (advanced old source r) (advanced new target r) m t r ≡ transfer old new (map outline (stepped file s (Ok r)).pieces) m t₀
 unfolding scratch_with
 gathered_on file old new m t₀ t source target s (Code kind address from n) lm lt i j ep es e o g =
     let h = (lies_as file s.at (last_of s.pieces) _ e).1 in
@@ -156,19 +155,17 @@ gathered_on file old new m t₀ t source target s (Fixups fixup from n) lm lt i 
     (omega arith)
     (omega arith) g)
 gathered_on file old new m t₀ t source target s (End entry next) lm lt i j ep es e o g = absurd o
-gathered_on file old new m t₀ t source target s (Faulty fault offset) lm lt i j ep es e o g = absurd o
 
 -- the fields of a record lie in the last code
 sound : (file : List ℕ) (b : Bases) (c : Cursor) (s : Progress) (r : Record) → last_place b s.pieces + last_size s.pieces ≤ 65536
     → c.size ≡ last_size s.pieces
-    → record_at file s ≡ r
+    → record_at file s ≡ Ok r
     → Passes file b s
     → Sound file (advanced b c r).size r
 sound file b c s (Code kind address from n) i es e k = tt
 sound file b c s (Fixups fixup from n) i es e k =
     ((lies_as file s.at (last_of s.pieces) _ e).1, rw es (fields_inside file b s fixup from n i e k))
 sound file b c s (End entry next) i es e k = tt
-sound file b c s (Faulty fault offset) i es e k = tt
 
 -- a part of memory copied into a part of the scratch
 pub taken : (place to size : ℕ) (m t bs : List ℕ) → place + size ≤ length m → to + size ≤ length t → bs ≡ mid_of place (place + size - place) m
@@ -216,29 +213,20 @@ module _ (file : List ℕ) (old new : Bases) (source target : Cursor) (m t : Lis
   unfolding scratch_with
   gathers_end e = rw e refl
 
-  pub gathers_fault : {fault : Fault} {offset : ℕ} → r ≡ Faulty fault offset → t ≡ scratch_with file old new source target m t r
-  unfolding scratch_with
-  gathers_fault e = rw e refl
-
 -- a fixup record may be gathered: it lies in the file, and its fields in the code
 pub gathers_sound : (file : List ℕ) (size : ℕ) (r : Record) → Sound file size r → {fixup : Fixup} {from n : ℕ} → r ≡ Fixups fixup from n
     → (from + n ≤ length file) × Each (Inside size) (fields_of fixup (part file from n))
 gathers_sound file size r h e = rw e at h
 
 -- the items and the code that are then lent
-pub gathers_lent : (file : List ℕ) (target : Cursor) (t : List ℕ) (fixup : Fixup) (from k : ℕ) → length file ≤ 65536
-    → target.place + target.size ≤ length t
-    → (from + k ≤ length file) × Each (Inside target.size) (fields_of fixup (part file from k))
-    → (length (mid_of from (from + k - from) file) ≤ 65536)
-    × Each (Inside (length (mid_of target.place (target.place + target.size - target.place) t)))
-    (fields_of fixup (mid_of from (from + k - from) file))
-gathers_lent file target t fixup from k l j h =
-    let items = lent_is from k file in
+pub gathers_lent : (file : List ℕ) (target : Cursor) (t : List ℕ) (fixup : Fixup) (from k : ℕ) → target.place + target.size ≤ length t
+    → Each (Inside target.size) (fields_of fixup (part file from k))
+    → Each (Inside (length (mid_of target.place (target.place + target.size - target.place) t))) (fields_of fixup (mid_of from (from + k - from) file))
+gathers_lent file target t fixup from k j h =
     let code = lent_is target.place target.size t in
     let n : length (mid_of target.place (target.place + target.size - target.place) t) ≡ target.size =
     ap length code ∙ length_part t target.place target.size j in
-    let i : length (mid_of from (from + k - from) file) ≡ k = ap length items ∙ length_part file from k h.0 in
-    (omega (arith, i, l, h.0), rw (n, items) h.1)
+    rw (n, lent_is from k file) h
 
 -- ---- a turn of the loop
 
@@ -257,52 +245,61 @@ module _ {file : List ℕ} {old new : Bases} {first : ℕ} {m t₀ : List ℕ} w
 
   module _ {source target : Cursor} {t : List ℕ} (x : Gathering file old new first m t₀ source target t)
       {qs : List Piece} {entry : Entry} (yes_old : (records_of file old first).answer ≡ accepted qs entry)
-      (yes_new : (records_of file new first).answer ≡ accepted qs entry) {found : Record} (is : found ≡ read file source.at source.last) where
-    -- the record that the program reads is the definition's, at both pairs of bases
-    pub found_is : record_at file x.progress ≡ found
-    found_is = tracks_found x.at_old is
+      (yes_new : (records_of file new first).answer ≡ accepted qs entry) where
+    -- no record is at fault
+    pub gathering_read : {e : Failure} → Err e ≡ read file source.at source.last → ⊥
+    unfolding checked
+    gathering_read {e} is =
+        let p = marks (events old x.progress.pieces) blank in
+        failed_passed
+        (ap (λ (r : Read). (checked_as file old x.progress r p).answer) (sym (tracks_found x.at_old is)) ∙ tracks_passes x.at_old yes_old)
 
-    -- at the end record all pieces are gathered
-    pub gathering_end : {other : Entry} {next : ℕ} {os : List Outline} → found ≡ End other next → os ≡ map outline qs → t ≡ transfer old new os m t₀
-    gathering_end e o =
-        x.gathered
-        ∙ ap (λ (ps : List Piece). transfer old new (map outline ps) m t₀) (tracks_to_end x.at_old yes_old found_is e)
-        ∙ ap (λ (rs : List Outline). transfer old new rs m t₀) (sym o)
+    module _ {found : Record} (is : Ok found ≡ read file source.at source.last) where
+      -- the record that the program reads is the definition's, at both pairs of bases
+      pub found_is : record_at file x.progress ≡ Ok found
+      found_is = tracks_found x.at_old is
 
-    -- every other record leads on
-    pub gathering_onward : OneOf (0 ∷ 1 ∷ 3 ∷ []) (tag_of the_type found) → Onward found
-    gathering_onward h = tracks_onward x.at_old yes_old found_is h
+      -- at the end record all pieces are gathered
+      pub gathering_end : {other : Entry} {next : ℕ} {os : List Outline} → found ≡ End other next → os ≡ map outline qs → t ≡ transfer old new os m t₀
+      gathering_end e o =
+          x.gathered
+          ∙ ap (λ (ps : List Piece). transfer old new (map outline ps) m t₀) (tracks_to_end x.at_old yes_old found_is e)
+          ∙ ap (λ (rs : List Outline). transfer old new rs m t₀) (sym o)
 
-    module _ (o : Onward found) where
-      -- the walks at both pairs of bases come to their cursors behind it
-      pub next_old : Tracks file old first (advanced old source found) (stepped file x.progress found)
-      next_old = tracks_on x.at_old found_is o (tracks_passes x.at_old yes_old)
+      -- every other record leads on
+      pub gathering_onward : ((other : Entry) (next : ℕ) → found ≡ End other next → ⊥) → Onward (Ok found)
+      gathering_onward h = tracks_onward x.at_old yes_old found_is h
 
-      pub next_new : Tracks file new first (advanced new target found) (stepped file x.progress found)
-      next_new = tracks_on x.at_new found_is o (tracks_passes x.at_new yes_new)
+      module _ (o : Onward (Ok found)) where
+        -- the walks at both pairs of bases come to their cursors behind it
+        pub next_old : Tracks file old first (advanced old source found) (stepped file x.progress (Ok found))
+        next_old = tracks_on x.at_old found_is o (tracks_passes x.at_old yes_old)
 
-      -- and the scratch holds what the record brings
-      pub gathering_on : {t' : List ℕ} → length m ≡ 65536 → length t ≡ 65536
-          → t' ≡ scratch_with file old new (advanced old source found) (advanced new target found) m t found
-          → Gathering file old new first m t₀ (advanced old source found) (advanced new target found) t'
-      gathering_on lm lt e =
-          record {
-            progress = stepped file x.progress found;
-            at_old = next_old;
-            at_new = next_new;
-            gathered =
-                e
-                ∙ gathered_on file old new m t₀ t source target x.progress found lm lt x.at_old.stands.inside x.at_new.stands.inside
-                (ap (λ (k : Cursor). k.place) x.at_new.here)
-                (ap (λ (k : Cursor). k.size) x.at_new.here) found_is o x.gathered;
-          }
+        pub next_new : Tracks file new first (advanced new target found) (stepped file x.progress (Ok found))
+        next_new = tracks_on x.at_new found_is o (tracks_passes x.at_new yes_new)
 
-      -- the record may be gathered
-      pub gathering_sound : Sound file (advanced new target found).size found
-      gathering_sound =
-          sound file new target x.progress found x.at_new.stands.inside (ap (λ (k : Cursor). k.size) x.at_new.here) found_is
-          (tracks_passes x.at_new yes_new)
+        -- and the scratch holds what the record brings
+        pub gathering_on : {t' : List ℕ} → length m ≡ 65536 → length t ≡ 65536
+            → t' ≡ scratch_with file old new (advanced old source found) (advanced new target found) m t found
+            → Gathering file old new first m t₀ (advanced old source found) (advanced new target found) t'
+        gathering_on lm lt e =
+            record {
+              progress = stepped file x.progress (Ok found);
+              at_old = next_old;
+              at_new = next_new;
+              gathered =
+                  e
+                  ∙ gathered_on file old new m t₀ t source target x.progress found lm lt x.at_old.stands.inside x.at_new.stands.inside
+                  (ap (λ (k : Cursor). k.place) x.at_new.here)
+                  (ap (λ (k : Cursor). k.size) x.at_new.here) found_is o x.gathered;
+            }
 
-      -- the last code has one size at both cursors
-      pub gathering_sizes : (advanced old source found).size ≡ (advanced new target found).size
-      gathering_sizes = ap (λ (k : Cursor). k.size) next_old.here ∙ sym (ap (λ (k : Cursor). k.size) next_new.here)
+        -- the record may be gathered
+        pub gathering_sound : Sound file (advanced new target found).size found
+        gathering_sound =
+            sound file new target x.progress found x.at_new.stands.inside (ap (λ (k : Cursor). k.size) x.at_new.here) found_is
+            (tracks_passes x.at_new yes_new)
+
+        -- the last code has one size at both cursors
+        pub gathering_sizes : (advanced old source found).size ≡ (advanced new target found).size
+        gathering_sizes = ap (λ (k : Cursor). k.size) next_old.here ∙ sym (ap (λ (k : Cursor). k.size) next_new.here)

@@ -6,7 +6,7 @@ use Rattle.words.specs.Runs.{part, put}
 use Rattle.events.specs.Lists.{Each}
 use Rattle.fields.specs.Fields.{fields_of}
 use Rattle.records.specs.declared.Record.{Record}
-use Rattle.records.specs.declared.Record.TheVariants.{Code, Fixups, End, Faulty}
+use Rattle.records.specs.declared.Record.TheVariants.{Code, Fixups, End}
 use Rattle.pieces.specs.Places.{Inside}
 use Rattle.pieces.specs.Pieces.{Outline, place_of, edited}
 use Rattle.pieces.specs.declared.Bases.{Bases}
@@ -19,14 +19,12 @@ scratch_with file old new source target m t (Code kind address from n) = put t t
 scratch_with file old new source target m t (Fixups fixup from n) =
     put t target.place (edited (shift old new) (fields_of fixup (part file from n)) (part t target.place target.size))
 scratch_with file old new source target m t (End entry next) = t
-scratch_with file old new source target m t (Faulty fault offset) = t
 
 -- a fixup record lies in its file, and its fields in so many code bytes
 abbrev pub Sound : List ℕ → ℕ → Record → Type 0
 Sound file size (Code kind address from n) = Unit {0}
 Sound file size (Fixups fixup from n) = (from + n ≤ length file) × Each (Inside size) (fields_of fixup (part file from n))
 Sound file size (End entry next) = Unit {0}
-Sound file size (Faulty fault offset) = Unit {0}
 
 -- an outline lies in memory at both pairs of bases, and its fields in its code
 pub record Movable (old new : Bases) (o : Outline) : Type 0 where

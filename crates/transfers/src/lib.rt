@@ -19,7 +19,7 @@ ghost use Rattle.index.specs.Walk.{outline_of};
 ghost use Rattle.transfers.specs.Scratch.{scratch_with, Sound, Movable, Overlaid};
 
 use acx::Cursor;
-use entries::{IndexEntry, Listed};
+use entries::IndexEntry;
 use fields::{Field, Fixup};
 use moves::Format;
 use pieces::Bases;
@@ -49,12 +49,10 @@ fn commit(map: &[u8], scratch: &[u8], memory: &mut [u8])
     requires { (length memory.old ≡ 65536) × (length map.now ≡ 65536) × (length scratch.now ≡ 65536) }
     ensures { Overlaid map.now scratch.now memory.old memory.new }
 {
-    let mut x = 0;
-    while x < events::MEMORY {
+    for (x, byte) in memory.iter_mut().enumerate() {
         if map[x] != 0 {
-            memory[x] = scratch[x];
+            *byte = scratch[x];
         }
-        x += 1;
     }
 }
 
@@ -69,7 +67,7 @@ fn gather(format: Format, bytes: &[u8], old: Bases, new: Bases, memory: &[u8], s
     }
 }
 
-// Gathers the pieces of a file: record by record, with a cursor for each pair of bases.
+// Gathers the pieces of a file: record by record, with a cursor for each pair of bases. Where a move is allowed, no record is at fault.
 fn gather_file(form: u32, file: &[u8], old: Bases, new: Bases, memory: &[u8], scratch: &mut [u8])
     requires { Allows (ruling_of (file_in form file.now) old new) × (length memory.now ≡ 65536) × (length scratch.old ≡ 65536) }
     ensures { scratch.new ≡ transfer old new (pieces_of (ruling_of (file_in form file.now) old new)) memory.now scratch.old }
@@ -78,9 +76,10 @@ fn gather_file(form: u32, file: &[u8], old: Bases, new: Bases, memory: &[u8], sc
     let mut source = acx::first_cursor(at);
     let mut target = acx::first_cursor(at);
     loop {
-        let last = source.last;
-        let found = records::read(file, source.at, last);
-        if let Record::End { entry, next } = found {
+        let Ok(found) = records::read(file, source.at, source.last) else {
+            return;
+        };
+        if let Record::End { .. } = found {
             return;
         }
         source = acx::advance(old, source, found);
@@ -104,20 +103,14 @@ fn gather_record(
     ensures { scratch.new ≡ scratch_with file.now old new source target memory.now scratch.old found }
 {
     match found {
-        Record::Code {
-            kind,
-            address,
-            from,
-            size,
-        } => take_code(source.place, target.place, target.size, memory, scratch),
+        Record::Code { .. } => take_code(source.place, target.place, target.size, memory, scratch),
         Record::Fixups { fixup, from, size } => {
             let next = from + size;
             let begin = target.place;
             let end = begin + target.size;
             shift_fields(&file[from..next], fixup, old, new, &mut scratch[begin..end]);
         }
-        Record::End { entry, next } => {}
-        Record::Faulty(fault, offset) => {}
+        Record::End { .. } => {}
     }
 }
 
@@ -127,36 +120,28 @@ fn gather_index(index: &[u8], old: Bases, new: Bases, memory: &[u8], scratch: &m
     ensures { scratch.new ≡ transfer old new (pieces_of (ruling_of (the_index index.now) old new)) memory.now scratch.old }
 {
     let mut at = 1;
-    loop {
-        let found = entries::read(index, at);
-        match found {
-            IndexEntry::Code {
-                kind,
-                address,
-                size,
-                from,
-                length,
-            } => {
-                let next = from + length;
-                gather_entry(
-                    &index[from..next],
-                    kind,
-                    address,
-                    size,
-                    old,
-                    new,
-                    memory,
-                    scratch,
-                );
-                at = next;
-            }
-            IndexEntry::End { entry, next } => {
-                return;
-            }
-            IndexEntry::Faulty(fault) => {
-                return;
-            }
-        }
+    while let Ok(
+        IndexEntry::Code {
+            kind,
+            address,
+            size,
+            from,
+            length,
+        },
+    ) = entries::read(index, at)
+    {
+        let next = from + length;
+        gather_entry(
+            &index[from..next],
+            kind,
+            address,
+            size,
+            old,
+            new,
+            memory,
+            scratch,
+        );
+        at = next;
     }
 }
 
@@ -171,7 +156,7 @@ fn gather_entry(
     memory: &[u8],
     scratch: &mut [u8],
 )
-    requires { Movable old new (outline_of kind address size items.now) × (length items.now ≤ 65536) × (length memory.now ≡ 65536) × (length scratch.old ≡ 65536) }
+    requires { Movable old new (outline_of kind address size items.now) × (length memory.now ≡ 65536) × (length scratch.old ≡ 65536) }
     ensures { scratch.new ≡ transfer old new (outline_of kind address size items.now ∷ []) memory.now scratch.old }
 {
     let place = pieces::place_of(old, kind, address);
@@ -193,45 +178,35 @@ fn take_code(place: usize, to: usize, size: usize, memory: &[u8], scratch: &mut 
 
 // Shifts the fields that a fixup record lists, one by one: the amounts of the old bases off, those of the new on.
 fn shift_fields(items: &[u8], fixup: Fixup, old: Bases, new: Bases, code: &mut [u8])
-    requires { (length items.now ≤ 65536) × Each (Inside (length code.old)) (fields_of fixup items.now) }
+    requires { Each (Inside (length code.old)) (fields_of fixup items.now) }
     ensures { code.new ≡ edited (shift old new) (fields_of fixup items.now) code.old }
 {
-    let step = fields::item_size(fixup);
-    let mut i = 0;
-    while i + step <= items.len() {
-        let field = fields::field_at(items, i, fixup);
+    for item in items.chunks_exact(fields::item_size(fixup)) {
+        let field = fields::field_at(item, 0, fixup);
         shift_field(
             code,
             field,
             pieces::amount(old, field),
             pieces::amount(new, field),
         );
-        i += step;
     }
 }
 
 // Shifts the fields that the fixups of an entry list, after code of a kind, one by one.
 fn shift_listed(items: &[u8], kind: Kind, old: Bases, new: Bases, code: &mut [u8])
-    requires { (length items.now ≤ 65536) × Each (Inside (length code.old)) (fields_to kind items.now) }
+    requires { Each (Inside (length code.old)) (fields_to kind items.now) }
     ensures { code.new ≡ edited (shift old new) (fields_to kind items.now) code.old }
 {
-    let mut i = 0;
-    while i + 3 <= items.len() {
-        let listed = entries::listed_at(items, i, kind);
-        match listed {
-            Listed::Suited(field) => {
-                shift_field(
-                    code,
-                    field,
-                    pieces::amount(old, field),
-                    pieces::amount(new, field),
-                );
-            }
-            Listed::Unsuited => {
-                return;
-            }
-        }
-        i += 3;
+    for item in items.chunks_exact(3) {
+        let Some(field) = entries::listed_at(item, 0, kind) else {
+            return;
+        };
+        shift_field(
+            code,
+            field,
+            pieces::amount(old, field),
+            pieces::amount(new, field),
+        );
     }
 }
 

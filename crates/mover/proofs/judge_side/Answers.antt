@@ -7,10 +7,10 @@ use Rattle.mover.proofs.Judging.{side_refused, side_accepted}
 use Rattle.mover.specs.Parts.{bases_of}
 use Rattle.mover.proofs.judge_side.Goals as goal
 
-pub returns-in-Refused : goal.returns-in-Refused
-returns-in-Refused c =
+pub returns-in-Err : goal.returns-in-Err
+returns-in-Err c =
     let at = judged_at (source_of c.args.format c.args.bytes.now) (bases_of c.args.site) in
-    side_refused _ at _ c.walk_side-outcome.ensures c.in-Refused.is
+    side_refused _ at _ c.walk_side-outcome.ensures c.in-Err.is
     (cleared _ _ (c.walk_side-outcome.auto.map ∙ c.requires.1) c.fill.ensures)
 
 pub returns : goal.returns

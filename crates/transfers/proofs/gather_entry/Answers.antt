@@ -4,12 +4,10 @@ use Rattle.transfers.proofs.Entries.{entry_lent, entry_moved}
 use Rattle.transfers.proofs.gather_entry.Goals as goal
 
 pub shift_listed-requires : goal.shift_listed-requires
-shift_listed-requires c = (
-  c.requires.1,
-  entry_lent _ _ _ _ _ _ _ _ _ _ _ c.requires.2 c.requires.3 c.requires.0 c.place_of-place.ensures.0 c.place_of-begin.ensures.0 c.take_code.ensures,
-)
+shift_listed-requires c =
+    entry_lent _ _ _ _ _ _ _ _ _ _ _ c.requires.1 c.requires.2 c.requires.0 c.place_of-place.ensures.0 c.place_of-begin.ensures.0 c.take_code.ensures
 
 pub returns : goal.returns
 returns c =
-    entry_moved _ _ _ _ _ _ _ _ _ _ _ c.requires.2 c.requires.3 c.requires.0 c.place_of-place.ensures.0 c.place_of-begin.ensures.0 c.take_code.ensures
+    entry_moved _ _ _ _ _ _ _ _ _ _ _ c.requires.1 c.requires.2 c.requires.0 c.place_of-place.ensures.0 c.place_of-begin.ensures.0 c.take_code.ensures
     c.shift_listed.ensures

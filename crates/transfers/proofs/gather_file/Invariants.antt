@@ -7,9 +7,9 @@ use lib.ListN.{length}
 use Rattle.transfers.proofs.Gathering.{Walkable, Gathering}
 use Rattle.transfers.proofs.gather_file.Given as goal
 
-abbrev pub invariant-loop-entry : goal.invariant-loop-entry
-invariant-loop-entry l = (length l.scratch ≡ 65536) × Walkable l.form l.old l.new l.file l.at
+abbrev pub invariant-loop-found : goal.invariant-loop-found
+invariant-loop-found l = (length l.scratch ≡ 65536) × Walkable l.form l.old l.new l.file l.at
     × Gathering l.file l.old l.new l.at l.memory l.initial.scratch l.source l.target l.scratch
 
-abbrev pub decreases-loop-entry : goal.decreases-loop-entry
-decreases-loop-entry l = length l.file - l.source.at
+abbrev pub decreases-loop-found : goal.decreases-loop-found
+decreases-loop-found l = length l.file - l.source.at

@@ -1,7 +1,7 @@
 -- `transfers::gather_record` meets its contract: the part of the scratch that is lent comes back with the code in it, or with its fields changed.
 -- Assumes nothing.
 use native.Mathlib.Omega.{arith}
-use Rattle.transfers.proofs.Gathering.{gathers_lent, gathers_code, gathers_fields, gathers_end, gathers_fault, gathers_sound}
+use Rattle.transfers.proofs.Gathering.{gathers_lent, gathers_code, gathers_fields, gathers_end, gathers_sound}
 use Rattle.transfers.proofs.gather_record.Goals as goal
 
 pub overflow_add-next : goal.overflow_add-next
@@ -16,7 +16,7 @@ slice_bounds-shift_fields-end c =
 
 pub shift_fields-requires : goal.shift_fields-requires
 shift_fields-requires c =
-    gathers_lent _ c.args.target _ _ _ _ c.requires.4 c.requires.2 (gathers_sound _ _ _ c.requires.0 c.in-Fixups.is)
+    gathers_lent _ c.args.target _ _ _ _ c.requires.2 (gathers_sound _ _ _ c.requires.0 c.in-Fixups.is).1
 
 pub returns-in-Code : goal.returns-in-Code
 returns-in-Code c =
@@ -29,6 +29,3 @@ returns-in-Fixups c =
 
 pub returns-in-End : goal.returns-in-End
 returns-in-End c = gathers_end _ _ _ _ _ _ _ c.in-End.is
-
-pub returns-in-Faulty : goal.returns-in-Faulty
-returns-in-Faulty c = gathers_fault _ _ _ _ _ _ _ c.in-Faulty.is

@@ -1,13 +1,10 @@
 -- `transfers::shift_listed` meets its contract: the definition's list of fields has come to the fixup at hand (`Shifting`), or ends at a bad kind.
 -- Assumes nothing.
-use Prim.Native.Nat.{◌≤◌, ◌-◌}
-use lib.ListN.{length, drop}
+use mathlib.Core.Path.{◌≡◌}
 use Rattle.entries.specs.Entries.{fields_to}
 use Rattle.transfers.proofs.Shifting.{Shifting}
 use Rattle.transfers.proofs.shift_listed.Given as goal
 
-abbrev pub invariant-loop-i : goal.invariant-loop-i
-invariant-loop-i l = (l.i ≤ length l.items) × Shifting l.old l.new (fields_to l.kind l.items) l.initial.code (fields_to l.kind (drop l.i l.items)) l.code
-
-abbrev pub decreases-loop-i : goal.decreases-loop-i
-decreases-loop-i l = length l.items - l.i
+abbrev pub invariant-loop-item : goal.invariant-loop-item
+invariant-loop-item l = (l.item-iterator.size ≡ 3)
+    × Shifting l.old l.new (fields_to l.kind l.items) l.initial.code (fields_to l.kind l.item-iterator.rest.now) l.code
