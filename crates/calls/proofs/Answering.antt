@@ -10,10 +10,8 @@ use lib.ListN.{length}
 use Rattle.acx.proofs.Calling.{loaded_wrong}
 use Rattle.acx.specs.Call.{sized, Loaded}
 use Rattle.answer.proofs.Checks.{and_false}
-use Rattle.answer.specs.Report.{number_of, number_returned, Written}
+use Rattle.answer.specs.Report.{Outcome, refusal, number_of, number_returned, Written}
 use Rattle.answer.specs.declared.Fault.TheVariants.{WrongBuffer}
-use Rattle.answer.specs.declared.Outcome.{Outcome}
-use Rattle.answer.specs.declared.Outcome.TheVariants.{Refused}
 use Rattle.builder.proofs.Building.{built_wrong}
 use Rattle.builder.specs.Build.{sized as build_sized, Built}
 use Rattle.mover.proofs.Judging.{moved_wrong}
@@ -37,7 +35,7 @@ pub answers : (o : Outcome) (a : List ℕ) (r : ℕ) (a' : List ℕ) → length 
 answers o a r a' h er w =
     record { returned = er; written = λ z. w; unwritten = λ z. absurd (false≢true (sym z ∙ eq-eqb _ _ h)) }
 
-unanswered : (a : List ℕ) (r : ℕ) → (length a ≡ 36 → ⊥) → r ≡ number_of WrongBuffer → Answered (Refused WrongBuffer 0 0) a r a
+unanswered : (a : List ℕ) (r : ℕ) → (length a ≡ 36 → ⊥) → r ≡ number_of WrongBuffer → Answered (refusal WrongBuffer 0 0) a r a
 unanswered a r h er =
     record { returned = er; written = λ z. absurd (false≢true (sym (ne_eqb _ _ h) ∙ z)); unwritten = λ z. (refl, refl) }
 
@@ -46,7 +44,7 @@ unanswered a r h er =
 module _ {form : ℕ} {b : Bases} {file m p a : List ℕ} {r : ℕ} where
   -- an answer of another length: 1, and nothing is done
   pub acx_unanswered : (length a ≡ 36 → ⊥) → r ≡ number_of WrongBuffer → AcxCalled form b file m p a r m p a
-  acx_unanswered h e = record { outcome = Refused WrongBuffer 0 0; loaded = loaded_wrong (rw (ne_eqb _ _ h) refl) refl; answered = unanswered a r h e }
+  acx_unanswered h e = record { outcome = refusal WrongBuffer 0 0; loaded = loaded_wrong (rw (ne_eqb _ _ h) refl) refl; answered = unanswered a r h e }
 
   -- else what the loader did is answered
   pub acx_answered : {o : Outcome} {m' p' a' : List ℕ} → length a ≡ 36 → Loaded form b file (sized m p) m p o m' p' → Answered o a r a'
@@ -60,7 +58,7 @@ module _ {h : Source} {old new : Bases} {m p s a : List ℕ} {r : ℕ} where
   move_unanswered n e =
       let z : move_sized (call_of h old new p s (answer_sized a)) m ≡ false =
       and_false (eqb (length m) 65536 && eqb (length p) 65536 && eqb (length s) 65536) (answer_sized a) (ne_eqb _ _ n) in
-      record { outcome = Refused WrongBuffer 0 0; moved = moved_wrong z refl; answered = unanswered a r n e }
+      record { outcome = refusal WrongBuffer 0 0; moved = moved_wrong z refl; answered = unanswered a r n e }
 
   pub move_answered : {o : Outcome} {m' p' s' a' : List ℕ} → length a ≡ 36 → Moved (call_of h old new p s true) m o m' p' s' → Answered o a r a'
       → MoveCalled (call_of h old new p s (answer_sized a)) m a r m' p' s' a'
@@ -70,7 +68,7 @@ module _ {h : Source} {old new : Bases} {m p s a : List ℕ} {r : ℕ} where
 
 module _ {form : ℕ} {b : Bases} {file p q a : List ℕ} {r : ℕ} where
   pub build_unanswered : (length a ≡ 36 → ⊥) → r ≡ number_of WrongBuffer → BuildCalled form b file p q a r p q a
-  build_unanswered h e = record { outcome = Refused WrongBuffer 0 0; built = built_wrong (rw (ne_eqb _ _ h) refl) refl; answered = unanswered a r h e }
+  build_unanswered h e = record { outcome = refusal WrongBuffer 0 0; built = built_wrong (rw (ne_eqb _ _ h) refl) refl; answered = unanswered a r h e }
 
   pub build_answered : {o : Outcome} {p' q' a' : List ℕ} → length a ≡ 36 → Built form b file (build_sized p q) p q o p' q' → Answered o a r a'
       → BuildCalled form b file p q a r p' q' a'
@@ -81,7 +79,7 @@ module _ {form : ℕ} {b : Bases} {file p q a : List ℕ} {r : ℕ} where
 module _ {file : List ℕ} {g : Inputs} {b : Buffers} {a : List ℕ} {r : ℕ} where
   pub sdx_unanswered : (length a ≡ 36 → ⊥) → r ≡ number_of WrongBuffer → SdxCalled file g b a r b a
   sdx_unanswered h e =
-      record { outcome = Refused WrongBuffer 0 0; loads = loads_wrong refl _ (rw (ne_eqb _ _ h) refl); answered = unanswered a r h e }
+      record { outcome = refusal WrongBuffer 0 0; loads = loads_wrong refl _ (rw (ne_eqb _ _ h) refl); answered = unanswered a r h e }
 
   pub sdx_answered : {o : Outcome} {b' : Buffers} {a' : List ℕ} → length a ≡ 36 → Loads file g true b o b' → Answered o a r a'
       → SdxCalled file g b a r b' a'

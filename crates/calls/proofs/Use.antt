@@ -5,11 +5,9 @@ use mathlib.Core.Bool.{Bool}
 use mathlib.Core.List.{List, [], ◌∷◌}
 use mathlib.Core.Path.{◌≡◌, refl}
 use Prim.Native.Nat.{ℕ}
-use Rattle.answer.specs.Report.{IsAccepted}
+use Rattle.std.proofs.Common.{Err, Ok, Option}
+use Rattle.answer.specs.Report.{Outcome, acceptance, refusal, IsAccepted}
 use Rattle.answer.specs.declared.Fault.{Fault}
-use Rattle.answer.specs.declared.Outcome.{Outcome}
-use Rattle.answer.specs.declared.Outcome.TheVariants.{Accepted, Refused}
-use Rattle.answer.specs.declared.Start.{Start}
 use Rattle.moves.specs.Call.{call_of}
 use Rattle.moves.specs.Demand3.{Made, last, if_accepted, Linked, none, next, Memory, PlainKept}
 use Rattle.moves.specs.Sources.{Source, file_in, the_index, AcceptedAt, StandsFor, built}
@@ -27,12 +25,12 @@ use Rattle.calls.specs.Sdx.{Called as SdxCalled}
 
 -- an accepted call starts where the handler is, and leads to its new bases
 starts : (o : Outcome) {s h : Source} → StandsFor s h → (old new : Bases) → IsAccepted o → (p q : List ℕ) (t : Bool) → Linked o h old (call_of s old new p q t)
-starts (Accepted start placed adjusted names low) f old new h p q t = (f, refl)
-starts (Refused fault offset side) f old new h p q t = absurd h
+starts (Ok a) f old new h p q t = (f, refl)
+starts (Err r) f old new h p q t = absurd h
 
 leads : (o : Outcome) (old new : Bases) → IsAccepted o → last old (if_accepted o new []) ≡ new
-leads (Accepted start placed adjusted names low) old new h = refl
-leads (Refused fault offset side) old new h = absurd h
+leads (Ok a) old new h = refl
+leads (Err r) old new h = absurd h
 
 module _ (by : Source) (old new : Bases) (m p s a : List ℕ) (r : ℕ) (m' p' s' a' : List ℕ)
     (d : Called (call_of by old new p s (answer_sized a)) m a r m' p' s' a') where
@@ -53,9 +51,9 @@ module _ (by : Source) (old new : Bases) (m p s a : List ℕ) (r : ℕ) (m' p' s
       (demand3 h b ps old i (made ∷ []) m m' (next as_made none) y (starts d.outcome f old new x p s (answer_sized a), tt)).plain
 
 -- an index is built through C, and the handler is moved by it through C: where both return 0, its bytes that are in no field are at their new places
-pub built_and_moved : (form : ℕ) (b : Bases) (file p q a : List ℕ) (start : Start) (placed adjusted names low : ℕ) (p' q' a' : List ℕ) → Bytes file
+pub built_and_moved : (form : ℕ) (b : Bases) (file p q a : List ℕ) (start : Option ℕ) (placed adjusted names low : ℕ) (p' q' a' : List ℕ) → Bytes file
     → BuildCalled form b file p q a 0 p' q' a'
-    → Answered (Accepted start placed adjusted names low) a 0 a'
+    → Answered (acceptance start placed adjusted names low) a 0 a'
     → (old new : Bases) (m k s c m' k' s' c' : List ℕ) → Called (call_of (the_index (part q' 0 low)) old new k s (answer_sized c)) m c 0 m' k' s' c'
     → (ps : List Outline) → AcceptedAt (file_in form file) ps old → Memory m
     → PlainKept old new ps m m'
@@ -66,6 +64,6 @@ built_and_moved form b file p q a start placed adjusted names low p' q' a' y d x
 -- a refused SDX load leaves the pairs as they were
 pub pairs_stay : (file : List ℕ) (g : Inputs) (b : Buffers) (a : List ℕ) (r : ℕ) (b' : Buffers) (a' : List ℕ) → SdxCalled file g b a r b' a' → (fault : Fault)
     (offset side : ℕ)
-    → Answered (Refused fault offset side) a r a'
+    → Answered (refusal fault offset side) a r a'
     → b'.addresses ≡ b.addresses
-pairs_stay file g b a r b' a' d fault offset side x = (sdx_refusals file g b a r b' a' d (Refused fault offset side) x).1 fault offset side refl
+pairs_stay file g b a r b' a' d fault offset side x = (sdx_refusals file g b a r b' a' d (refusal fault offset side) x).1 fault offset side refl

@@ -1,10 +1,8 @@
 -- What all calls from C have in common: the answer (document 01, "What the bench lends", "C calls"), and what C can tell by it.
 -- Assumes nothing.
 use Rattle.std.specs.Prelude.{Bool, true, false, List, ◌≡◌, ℕ, ◌≤◌, eqb, length}
-use Rattle.answer.specs.Report.{number_returned, answer_length, Written, IsAccepted}
+use Rattle.answer.specs.Report.{Outcome, refusal, number_returned, answer_length, Written, IsAccepted}
 use Rattle.answer.specs.declared.Fault.TheVariants.{WrongBuffer}
-use Rattle.answer.specs.declared.Outcome.{Outcome}
-use Rattle.answer.specs.declared.Outcome.TheVariants.{Refused}
 
 -- "an answer of 36 bytes"
 abbrev pub answer_sized : List ℕ → Bool
@@ -17,7 +15,7 @@ pub record Answered (outcome : Outcome) (a : List ℕ) (r : ℕ) (a' : List ℕ)
   -- "It is written on every outcome"
   pub written : answer_sized a ≡ true → Written outcome a'
   -- "unless its own length is wrong (1)"
-  pub unwritten : answer_sized a ≡ false → (a' ≡ a) × (outcome ≡ Refused WrongBuffer 0 0)
+  pub unwritten : answer_sized a ≡ false → (a' ≡ a) × (outcome ≡ refusal WrongBuffer 0 0)
 
 -- What C can tell by the number r that it was returned and the answer a' that it finds where it lent a.
 pub record Told (o : Outcome) (a : List ℕ) (r : ℕ) (a' : List ℕ) : Type 0 where

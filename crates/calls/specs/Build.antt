@@ -1,7 +1,7 @@
 -- What `tkw_index_build` promises, for every length of every buffer.
 -- Assumes nothing.
+use Rattle.answer.specs.Report.{Outcome}
 use Rattle.std.specs.Prelude.{◌&&◌, List, ℕ}
-use Rattle.answer.specs.declared.Outcome.{Outcome}
 use Rattle.builder.specs.Build.{sized, Built}
 use Rattle.pieces.specs.declared.Bases.{Bases}
 use Rattle.calls.specs.Answer.{answer_sized, Answered}

@@ -7,8 +7,7 @@ use Prim.Native.Nat.{ℕ}
 use lib.ListN.{replicate}
 use Rattle.acx.specs.Call.{sized as sized_acx, call as call_acx, Loaded as LoadedAcx}
 use Rattle.answer.specs.Checks.{need}
-use Rattle.answer.specs.Report.{numbers_of}
-use Rattle.answer.specs.declared.Outcome.{Outcome}
+use Rattle.answer.specs.Report.{Outcome, numbers_of}
 use Rattle.events.proofs.Events.{length_blank}
 use Rattle.events.specs.Events.{blank}
 use Rattle.passes.specs.Buffers.{Buffers, buffers}
