@@ -19,106 +19,156 @@ const MAIN_BASE: u32 = 8192;
 
 const ZERO_BASE: u32 = 128;
 
-// "high equal to low + length and one less": a relocatable block of three bytes.
-const THREE_BYTES: [u8; 11] = *b"\xFE\xFF\x01\x00\x00\x10\x03\x00\x4C\x00\x10";
+// An SDX file, loaded between low and high.
+struct SdxCase {
+    name: &'static str,
+    file: &'static [u8],
+    low: u32,
+    high: u32,
+}
 
-// "plain end 65,535": a plain block on the last two bytes of memory.
-const LAST_TWO: [u8; 8] = *b"\xFF\xFF\xFE\xFF\xFF\xFF\x01\x02";
+// An ACX file in device form, loaded at a main base.
+struct AcxCase {
+    name: &'static str,
+    file: &'static [u8],
+    main_base: u32,
+}
 
-// "plain end 65,535": one on the last byte alone.
-const LAST_ONE: [u8; 7] = *b"\xFF\xFF\xFF\xFF\xFF\xFF\x01";
+static SDX: [SdxCase; 12] = [
+    // "high equal to low + length and one less": a relocatable block of three bytes.
+    SdxCase {
+        name: "high = low + length",
+        file: b"\xFE\xFF\x01\x00\x00\x10\x03\x00\x4C\x00\x10",
+        low: 7936,
+        high: 7939,
+    },
+    SdxCase {
+        name: "high = low + length - 1",
+        file: b"\xFE\xFF\x01\x00\x00\x10\x03\x00\x4C\x00\x10",
+        low: 7936,
+        high: 7938,
+    },
+    // "plain end 65,535": a plain block on the last two bytes of memory.
+    SdxCase {
+        name: "plain start 65534, end 65535",
+        file: b"\xFF\xFF\xFE\xFF\xFF\xFF\x01\x02",
+        low: LOW,
+        high: HIGH,
+    },
+    // The same: one on the last byte alone.
+    SdxCase {
+        name: "plain start 65535, end 65535",
+        file: b"\xFF\xFF\xFF\xFF\xFF\xFF\x01",
+        low: LOW,
+        high: HIGH,
+    },
+    // "plain end 65,535" and one less: a start of 65,535, an end of 65,534.
+    SdxCase {
+        name: "plain start 65535, end 65534",
+        file: b"\xFF\xFF\xFF\xFF\xFE\xFF\x01",
+        low: LOW,
+        high: HIGH,
+    },
+    // "plain end 65,535": the last two bytes of memory, but one byte of data.
+    SdxCase {
+        name: "plain start 65534, end 65535, a byte short",
+        file: b"\xFF\xFF\xFE\xFF\xFF\xFF\x01",
+        low: LOW,
+        high: HIGH,
+    },
+    // "counter 65,534": an empty block to update by, the last two bytes of memory, and a body that sets the counter by FD and adjusts there.
+    SdxCase {
+        name: "FD sets the counter to 65534",
+        file: b"\xFE\xFF\x01\x00\x00\x10\x00\x00\xFF\xFF\xFE\xFF\xFF\xFF\x01\x02\xFD\xFF\x01\x00\x00\xFD\xFE\xFF\xFC",
+        low: LOW,
+        high: HIGH,
+    },
+    // "counter .. 65,535": the same, a place higher.
+    SdxCase {
+        name: "FD sets the counter to 65535",
+        file: b"\xFE\xFF\x01\x00\x00\x10\x00\x00\xFF\xFF\xFE\xFF\xFF\xFF\x01\x02\xFD\xFF\x01\x00\x00\xFD\xFF\xFF\xFC",
+        low: LOW,
+        high: HIGH,
+    },
+    // "counter 65,534 and 65,535", reached by an amount: the empty block lies at low, and the body adds 250 by FA and adjusts there.
+    SdxCase {
+        name: "FA adds 250 to the counter, to 65534",
+        file: b"\xFE\xFF\x01\x00\x00\x10\x00\x00\xFF\xFF\xFE\xFF\xFF\xFF\x01\x02\xFD\xFF\x01\x00\x00\xFE\x01\xFA\xFC",
+        low: 65284,
+        high: 65535,
+    },
+    SdxCase {
+        name: "FA adds 250 to the counter, to 65535",
+        file: b"\xFE\xFF\x01\x00\x00\x10\x00\x00\xFF\xFF\xFE\xFF\xFF\xFF\x01\x02\xFD\xFF\x01\x00\x00\xFE\x01\xFA\xFC",
+        low: 65285,
+        high: 65535,
+    },
+    // "counter .. 65,535", reached by FF, which adjusts nothing: here the counter may be 65,535, and one more is too high.
+    SdxCase {
+        name: "FF adds 250 to the counter, to 65535",
+        file: b"\xFE\xFF\x01\x00\x00\x10\x00\x00\xFD\xFF\x01\x00\x00\xFE\x01\xFF\xFC",
+        low: 65285,
+        high: 65535,
+    },
+    SdxCase {
+        name: "FF adds 250 to the counter, to 65536",
+        file: b"\xFE\xFF\x01\x00\x00\x10\x00\x00\xFD\xFF\x01\x00\x00\xFE\x01\xFF\xFC",
+        low: 65286,
+        high: 65535,
+    },
+];
 
-// "plain end 65,535" and one less: a start of 65,535, an end of 65,534.
-const END_BELOW: [u8; 7] = *b"\xFF\xFF\xFF\xFF\xFE\xFF\x01";
-
-// "plain end 65,535": the last two bytes of memory, but one byte of data.
-const BYTE_SHORT: [u8; 7] = *b"\xFF\xFF\xFE\xFF\xFF\xFF\x01";
-
-// "counter 65,534": an empty block to update by, the last two bytes of memory, and a body that sets the counter by FD and adjusts there.
-const SET_65534: [u8; 25] =
-    *b"\xFE\xFF\x01\x00\x00\x10\x00\x00\xFF\xFF\xFE\xFF\xFF\xFF\x01\x02\xFD\xFF\x01\x00\x00\xFD\xFE\xFF\xFC";
-
-// "counter .. 65,535": the same, a place higher.
-const SET_65535: [u8; 25] =
-    *b"\xFE\xFF\x01\x00\x00\x10\x00\x00\xFF\xFF\xFE\xFF\xFF\xFF\x01\x02\xFD\xFF\x01\x00\x00\xFD\xFF\xFF\xFC";
-
-// "counter 65,534 and 65,535", reached by an amount: the empty block lies at low, and the body adds 250 by FA and adjusts there.
-const ADDS: [u8; 25] =
-    *b"\xFE\xFF\x01\x00\x00\x10\x00\x00\xFF\xFF\xFE\xFF\xFF\xFF\x01\x02\xFD\xFF\x01\x00\x00\xFE\x01\xFA\xFC";
-
-// "counter .. 65,535", reached by FF, which adjusts nothing: here the counter may be 65,535, and one more is too high.
-const SKIP: [u8; 17] = *b"\xFE\xFF\x01\x00\x00\x10\x00\x00\xFD\xFF\x01\x00\x00\xFE\x01\xFF\xFC";
-
-// "place + n at 256": two bytes in zero page, at address 126 from the base 128.
-const ZERO_AT_126: [u8; 10] = *b"\x0A\x04\x7E\x00\x01\x02\x0B\x00\x00\x00";
-
-// "place + n at .. 257": the same at address 127.
-const ZERO_AT_127: [u8; 10] = *b"\x0A\x04\x7F\x00\x01\x02\x0B\x00\x00\x00";
-
-// "place + n" at the end of memory, 65,536, and one more: two bytes at the main base.
-const MAIN_AT_0: [u8; 10] = *b"\x00\x04\x00\x00\x01\x02\x0B\x00\x00\x00";
-
-// "place + n" at the end of memory: two bytes at the absolute address 65,534.
-const AT_65534: [u8; 10] = *b"\x01\x04\xFE\xFF\x01\x02\x0B\x00\x00\x00";
-
-// "place + n" past the end of memory: the same at 65,535.
-const AT_65535: [u8; 10] = *b"\x01\x04\xFF\xFF\x01\x02\x0B\x00\x00\x00";
+static ACX: [AcxCase; 6] = [
+    // "place + n at 256": two bytes in zero page, at address 126 from the base 128.
+    AcxCase {
+        name: "zero page, place + n = 256",
+        file: b"\x0A\x04\x7E\x00\x01\x02\x0B\x00\x00\x00",
+        main_base: MAIN_BASE,
+    },
+    // "place + n at .. 257": the same at address 127.
+    AcxCase {
+        name: "zero page, place + n = 257",
+        file: b"\x0A\x04\x7F\x00\x01\x02\x0B\x00\x00\x00",
+        main_base: MAIN_BASE,
+    },
+    // "place + n" at the end of memory, 65,536, and one more: two bytes at the main base.
+    AcxCase {
+        name: "main, place + n = 65536",
+        file: b"\x00\x04\x00\x00\x01\x02\x0B\x00\x00\x00",
+        main_base: 65534,
+    },
+    AcxCase {
+        name: "main, place + n = 65537",
+        file: b"\x00\x04\x00\x00\x01\x02\x0B\x00\x00\x00",
+        main_base: 65535,
+    },
+    // "place + n" at the end of memory: two bytes at the absolute address 65,534.
+    AcxCase {
+        name: "absolute, place + n = 65536",
+        file: b"\x01\x04\xFE\xFF\x01\x02\x0B\x00\x00\x00",
+        main_base: MAIN_BASE,
+    },
+    // "place + n" past the end of memory: the same at 65,535.
+    AcxCase {
+        name: "absolute, place + n = 65537",
+        file: b"\x01\x04\xFF\xFF\x01\x02\x0B\x00\x00\x00",
+        main_base: MAIN_BASE,
+    },
+];
 
 fn main(rt: HostRuntime) -> io::Result<()> {
-    load_sdx(&rt, b"high = low + length", &THREE_BYTES, 7936, 7939)?;
-    load_sdx(&rt, b"high = low + length - 1", &THREE_BYTES, 7936, 7938)?;
-    load_sdx(&rt, b"plain start 65534, end 65535", &LAST_TWO, LOW, HIGH)?;
-    load_sdx(&rt, b"plain start 65535, end 65535", &LAST_ONE, LOW, HIGH)?;
-    load_sdx(&rt, b"plain start 65535, end 65534", &END_BELOW, LOW, HIGH)?;
-    load_sdx(
-        &rt,
-        b"plain start 65534, end 65535, a byte short",
-        &BYTE_SHORT,
-        LOW,
-        HIGH,
-    )?;
-    load_sdx(&rt, b"FD sets the counter to 65534", &SET_65534, LOW, HIGH)?;
-    load_sdx(&rt, b"FD sets the counter to 65535", &SET_65535, LOW, HIGH)?;
-    load_sdx(
-        &rt,
-        b"FA adds 250 to the counter, to 65534",
-        &ADDS,
-        65284,
-        65535,
-    )?;
-    load_sdx(
-        &rt,
-        b"FA adds 250 to the counter, to 65535",
-        &ADDS,
-        65285,
-        65535,
-    )?;
-    load_sdx(
-        &rt,
-        b"FF adds 250 to the counter, to 65535",
-        &SKIP,
-        65285,
-        65535,
-    )?;
-    load_sdx(
-        &rt,
-        b"FF adds 250 to the counter, to 65536",
-        &SKIP,
-        65286,
-        65535,
-    )?;
-    load_acx(&rt, b"zero page, place + n = 256", &ZERO_AT_126, MAIN_BASE)?;
-    load_acx(&rt, b"zero page, place + n = 257", &ZERO_AT_127, MAIN_BASE)?;
-    load_acx(&rt, b"main, place + n = 65536", &MAIN_AT_0, 65534)?;
-    load_acx(&rt, b"main, place + n = 65537", &MAIN_AT_0, 65535)?;
-    load_acx(&rt, b"absolute, place + n = 65536", &AT_65534, MAIN_BASE)?;
-    load_acx(&rt, b"absolute, place + n = 65537", &AT_65535, MAIN_BASE)?;
+    for case in &SDX {
+        load_sdx(&rt, case)?;
+    }
+    for case in &ACX {
+        load_acx(&rt, case)?;
+    }
     Ok(())
 }
 
 // Loads an SDX file with no known names into memory of zeros, prints what is reported, and gives it back.
-fn load_sdx(rt: &impl Print, name: &[u8], file: &[u8], low: u32, high: u32) -> io::Result<Numbers>
-    ensures { IfOk result (λ numbers. numbers ≡ sdx_numbers file.now low high) }
+fn load_sdx(rt: &impl Print, case: &SdxCase) -> io::Result<Numbers>
+    ensures { IfOk result (λ numbers. numbers ≡ sdx_numbers case.now.file.now case.now.low case.now.high) }
 {
     let known_addresses = [0u16; 0];
     let mut memory = [0u8; 65536];
@@ -126,9 +176,9 @@ fn load_sdx(rt: &impl Print, name: &[u8], file: &[u8], low: u32, high: u32) -> i
     let mut new_names = [0u8; 256];
     let mut new_addresses = [0u16; 32];
     let outcome = sdx::load(
-        file,
-        low,
-        high,
+        case.file,
+        case.low,
+        case.high,
         b"",
         &known_addresses,
         &mut memory,
@@ -136,43 +186,35 @@ fn load_sdx(rt: &impl Print, name: &[u8], file: &[u8], low: u32, high: u32) -> i
         &mut new_names,
         &mut new_addresses,
     );
-    print_outcome(rt, name, outcome)
+    print_outcome(rt, case.name, outcome)
 }
 
 // Loads an ACX file in device form, likewise.
-fn load_acx(rt: &impl Print, name: &[u8], file: &[u8], main_base: u32) -> io::Result<Numbers>
-    ensures { IfOk result (λ numbers. numbers ≡ acx_numbers file.now main_base) }
+fn load_acx(rt: &impl Print, case: &AcxCase) -> io::Result<Numbers>
+    ensures { IfOk result (λ numbers. numbers ≡ acx_numbers case.now.file.now case.now.main_base) }
 {
     let mut memory = [0u8; 65536];
     let mut map = [0u8; 65536];
-    let outcome = acx::load(1, file, main_base, ZERO_BASE, &mut memory, &mut map);
-    print_outcome(rt, name, outcome)
+    let outcome = acx::load(
+        1,
+        case.file,
+        case.main_base,
+        ZERO_BASE,
+        &mut memory,
+        &mut map,
+    );
+    print_outcome(rt, case.name, outcome)
 }
 
 // Prints a line, what was loaded and the nine numbers of the answer, and gives these back.
-fn print_outcome(rt: &impl Print, name: &[u8], outcome: Outcome) -> io::Result<Numbers>
+fn print_outcome(rt: &impl Print, name: &str, outcome: Outcome) -> io::Result<Numbers>
     ensures { IfOk result (λ numbers. numbers ≡ numbers_of outcome) }
 {
     let numbers = answer::numbers(outcome);
-    rt.write_all(name)?;
-    print(rt, b": number ", numbers[0])?;
-    print(rt, b" offset ", numbers[1])?;
-    print(rt, b" side ", numbers[2])?;
-    print(rt, b" start ", numbers[3])?;
-    print(rt, b" ", numbers[4])?;
-    print(rt, b" placed ", numbers[5])?;
-    print(rt, b" adjusted ", numbers[6])?;
-    print(rt, b" names ", numbers[7])?;
-    print(rt, b" low ", numbers[8])?;
-    rt.write_all(b"\n")?;
+    let [number, offset, side, start, address, placed, adjusted, names, low] = numbers;
+    println!(
+        rt;
+        "{name}: number {number} offset {offset} side {side} start {start} {address} placed {placed} adjusted {adjusted} names {names} low {low}"
+    )?;
     Ok(numbers)
-}
-
-// Prints a number after its name, and gives it back.
-fn print(rt: &impl Print, text: &[u8], number: u32) -> io::Result<u32>
-    ensures { IfOk result (λ n. n ≡ number) }
-{
-    rt.write_all(text)?;
-    rt.print(number)?;
-    Ok(number)
 }
