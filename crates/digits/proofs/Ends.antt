@@ -1,13 +1,11 @@
--- Where blanks and digits end: within the file, and one character further with each that passes.
+-- Where blanks and digits end: within the file, behind as many as the library counts.
 -- Assumes nothing.
 use mathlib.Core.Bool.{Bool, true, false, cond}
 use mathlib.Core.List.{List, [], ◌∷◌}
 use mathlib.Core.Path.{◌≡◌, refl}
-use Prim.Native.Nat.{ℕ, zero, suc, ◌+◌, ◌-◌, ◌≤◌, ◌<◌}
-use native.Mathlib.Numerals.{add-one}
+use Prim.Native.Nat.{ℕ, suc, ◌+◌, ◌-◌, ◌≤◌}
 use native.Mathlib.Omega.{arith}
-use lib.ListN.{length, get_or, take, drop, length-take, length-drop}
-use lib.Seq.{drop-cons, drop-length}
+use lib.ListN.{length, take, drop, length-take, length-drop}
 use Rattle.std.specs.List.{prefix_len}
 use Rattle.answer.proofs.Checks.{on_pick}
 use Rattle.answer.specs.Checks.{pick}
@@ -41,21 +39,6 @@ past_blanks_lem file at h =
     let m : leading is_blank (drop at file) ≤ length file - at = rw (← length-drop at file) (leading_most is_blank (drop at file)) in
     (omega arith, omega arith)
 
--- a blank more, behind which they end where they do
-pub blanks_more : (file : List ℕ) (at : ℕ) → at < length file → is_blank (get_or file at 0) ≡ true → past_blanks file at ≡ past_blanks file (at + 1)
-unfolding past_blanks leading pick
-blanks_more file at h e = rw (add-one, drop-cons file at 0 h, e) (omega arith)
-
--- another character, at which they end
-pub blanks_stop : (file : List ℕ) (at : ℕ) → at < length file → is_blank (get_or file at 0) ≡ false → past_blanks file at ≡ at
-unfolding past_blanks leading pick
-blanks_stop file at h e = rw (drop-cons file at 0 h, e) (omega arith)
-
--- the file's end, at which they end
-pub blanks_end : (file : List ℕ) → past_blanks file (length file) ≡ length file
-unfolding past_blanks leading
-blanks_end file = rw (drop-length file) (omega arith)
-
 -- ---- digits
 
 -- they end within the file, and within as many characters as are looked at
@@ -67,26 +50,3 @@ past_digits_lem file at n h =
     let a : leading is_digit (take n (drop at file)) ≤ length file - at = omega (arith, m, length-take n (drop at file), length-drop at file) in
     let b : leading is_digit (take n (drop at file)) ≤ n = omega (arith, m, length-take n (drop at file)) in
     (omega arith, omega arith, omega arith)
-
--- a digit more, behind which they end where they do
-pub digits_more : (file : List ℕ) (at n : ℕ) → at < length file → is_digit (get_or file at 0) ≡ true
-    → past_digits file at (suc n) ≡ past_digits file (at + 1) n
-unfolding past_digits leading pick part
-digits_more file at n h e = rw (add-one, drop-cons file at 0 h, e) (omega arith)
-
--- another character, at which they end
-pub digits_stop : (file : List ℕ) (at n : ℕ) → at < length file → is_digit (get_or file at 0) ≡ false → past_digits file at n ≡ at
-unfolding past_digits leading pick part
-digits_stop file at zero h e = omega arith
-digits_stop file at (suc n) h e = rw (drop-cons file at 0 h, e) (omega arith)
-
--- as many as are looked at
-pub digits_all : (file : List ℕ) (at : ℕ) → past_digits file at 0 ≡ at
-unfolding past_digits leading part
-digits_all file at = omega arith
-
--- the file's end, at which they end
-pub digits_end : (file : List ℕ) (n : ℕ) → past_digits file (length file) n ≡ length file
-unfolding past_digits leading part
-digits_end file zero = omega arith
-digits_end file (suc n) = rw (drop-length file) (omega arith)
