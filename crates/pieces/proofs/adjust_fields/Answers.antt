@@ -29,7 +29,7 @@ loop-i-preserved c =
       search rules,
       search rules,
       adjusting_more (item_next c.args.fixup _ _ _ s.0.1.0 (s.0.1.1 ∙ l.0) c.field_at-field.ensures.0) l.4
-          (rw (s.1, c.item_size-step.ensures) at c.adjust_field.ensures) (rw s.2 (omega (arith, m))) c.in_ok-adjust_field.was,
+          (cc (s.1, c.item_size-step.ensures)) c.adjust_field.ensures (rw s.2 (omega (arith, m))) c.in_ok-adjust_field.was,
     )
 
 pub returns-in_err-adjust_field : goal.returns-in_err-adjust_field
@@ -39,7 +39,7 @@ returns-in_err-adjust_field c =
     let p = err_from_is_err_and c.from_residual.result c.from_residual.ensures.1 in
     rw (p.1, p.2)
     (adjusting_fails (item_next c.args.fixup _ _ _ s.0.1.0 (s.0.1.1 ∙ l.0) c.field_at-field.ensures.0) l.4
-    (rw (s.1, c.item_size-step.ensures) at c.adjust_field.ensures) c.in_err-adjust_field.was)
+    (cc (s.1, c.item_size-step.ensures)) c.adjust_field.ensures c.in_err-adjust_field.was)
 
 pub returns : goal.returns
 returns c =
