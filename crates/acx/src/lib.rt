@@ -119,6 +119,7 @@ pub fn first_cursor(at: usize) -> Cursor
 }
 
 // The cursor after a record that passed.
+#[tactic(auto, using(fields::proofs::Listing::item_some))]
 pub fn advance(bases: Bases, cursor: Cursor, found: Record) -> Cursor
     requires { (cursor.placed ≤ 65536) × (cursor.adjusted ≤ 65536) × EndsBy 65536 found }
     ensures { result ≡ advanced bases cursor found }
