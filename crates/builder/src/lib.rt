@@ -239,14 +239,10 @@ fn write_items(items: &[u8], kind: Kind, fixup: Fixup, at: usize, index: &mut [u
     requires { (length items.now ≤ 65536) × (at + 3 * (length items.now / item_size fixup) ≤ length index.old) × (length index.old ≡ 65536) }
     ensures { index.new ≡ put index.old at (fixup_bytes kind (fields_of fixup items.now)) }
 {
-    let step = fields::item_size(fixup);
-    let mut i = 0;
     let mut used = at;
-    while i + step <= items.len() {
-        let field = fields::field_at(items, i, fixup);
-        write_field(kind, field, used, index);
+    for item in items.chunks_exact(fields::item_size(fixup)) {
+        write_field(kind, fields::field_at(item, 0, fixup), used, index);
         used += 3;
-        i += step;
     }
 }
 

@@ -65,7 +65,7 @@ fn read_code(index: &[u8], at: usize, count: usize, kind: Kind) -> Result<IndexE
     if count % 3 != 1 {
         return Err(Fault::LengthNotAllowed);
     }
-    let size = words::wide(index[at + 5]);
+    let size = index[at + 5] as usize;
     if 253 < size {
         return Err(Fault::LengthNotAllowed);
     }
@@ -105,8 +105,8 @@ pub fn listed_at(items: &[u8], at: usize, kind: Kind) -> Option<Field>
     ensures { (result ≡ listed kind (type_of (get_or items.now at 0)) (get_or items.now (at + 1) 0) (get_or items.now (at + 2) 0)) × InBytes result }
 {
     let record_type = records::type_of(items[at]);
-    let index = words::wide(items[at + 1]);
-    let lsb = words::wide(items[at + 2]);
+    let index = items[at + 1] as usize;
+    let lsb = items[at + 2] as usize;
     match record_type {
         RecordType::Fixups(of, fixup) => {
             if !records::suits(of, Some(kind)) {
