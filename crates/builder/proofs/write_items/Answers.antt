@@ -21,13 +21,6 @@ write_field-requires c =
     let n = item_next c.args.fixup _ _ _ s.0 (s.1 ∙ l.0) f.0 in
     (f.1, f.2, listing_room l.1 n (rw length_fields c.requires.1), omega (arith, listing_long l.1, c.requires.2))
 
-pub overflow_add-used : goal.overflow_add-used
-overflow_add-used c =
-    let l = c.loop-item.invariant in
-    let s = c.in-Some.ensures.steps.1 in
-    let n = item_next c.args.fixup _ _ _ s.0 (s.1 ∙ l.0) c.field_at.ensures.0 in
-    omega (arith, listing_room l.1 n (rw length_fields c.requires.1), listing_long l.1, c.requires.2)
-
 pub loop-item-preserved : goal.loop-item-preserved
 loop-item-preserved c =
     let l = c.loop-item.invariant in
@@ -39,3 +32,10 @@ pub returns : goal.returns
 returns c =
     let l = c.loop-item.invariant in
     listing_end l.1 (item_none c.args.fixup _ (omega (arith, c.in-None.ensures.steps.1, l.0)))
+
+pub overflow_add-used : goal.overflow_add-used
+overflow_add-used c =
+    let l = c.loop-item.invariant in
+    let s = c.in-Some.ensures.steps.1 in
+    let n = item_next c.args.fixup _ _ _ s.0 (s.1 ∙ l.0) c.field_at.ensures.0 in
+    omega (arith, listing_room l.1 n (rw length_fields c.requires.1), listing_long l.1, c.requires.2)
