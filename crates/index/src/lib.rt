@@ -32,8 +32,7 @@ pub fn walk_call(index: &[u8], main_base: u32, zero_base: u32, map: &mut [u8]) -
     ensures { Noted Outcome (reported (bases_at main_base zero_base) (indexed (bases_at main_base zero_base) index.now)) blank result map.new }
 {
     words::fill(map, 0);
-    let ranged = acx::in_range(FORMLESS, main_base, zero_base);
-    if !ranged {
+    if !acx::in_range(FORMLESS, main_base, zero_base) {
         return answer::refused(Fault::SettingOutOfRange, 0);
     }
     if events::FILE < index.len() {

@@ -5,18 +5,18 @@ use Rattle.events.proofs.Events.{cleared}
 use Rattle.index.proofs.Calling.{call_range, call_long, call_walked}
 use Rattle.index.proofs.walk_call.Goals as goal
 
-pub returns-then-not-ranged : goal.returns-then-not-ranged
-returns-then-not-ranged c =
-    call_range _ _ (sym c.in_range-ranged.ensures ∙ c.if-not-ranged.true) c.refused.ensures (cleared _ _ c.requires c.fill.ensures)
+pub returns-then-not-in_range : goal.returns-then-not-in_range
+returns-then-not-in_range c =
+    call_range _ _ (sym c.in_range.ensures ∙ c.if-not-in_range.true) c.refused.ensures (cleared _ _ c.requires c.fill.ensures)
 
 pub returns-then-index-gt-FILE : goal.returns-then-index-gt-FILE
 returns-then-index-gt-FILE c =
-    call_long _ _ (sym c.in_range-ranged.ensures ∙ c.if-not-ranged.false) c.if-index-gt-FILE.true c.refused-then-index-gt-FILE.ensures
+    call_long _ _ (sym c.in_range.ensures ∙ c.if-not-in_range.false) c.if-index-gt-FILE.true c.refused-then-index-gt-FILE.ensures
     (cleared _ _ c.requires c.fill.ensures)
 
 pub returns : goal.returns
 returns c =
-    call_walked _ _ (sym c.in_range-ranged.ensures ∙ c.if-not-ranged.false) c.if-index-gt-FILE.false c.walk_index.ensures
+    call_walked _ _ (sym c.in_range.ensures ∙ c.if-not-in_range.false) c.if-index-gt-FILE.false c.walk_index.ensures
 
 pub walk_index-requires : goal.walk_index-requires
 walk_index-requires c =
