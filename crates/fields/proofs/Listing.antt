@@ -5,7 +5,8 @@ use mathlib.Core.Path.{◌≡◌, refl, sym, ap, ◌∙◌}
 use Prim.Native.Nat.{ℕ, suc, ◌+◌, ◌*◌, ◌/◌, ◌≤◌, ◌<◌}
 use native.Mathlib.Omega.{arith}
 use lib.ListN.{length, get_or, drop, length-drop, drop_of_length-le}
-use lib.Seq.{drop-cons}
+use lib.Seq.{drop-cons, drop-append_seam, take-append_seam, take-length}
+use Rattle.std.proofs.lemmas.List.{length-append}
 use Rattle.words.proofs.Runs.{part_one, part_two}
 use Rattle.words.specs.Runs.{part}
 use Rattle.fields.specs.Fields.{item_size, singles, pairs, fields_of}
@@ -42,23 +43,21 @@ drop_pair items i h =
     ∙ ap (λ (k : ℕ). get_or items i 0 ∷ get_or items (i + 1) 0 ∷ drop k items) e
 
 -- an item of one byte lists the field at that index
-pub single_listed : (fixup kind : Fixup) (items : List ℕ) (i index : ℕ) → fixup ≡ kind → item_size kind ≡ 1 → i + item_size fixup ≤ length items
-    → index ≡ get_or items i 0
-    → record { fixup = kind; index = index; lsb = 0 } ∷ [] ≡ fields_of fixup (part items i (item_size fixup))
+pub single_listed : (fixup : Fixup) (items : List ℕ) (i lsb : ℕ) → (fixup ≡ HighByte → ⊥) → i + item_size fixup ≤ length items → lsb ≡ 0
+    → record { fixup = fixup; index = get_or items i 0; lsb = lsb } ∷ [] ≡ fields_of fixup (part items i (item_size fixup))
 unfolding fields_of
-single_listed fixup LowByte items i index e s h r = rw (e, r) (ap (singles LowByte) (sym (part_one items i (rw e at h))))
-single_listed fixup ZeroPageByte items i index e s h r = rw (e, r) (ap (singles ZeroPageByte) (sym (part_one items i (rw e at h))))
-single_listed fixup Word items i index e s h r = rw (e, r) (ap (singles Word) (sym (part_one items i (rw e at h))))
-single_listed fixup HighByte items i index e s h r = absurd (omega arith)
+single_listed LowByte items i lsb n h e = rw e (ap (singles LowByte) (sym (part_one items i h)))
+single_listed ZeroPageByte items i lsb n h e = rw e (ap (singles ZeroPageByte) (sym (part_one items i h)))
+single_listed Word items i lsb n h e = rw e (ap (singles Word) (sym (part_one items i h)))
+single_listed HighByte items i lsb n h e = absurd (n refl)
 
 -- a pair lists the high byte at its index, with its LSB
-pub pair_listed : (fixup : Fixup) (items : List ℕ) (i index lsb : ℕ) → fixup ≡ HighByte → i + item_size fixup ≤ length items → index ≡ get_or items i 0
-    → lsb ≡ get_or items (i + 1) 0
-    → record { fixup = HighByte; index = index; lsb = lsb } ∷ [] ≡ fields_of fixup (part items i (item_size fixup))
+pub pair_listed : (fixup : Fixup) (items : List ℕ) (i lsb : ℕ) → fixup ≡ HighByte → i + item_size fixup ≤ length items → lsb ≡ get_or items (i + 1) 0
+    → record { fixup = fixup; index = get_or items i 0; lsb = lsb } ∷ [] ≡ fields_of fixup (part items i (item_size fixup))
 unfolding fields_of
-pair_listed fixup items i index lsb e h r q =
+pair_listed fixup items i lsb e h q =
     let two : i + 2 ≤ length items = rw e at h in
-    rw (e, r, q) (ap pairs (sym (part_two items i two)))
+    rw (e, q) (ap pairs (sym (part_two items i two)))
 
 -- the fields from an item on are that item's, and those after it
 singles_first : (fixup : Fixup) (items : List ℕ) (i : ℕ) → i + 1 ≤ length items
@@ -111,6 +110,24 @@ pub last_field : (fixup : Fixup) (items : List ℕ) (i k : ℕ) → k ≡ item_s
 last_field fixup items i k ek h =
     let g : length items < i + item_size fixup = rw (← ek) h in
     fields_none fixup items i g
+
+-- the same of items that are taken one after another: the first of them lists the next field
+pub item_next : (fixup : Fixup) (items item rest : List ℕ) {f : Field} → items ≡ item ++ rest → length item ≡ item_size fixup
+    → f ∷ [] ≡ fields_of fixup (part item 0 (item_size fixup))
+    → fields_of fixup items ≡ f ∷ fields_of fixup rest
+unfolding part
+item_next fixup items item rest {f} s l e =
+    let k = item_size fixup in
+    let whole : part item 0 k ≡ part (item ++ rest) 0 k = rw (← l) (take-length item ∙ sym (take-append_seam item rest)) in
+    let n : 0 + k ≡ length item = omega (arith, l) in
+    ap (fields_of fixup) s
+    ∙ next_field fixup (item ++ rest) 0 k f refl (omega (arith, l, length-append item rest)) (e ∙ ap (fields_of fixup) whole)
+    ∙ ap (λ (i : ℕ). f ∷ fields_of fixup (drop i (item ++ rest))) n
+    ∙ ap (λ (xs : List ℕ). f ∷ fields_of fixup xs) (drop-append_seam item rest)
+
+-- and fewer bytes list none
+pub item_none : (fixup : Fixup) (rest : List ℕ) → length rest < item_size fixup → fields_of fixup rest ≡ []
+item_none fixup rest h = last_field fixup rest 0 (item_size fixup) refl (omega (arith, h))
 
 -- an index is a field
 length_singles : (fixup : Fixup) (items : List ℕ) → length (singles fixup items) ≡ length items

@@ -3,18 +3,18 @@
 #![tactic(auto)]
 
 ghost use Rattle.std.specs.Prelude.{◌≡◌, ◌+◌, ◌<◌, ◌≤◌, length};
-ghost use Rattle.records.specs.Types.{code_type, main_fixup_type, fixup_type};
+ghost use Rattle.records.specs.Types.{code_type, fixup_type};
 ghost use Rattle.records.specs.Records.{type_of, entry_of, suits as suits_of, length_allowed, read_code, read_items, read_fixups, read_end, read as read_of};
 
 use answer::{Failure, Fault};
 use fields::Fixup;
 
-// What a code record's address counts from: the main base, the zero-page base, or nothing.
+// What a code record's address counts from: the main base, the zero-page base, or nothing. Each has the number of its type.
 #[derive(Clone, Copy)]
 pub enum Kind {
-    Main,
-    ZeroPage,
-    Absolute,
+    Main = 0x00,
+    ZeroPage = 0x0A,
+    Absolute = 0x01,
 }
 
 // Where an end record lets the program start.
@@ -105,34 +105,16 @@ pub fn type_of(byte: u8) -> RecordType
 pub fn code_type(kind: Kind) -> u8
     ensures { result ≡ code_type kind }
 {
-    match kind {
-        Kind::Main => 0x00,
-        Kind::ZeroPage => 0x0A,
-        Kind::Absolute => 0x01,
-    }
+    kind as u8
 }
 
 // The type byte of a fixup after code of a kind.
 pub fn fixup_type(kind: Kind, fixup: Fixup) -> u8
     ensures { result ≡ fixup_type kind fixup }
 {
-    let main = main_fixup_type(fixup);
     match kind {
-        Kind::Main => main,
-        Kind::ZeroPage => main + 1,
-        Kind::Absolute => main,
-    }
-}
-
-// The type byte of a fixup after main code.
-fn main_fixup_type(fixup: Fixup) -> u8
-    ensures { (result ≡ main_fixup_type fixup) × (result < 10) }
-{
-    match fixup {
-        Fixup::LowByte => 0x02,
-        Fixup::ZeroPageByte => 0x04,
-        Fixup::Word => 0x06,
-        Fixup::HighByte => 0x08,
+        Kind::Main | Kind::Absolute => fixup as u8,
+        Kind::ZeroPage => fixup as u8 + 1,
     }
 }
 
@@ -200,22 +182,10 @@ fn read_fixups(
 pub fn suits(kind: Kind, last: Option<Kind>) -> bool
     ensures { result ≡ suits_of kind last }
 {
-    match last {
-        None => false,
-        Some(before) => match kind {
-            Kind::Main => match before {
-                Kind::Main => true,
-                Kind::ZeroPage => false,
-                Kind::Absolute => true,
-            },
-            Kind::ZeroPage => match before {
-                Kind::Main => false,
-                Kind::ZeroPage => true,
-                Kind::Absolute => false,
-            },
-            Kind::Absolute => false,
-        },
-    }
+    matches!(
+        (kind, last),
+        (Kind::Main, Some(Kind::Main | Kind::Absolute)) | (Kind::ZeroPage, Some(Kind::ZeroPage))
+    )
 }
 
 // Reads the items of a fixup record: their length, then the bytes themselves.
@@ -249,10 +219,8 @@ fn length_allowed(fixup: Fixup, length: usize) -> bool
     ensures { result ≡ length_allowed fixup length }
 {
     match fixup {
+        Fixup::LowByte | Fixup::ZeroPageByte | Fixup::Word => 1 <= length && length <= 253,
         Fixup::HighByte => length % 2 == 0 && length <= 254,
-        Fixup::LowByte => 1 <= length && length <= 253,
-        Fixup::ZeroPageByte => 1 <= length && length <= 253,
-        Fixup::Word => 1 <= length && length <= 253,
     }
 }
 
