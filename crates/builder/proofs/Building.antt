@@ -8,17 +8,13 @@ use native.Mathlib.Omega.{arith}
 use borrow.Author.Tests.{eq-eqb, ne_eqb, le-leb, lt-leb}
 use lib.Dec.{leb}
 use lib.ListN.{length}
+use Rattle.std.proofs.Common.{is_err}
 use Rattle.acx.proofs.Calling.{range_bounds, load_admitted, load_few}
 use Rattle.acx.specs.Call.{load, map_after}
 use Rattle.acx.specs.Walk.{Verdict, accepted, refused, report as load_report, reported}
-use Rattle.answer.proofs.Outcomes.{is_refused}
 use Rattle.answer.specs.Checks.{need, pick}
-use Rattle.answer.specs.Report.{IsAccepted, placed_of, adjusted_of}
-use Rattle.answer.specs.declared.Fault.{Fault}
+use Rattle.answer.specs.Report.{IsAccepted, placed_of, adjusted_of, Outcome, refusal}
 use Rattle.answer.specs.declared.Fault.TheVariants.{WrongBuffer, IndexTooLong}
-use Rattle.answer.specs.declared.Outcome.{Outcome}
-use Rattle.answer.specs.declared.Outcome.TheVariants.{Accepted, Refused}
-use Rattle.answer.specs.declared.Start.{Start}
 use Rattle.events.specs.Events.{Event, marks, blank, Did}
 use Rattle.pieces.specs.Pieces.{Piece}
 use Rattle.pieces.specs.declared.Bases.{Bases}
@@ -56,18 +52,17 @@ counts_fitted b (accepted ps entry) es n h k = by (leb (length (index_of ps entr
 
 -- the outcome of a verdict tells whether it is a refusal
 reports_as : (b : Bases) (v w : Verdict Piece) (es : List Event) (o : Outcome) → w ≡ v → o ≡ load_report b w es
-    → is_refused (load_report b v es) ≡ is_refused o
-reports_as b v w es o f e = ap is_refused (ap (λ (k : Verdict Piece). load_report b k es) (sym f) ∙ sym e)
+    → is_err (load_report b v es) ≡ is_err o
+reports_as b v w es o f e = ap (λ (k : Outcome). is_err k) (ap (λ (k : Verdict Piece). load_report b k es) (sym f) ∙ sym e)
 
 -- what the check did not refuse is accepted by a load, at bases in their ranges
-pub check_accepts : (form : ℕ) (b : Bases) (file : List ℕ) {r : Outcome} {start : Start} {i j k l : ℕ} → r ≡ (reported b (load form b file)).answer
-    → r ≡ Accepted start i j k l
+pub check_accepts : (form : ℕ) (b : Bases) (file : List ℕ) {r : Outcome} → r ≡ (reported b (load form b file)).answer → is_err r ≡ false
     → IsAccepted (reported b (load form b file)).answer × (b.main ≤ 65535) × (b.zero ≤ 255)
-check_accepts form b file {r} {start} {i} {j} {k} {l} a e = by (load form b file).answer refl
+check_accepts form b file {r} a e = by (load form b file).answer refl
   where
     by : (v : Verdict Piece) → (load form b file).answer ≡ v → IsAccepted (reported b (load form b file)).answer × (b.main ≤ 65535) × (b.zero ≤ 255)
     by (accepted ps entry) f = let k = range_bounds form b (load_admitted form b file ps entry f).range in (rw f tt, k.0, k.1)
-    by (refused g at) f = absurd (false≢true (sym (reports_as b (refused g at) (load form b file).answer (load form b file).events r f a ∙ ap is_refused e)))
+    by (refused g at) f = absurd (false≢true (sym (reports_as b (refused g at) (load form b file).answer (load form b file).events r f a ∙ e)))
 
 module _ {form : ℕ} {b : Bases} {file p q : List ℕ} where
   -- ---- with the right buffers
@@ -98,15 +93,14 @@ module _ {form : ℕ} {b : Bases} {file p q : List ℕ} where
 
   module _ {r : Outcome} {q₁ p₁ : List ℕ} (d : Did Outcome (reported b (load form b file)) false q blank r q₁ p₁) where
     -- what was refused when it was checked is the refusal
-    pub built_refused : {fault : Fault} {at side : ℕ} {p' : List ℕ} → r ≡ Refused fault at side → p' ≡ blank
-        → Built form b file true p q (Refused fault at side) p' q₁
-    built_refused {fault} {at} {side} {p'} e ep = by (load form b file).answer refl
+    pub built_refused : {p' : List ℕ} → is_err r ≡ true → p' ≡ blank → Built form b file true p q r p' q₁
+    built_refused {p'} e ep = by (load form b file).answer refl
       where
-        by : (v : Verdict Piece) → (load form b file).answer ≡ v → Built form b file true p q (Refused fault at side) p' q₁
+        by : (v : Verdict Piece) → (load form b file).answer ≡ v → Built form b file true p q r p' q₁
         by (accepted ps entry) f =
-            absurd (false≢true (reports_as b (accepted ps entry) (load form b file).answer (load form b file).events r f d.answer ∙ ap is_refused e))
+            absurd (false≢true (reports_as b (accepted ps entry) (load form b file).answer (load form b file).events r f d.answer ∙ e))
         by (refused g at) f =
-            built_as (refused g at) f (sym e ∙ d.answer ∙ ap (λ (w : Verdict Piece). load_report b w (load form b file).events) f) ep d.reached.memory
+            built_as (refused g at) f (d.answer ∙ ap (λ (w : Verdict Piece). load_report b w (load form b file).events) f) ep d.reached.memory
 
     -- what was not goes on with the room as it was
     pub built_checked : {s : Outcome} {p' q' : List ℕ} → Built form b file true p₁ q₁ s p' q' → Built form b file true p q s p' q'
@@ -114,7 +108,7 @@ module _ {form : ℕ} {b : Bases} {file p q : List ℕ} where
 
   module _ (yes : IsAccepted (reported b (load form b file)).answer) {n : ℕ} (long : n ≡ length (bytes_of (load form b file).answer)) where
     -- an index that would not fit is refused
-    pub built_long : {r : Outcome} {p' : List ℕ} → 65536 < n → r ≡ Refused IndexTooLong 0 0 → p' ≡ blank → Built form b file true p q r p' q
+    pub built_long : {r : Outcome} {p' : List ℕ} → 65536 < n → r ≡ refusal IndexTooLong 0 0 → p' ≡ blank → Built form b file true p q r p' q
     built_long {r} {p'} h e ep = by (load form b file).answer refl
       where
         by : (v : Verdict Piece) → (load form b file).answer ≡ v → Built form b file true p q r p' q
@@ -150,7 +144,7 @@ module _ {form : ℕ} {b : Bases} {file p q : List ℕ} where
   -- ---- whatever the buffers
 
   -- "Refusal 1 changes nothing"
-  pub built_wrong : {right : Bool} {r : Outcome} → right ≡ false → r ≡ Refused WrongBuffer 0 0 → Built form b file right p q r p q
+  pub built_wrong : {right : Bool} {r : Outcome} → right ≡ false → r ≡ refusal WrongBuffer 0 0 → Built form b file right p q r p q
   unfolding build need pick
   built_wrong h e =
       record {
@@ -162,10 +156,10 @@ module _ {form : ℕ} {b : Bases} {file p q : List ℕ} where
       }
 
   -- so do a map and a room of another length, and what has the right lengths is a build
-  pub wrong_map : {r : Outcome} → (length p ≡ 65536 → ⊥) → r ≡ Refused WrongBuffer 0 0 → Built form b file (sized p q) p q r p q
+  pub wrong_map : {r : Outcome} → (length p ≡ 65536 → ⊥) → r ≡ refusal WrongBuffer 0 0 → Built form b file (sized p q) p q r p q
   wrong_map h e = built_wrong (rw (ne_eqb _ _ h) refl) e
 
-  pub wrong_room : {r : Outcome} → length p ≡ 65536 → (length q ≡ 65536 → ⊥) → r ≡ Refused WrongBuffer 0 0 → Built form b file (sized p q) p q r p q
+  pub wrong_room : {r : Outcome} → length p ≡ 65536 → (length q ≡ 65536 → ⊥) → r ≡ refusal WrongBuffer 0 0 → Built form b file (sized p q) p q r p q
   wrong_room g h e = built_wrong (rw (eq-eqb _ _ g, ne_eqb _ _ h) refl) e
 
   pub right_sizes : {r : Outcome} {p' q' : List ℕ} → length p ≡ 65536 → length q ≡ 65536 → Built form b file true p q r p' q'

@@ -6,6 +6,7 @@ use mathlib.Core.Path.{◌≡◌, refl, sym, ap, ◌∙◌}
 use Prim.Native.Nat.{ℕ, ◌+◌, ◌*◌, ◌/◌, ◌≤◌}
 use native.Mathlib.Omega.{arith}
 use lib.ListN.{length}
+use Rattle.std.proofs.Common.{Ok}
 use Rattle.acx.proofs.Cursors.{Tracks, tracks_first, tracks_found, tracks_to_end, tracks_to_entry}
 use Rattle.acx.specs.Cursor.{first_cursor, advanced}
 use Rattle.acx.specs.Rules.{Onward}
@@ -23,7 +24,7 @@ use Rattle.records.proofs.Reading.{AfterCode, lies_as, fixups_after, code_measur
 use Rattle.records.specs.Records.{read}
 use Rattle.records.specs.declared.Entry.{Entry}
 use Rattle.records.specs.declared.Record.{Record}
-use Rattle.records.specs.declared.Record.TheVariants.{Code, Fixups, End, Faulty}
+use Rattle.records.specs.declared.Record.TheVariants.{Code, Fixups, End}
 use Rattle.words.proofs.Runs.{length_part, length_put}
 use Rattle.words.specs.Runs.{part, put}
 use Rattle.builder.proofs.Walking.{read_next, outlines, fields_longer, length_listed, longer, grows}
@@ -60,15 +61,14 @@ fields_front fs n [] h e = absurd h
 fields_front fs n (p ∷ ps) h e = front_same refl (omega (arith, e, fields_longer fs (p ∷ ps) h))
 
 -- the program's front is the definition's
-front_on : (file : List ℕ) (s : Progress) (r : Record) → record_at file s ≡ r → Onward r
-    → front_after (front_of (outlines s)) r ≡ front_of (outlines (stepped file s r))
+front_on : (file : List ℕ) (s : Progress) (r : Record) → record_at file s ≡ Ok r → Onward (Ok r)
+    → front_after (front_of (outlines s)) r ≡ front_of (outlines (stepped file s (Ok r)))
 front_on file s (Code kind address from n) e o =
     front_same (used_is (outlines s)) (omega (arith, used_is (outlines s), length_held (bare kind address (length (part file from n))) (outlines s)))
 front_on file s (Fixups fixup from n) e o =
     fields_front (fields_of fixup (part file from n)) (n / item_size fixup) s.pieces (fixups_after file s.at (last_of s.pieces) fixup from n e)
     (length_listed file fixup from n (lies_as file s.at (last_of s.pieces) _ e).1)
 front_on file s (End entry next) e o = absurd o
-front_on file s (Faulty fault offset) e o = absurd o
 
 -- fields more are written to the last entry
 fields_filled : (l : List ℕ) (fixup : Fixup) (items : List ℕ) (ps : List Piece) → AfterCode (last_of ps)
@@ -78,8 +78,8 @@ fields_filled l fixup items [] h = absurd h
 fields_filled l fixup items (p ∷ ps) h = fields_closed l (outline p) (map outline ps) fixup items
 
 -- what a record brings to the room is its entry, or its fixups
-room_on : (file l : List ℕ) (s : Progress) (r : Record) → record_at file s ≡ r → Onward r
-    → room_with file (last_of s.pieces) (front_of (outlines s)) (put l 0 (held (outlines s))) r ≡ put l 0 (held (outlines (stepped file s r)))
+room_on : (file l : List ℕ) (s : Progress) (r : Record) → record_at file s ≡ Ok r → Onward (Ok r)
+    → room_with file (last_of s.pieces) (front_of (outlines s)) (put l 0 (held (outlines s))) r ≡ put l 0 (held (outlines (stepped file s (Ok r))))
 unfolding room_with code_entries
 room_on file l s (Code kind address from n) e o =
     let h = (lies_as file s.at (last_of s.pieces) _ e).1 in
@@ -89,15 +89,13 @@ room_on file l s (Code kind address from n) e o =
 room_on file l s (Fixups fixup from n) e o =
     fields_filled l fixup (part file from n) s.pieces (fixups_after file s.at (last_of s.pieces) fixup from n e)
 room_on file l s (End entry next) e o = absurd o
-room_on file l s (Faulty fault offset) e o = absurd o
 
 -- a record may be written
-sound : (file : List ℕ) (s : Progress) (r : Record) → record_at file s ≡ r → Sound file s.at (front_of (outlines s)) r
+sound : (file : List ℕ) (s : Progress) (r : Record) → record_at file s ≡ Ok r → Sound file s.at (front_of (outlines s)) r
 sound file s (Code kind address from n) e = code_measured file s.at (last_of s.pieces) kind address from n e
 sound file s (Fixups fixup from n) e =
     ((lies_as file s.at (last_of s.pieces) _ e).1, entry_has s.pieces (fixups_after file s.at (last_of s.pieces) fixup from n e))
 sound file s (End entry next) e = tt
-sound file s (Faulty fault offset) e = tt
 
 -- ---- the walk that fills
 
@@ -124,9 +122,9 @@ module _ {file : List ℕ} {b : Bases} {first : ℕ} where
     used_so_far : f.used ≡ length (held (outlines x.progress))
     used_so_far = ap (λ (g : Front). g.used) x.front ∙ used_is (outlines x.progress)
 
-    module _ {found : Record} (is : found ≡ read file c.at c.last) where
+    module _ {found : Record} (is : Ok found ≡ read file c.at c.last) where
       -- the record that is read is the definition's
-      here : record_at file x.progress ≡ found
+      here : record_at file x.progress ≡ Ok found
       here = tracks_found x.tracks is
 
       -- the record may be written
@@ -157,11 +155,11 @@ module _ {file : List ℕ} {b : Bases} {first : ℕ} where
               ∙ ap (λ (t : Entry). put blank 0 (held (map outline qs) ++ with_length (end_bytes t))) (tracks_to_entry x.tracks yes here e)
               ∙ ap (put blank 0) (sym k)
 
-        module _ (o : Onward found) where
+        module _ (o : Onward (Ok found)) where
           -- there is room for any other record
           pub filling_room : length (index_of qs entry) ≤ 65536 → f.used + brings found ≤ 65536
           filling_room fits =
-              let z = stepped file x.progress found in
+              let z = stepped file x.progress (Ok found) in
               let came = (read_next x.tracks is yes o).came in
               let g = grows file b z (events b z.pieces) qs entry (ap (λ (q : Ran (Verdict Piece)). q.answer) (sym came) ∙ yes) in
               omega (arith, used_so_far, longer file x.progress found here o, g, length_index (map outline qs) entry, fits)
@@ -172,7 +170,7 @@ module _ {file : List ℕ} {b : Bases} {first : ℕ} where
           filling_on {room'} w =
               let s = x.progress in
               record {
-                progress = stepped file s found;
+                progress = stepped file s (Ok found);
                 tracks = read_next x.tracks is yes o;
                 front = ap (λ (g : Front). front_after g found) x.front ∙ front_on file s found here o;
                 filled =

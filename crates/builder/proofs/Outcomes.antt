@@ -8,6 +8,7 @@ use native.Mathlib.Omega.{arith}
 use borrow.Author.Tests.{leb-true, leb-false}
 use lib.Dec.{leb}
 use lib.ListN.{length, get_or}
+use Rattle.std.proofs.Common.{Option, None, Ok, Err}
 use Rattle.acx.proofs.Calling.{loaded_right}
 use Rattle.acx.proofs.Demand2.{load_reports, load_marks}
 use Rattle.acx.proofs.Faults.{judged_decides}
@@ -23,12 +24,10 @@ use Rattle.answer.proofs.Faults.{OfFile, of_file_located, early_located, ByFile,
 use Rattle.answer.proofs.Outcomes.{is_refused, fault_in}
 use Rattle.answer.specs.Causes.{Causes}
 use Rattle.answer.specs.Checks.{need, pick}
-use Rattle.answer.specs.Report.{number_of, Located, IsAccepted}
+use Rattle.answer.specs.Report.{number_of, Located, IsAccepted, Outcome, acceptance, refusal}
+use Rattle.answer.specs.declared.Acceptance.{Acceptance}
 use Rattle.answer.specs.declared.Fault.{Fault}
 use Rattle.answer.specs.declared.Fault.TheVariants.{WrongBuffer, IndexTooLong}
-use Rattle.answer.specs.declared.Outcome.{Outcome}
-use Rattle.answer.specs.declared.Outcome.TheVariants.{Accepted, Refused}
-use Rattle.answer.specs.declared.Start.{Start}
 use Rattle.events.proofs.Events.{length_blank, blank_at}
 use Rattle.events.specs.Events.{Event, blank, placed_in, adjusted_in, Ran}
 use Rattle.events.specs.Sizes.{file_limit}
@@ -61,8 +60,13 @@ fitted_accepted (accepted qs other) ps entry e = by (leb (length (index_of qs ot
         (e, rw (← s.0, ← s.1) (leb-true _ _ h))
     by false h e = absurd (refused_accepted e)
 
+-- what an acceptance says
+abbrev counts_in : Outcome → Acceptance
+counts_in (Ok a) = a
+counts_in (Err r) = record { start = None; placed = 0; adjusted = 0; new_names = 0; low = 0 }
+
 -- an outcome that is accepted is of a verdict that is
-record Reports (b : Bases) (v : Verdict Piece) (es : List Event) (start : Start) (placed adjusted names low : ℕ) : Type 0 where
+record Reports (b : Bases) (v : Verdict Piece) (es : List Event) (start : Option ℕ) (placed adjusted names low : ℕ) : Type 0 where
   pieces : List Piece
   entry : Entry
   is : v ≡ accepted pieces entry
@@ -72,15 +76,23 @@ record Reports (b : Bases) (v : Verdict Piece) (es : List Event) (start : Start)
   nameless : names ≡ 0
   uses : length (index_of pieces entry) ≡ low
 
-reports : (b : Bases) (v : Verdict Piece) (es : List Event) (start : Start) (placed adjusted names low : ℕ)
-    → report b v es ≡ Accepted start placed adjusted names low → Reports b v es start placed adjusted names low
+reports : (b : Bases) (v : Verdict Piece) (es : List Event) (start : Option ℕ) (placed adjusted names low : ℕ)
+    → report b v es ≡ acceptance start placed adjusted names low → Reports b v es start placed adjusted names low
 reports b (refused fault at) es start placed adjusted names low e = absurd (false≢true (sym (ap is_refused e)))
 reports b (accepted ps entry) es start placed adjusted names low e =
-    let n : 0 ≡ names = cc in
-    record { pieces = ps; entry = entry; is = refl; starts = cc; places = cc; adjusts = cc; nameless = sym n; uses = cc }
+    record {
+      pieces = ps;
+      entry = entry;
+      is = refl;
+      starts = ap (λ (o : Outcome). (counts_in o).start) e;
+      places = ap (λ (o : Outcome). (counts_in o).placed) e;
+      adjusts = ap (λ (o : Outcome). (counts_in o).adjusted) e;
+      nameless = sym (ap (λ (o : Outcome). (counts_in o).new_names) e);
+      uses = ap (λ (o : Outcome). (counts_in o).low) e;
+    }
 
 -- one that is refused is of a verdict that is
-reports_refused : (b : Bases) (v : Verdict Piece) (es : List Event) (fault : Fault) (at side : ℕ) → report b v es ≡ Refused fault at side
+reports_refused : (b : Bases) (v : Verdict Piece) (es : List Event) (fault : Fault) (at side : ℕ) → report b v es ≡ refusal fault at side
     → (v ≡ refused fault at) × (side ≡ 0)
 reports_refused b (accepted ps entry) es fault at side e = absurd (false≢true (ap is_refused e))
 reports_refused b (refused f a) es fault at side e = reported_refused b (refused f a) es fault at side e
@@ -98,7 +110,7 @@ module _ {form : ℕ} {b : Bases} {file p q : List ℕ} {right : Bool} {r : Outc
       (c.outcome, c.map, c.room)
 
   -- and where one is wrong
-  built_wrong : right ≡ false → (r ≡ Refused WrongBuffer 0 0) × (p' ≡ p) × (q' ≡ q)
+  built_wrong : right ≡ false → (r ≡ refusal WrongBuffer 0 0) × (p' ≡ p) × (q' ≡ q)
   unfolding build need pick
   built_wrong e =
       let c : Built form b file false p q r p' q' = subst (λ (t : Bool). Built form b file t p q r p' q') e d in
@@ -115,7 +127,7 @@ module _ {form : ℕ} {b : Bases} {file p q : List ℕ} {right : Bool} {r : Outc
       by false h = absurd (false≢true (sym e ∙ ap is_refused (built_wrong h).0))
 
   -- and leaves the index and the map
-  accepted_leaves : right ≡ true → (start : Start) (placed adjusted names low : ℕ) → r ≡ Accepted start placed adjusted names low
+  accepted_leaves : right ≡ true → (start : Option ℕ) (placed adjusted names low : ℕ) → r ≡ acceptance start placed adjusted names low
       → (names ≡ 0) × AcceptedBuild form b file start placed adjusted low p' q'
   accepted_leaves t start placed adjusted names low e =
       let o = load form b file in
@@ -150,7 +162,7 @@ module _ {form : ℕ} {b : Bases} {file p q : List ℕ} {right : Bool} {r : Outc
 
   -- a file that a load accepts is accepted, if its index fits
   accepts_all : right ≡ true → (ps : List Piece) (entry : Entry) → Accepts form b file ps entry → length (index_of ps entry) ≤ 65536
-      → r ≡ Accepted (start_of b entry) (total size ps) (total (λ p. length p.fields) ps) 0 (length (index_of ps entry))
+      → r ≡ acceptance (start_of b entry) (total size ps) (total (λ p. length p.fields) ps) 0 (length (index_of ps entry))
   accepts_all t ps entry h k =
       let es = (load form b file).events in
       let e = (by_rules form b file).accepts ps entry h in
@@ -225,7 +237,7 @@ module _ (form : ℕ) (b : Bases) (file : List ℕ) where
 
 module _ {form : ℕ} {b : Bases} {file p q : List ℕ} {right : Bool} {r : Outcome} {p' q' : List ℕ} (d : Built form b file right p q r p' q') where
   -- what refuses a build is answered
-  refused_all : right ≡ true → (fault : Fault) (at : ℕ) → RefusesBuild form b file fault at → r ≡ Refused fault at 0
+  refused_all : right ≡ true → (fault : Fault) (at : ℕ) → RefusesBuild form b file fault at → r ≡ refusal fault at 0
   refused_all t fault at h =
       (built_right d t).0 ∙ ap (λ (w : Verdict Piece). report b w (load form b file).events) (refuses_fitted form b file fault at h)
 
@@ -238,13 +250,13 @@ module _ {form : ℕ} {b : Bases} {file p q : List ℕ} {right : Bool} {r : Outc
       (λ t h k. rw (built_right d t).0 (decides form b file (load form b file).answer (load form b file).events h (leb-true _ _ k) refl))
 
   -- what a refusal is of
-  refused_verdict : right ≡ true → (fault : Fault) (at side : ℕ) → r ≡ Refused fault at side
+  refused_verdict : right ≡ true → (fault : Fault) (at side : ℕ) → r ≡ refusal fault at side
       → (fitted (load form b file).answer ≡ refused fault at) × (side ≡ 0)
   refused_verdict t fault at side e =
       reports_refused b (fitted (load form b file).answer) (load form b file).events fault at side (sym (built_right d t).0 ∙ e)
 
   -- so it is refused only so
-  refused_only : right ≡ true → (fault : Fault) (at side : ℕ) → r ≡ Refused fault at side → RefusesBuild form b file fault at × (side ≡ 0)
+  refused_only : right ≡ true → (fault : Fault) (at side : ℕ) → r ≡ refusal fault at side → RefusesBuild form b file fault at × (side ≡ 0)
   refused_only t fault at side e =
       let v = refused_verdict t fault at side e in
       (fitted_refuses form b file (load form b file).answer refl fault at v.0, v.1)
@@ -260,11 +272,11 @@ module _ {form : ℕ} {b : Bases} {file p q : List ℕ} {right : Bool} {r : Outc
         leaves = λ fault at side e. leaves right refl fault at side e;
       }
     where
-      located : (t : Bool) → right ≡ t → (fault : Fault) (at side : ℕ) → r ≡ Refused fault at side → Located (length file) fault at
+      located : (t : Bool) → right ≡ t → (fault : Fault) (at side : ℕ) → r ≡ refusal fault at side → Located (length file) fault at
       located true h fault at side e = refused_located form b file fault at (refused_only h fault at side e).0
       located false h fault at side e = located_as (record { lies = early_located (length file) WrongBuffer refl }) (sym (built_wrong d h).0 ∙ e)
 
-      leaves : (t : Bool) → right ≡ t → (fault : Fault) (at side : ℕ) → r ≡ Refused fault at side → RefusedBuild fault p q p' q'
+      leaves : (t : Bool) → right ≡ t → (fault : Fault) (at side : ℕ) → r ≡ refusal fault at side → RefusedBuild fault p q p' q'
       leaves true h fault at side e =
           let v = (refused_verdict h fault at side e).0 in
           let c = built_right d h in

@@ -5,9 +5,8 @@ use mathlib.Core.Path.{◌≡◌, refl, sym, ap, ◌∙◌}
 use Prim.Native.Nat.{ℕ, ◌+◌, ◌*◌, ◌/◌, ◌≤◌}
 use native.Mathlib.Nat.{div-le_self}
 use native.Mathlib.Omega.{arith}
-use types.Run.{OneOf}
-use denote.Enum.Declared.{tag_of}
 use lib.ListN.{length, length-append}
+use Rattle.std.proofs.Common.{Ok, Err, IsOk}
 use Rattle.acx.proofs.Calling.{load_admitted}
 use Rattle.acx.proofs.Cursors.{Tracks, tracks_first, tracks_found, tracks_counts, tracks_further, tracks_on, tracks_passes, tracks_to_end, tracks_onward, tracks_ends_by}
 use Rattle.acx.proofs.Turning.{turn_led, turn_accepted, turn_falls}
@@ -15,11 +14,12 @@ use Rattle.acx.proofs.Walking.{opening_fits, judged_opens}
 use Rattle.acx.specs.Call.{form_of, load}
 use Rattle.acx.specs.Cursor.{first_cursor, advanced}
 use Rattle.acx.specs.Rules.{Onward}
-use Rattle.acx.specs.Walk.{Verdict, accepted, refused, Progress, begun, last_of, record_at, with_fields, stepped, turn, records_from, records_of, opening_size, judged, report, reported}
+use Rattle.acx.specs.Walk.{Verdict, accepted, refused, Progress, begun, last_of, record_at, checked, with_fields, stepped, turn, records_from, records_of, opening_size, judged, report, reported}
 use Rattle.acx.specs.declared.Cursor.{Cursor}
 use Rattle.answer.specs.Report.{IsAccepted}
 use Rattle.answer.specs.declared.Fault.TheVariants.{CutShort}
 use Rattle.entries.specs.Bytes.{code_entries}
+use Rattle.events.proofs.Checks.{failed_passed}
 use Rattle.events.proofs.Events.{marks_append}
 use Rattle.events.proofs.Walks.{walk_keeps}
 use Rattle.events.specs.Events.{Event, marks, blank, Ran}
@@ -32,11 +32,10 @@ use Rattle.pieces.specs.AtBases.{EndsBy}
 use Rattle.pieces.specs.Pieces.{Piece, Outline, outline}
 use Rattle.pieces.specs.declared.Bases.{Bases}
 use Rattle.records.proofs.Reading.{AfterCode, lies_as, fixups_after}
-use Rattle.records.specs.contracts.Record.{the_type}
-use Rattle.records.specs.Records.{read}
+use Rattle.records.specs.Records.{Read, read}
 use Rattle.records.specs.declared.Entry.{Entry}
 use Rattle.records.specs.declared.Record.{Record}
-use Rattle.records.specs.declared.Record.TheVariants.{Code, Fixups, End, Faulty}
+use Rattle.records.specs.declared.Record.TheVariants.{Code, Fixups, End}
 use Rattle.words.proofs.Runs.{length_part}
 use Rattle.words.specs.Runs.{part}
 use Rattle.builder.proofs.Writing.{held, length_index, length_held, more}
@@ -87,20 +86,31 @@ outlines s = map outline s.pieces
 
 -- ---- a record that is read there
 
+-- in an accepted file there is one
+pub read_some : {file : List ℕ} {b : Bases} {first : ℕ} {c : Cursor} {s : Progress} {q : Read} (x : Tracks file b first c s) → q ≡ read file c.at c.last
+    → {qs : List Piece} {entry : Entry} → (records_of file b first).answer ≡ accepted qs entry
+    → IsOk q
+unfolding checked
+read_some {file} {b} {s = s} {q} x is ok = by q refl
+  where
+    by : (r : Read) → q ≡ r → IsOk r
+    by (Ok found) e = refl
+    by (Err f) e = absurd (failed_passed (rw (tracks_found x (sym e ∙ is)) at (tracks_passes x ok)))
+
 module _ {file : List ℕ} {b : Bases} {first : ℕ} {c : Cursor} {s : Progress} (x : Tracks file b first c s) {found : Record}
-    (is : found ≡ read file c.at c.last) where
+    (is : Ok found ≡ read file c.at c.last) where
   -- it lies in the file
   pub read_ends_by : length file ≤ 65536 → EndsBy 65536 found
   read_ends_by l = tracks_ends_by x (tracks_found x is) 65536 l
 
   module _ {qs : List Piece} {entry : Entry} (yes : (records_of file b first).answer ≡ accepted qs entry) where
     -- where it is not the end, it leads on
-    pub read_onward : OneOf (0 ∷ 1 ∷ 3 ∷ []) (tag_of the_type found) → Onward found
+    pub read_onward : ((other : Entry) (next : ℕ) → found ≡ End other next → ⊥) → Onward (Ok found)
     read_onward h = tracks_onward x yes (tracks_found x is) h
 
-    module _ (o : Onward found) where
+    module _ (o : Onward (Ok found)) where
       -- the walk comes to the cursor behind it
-      pub read_next : Tracks file b first (advanced b c found) (stepped file s found)
+      pub read_next : Tracks file b first (advanced b c found) (stepped file s (Ok found))
       read_next = tracks_on x (tracks_found x is) o (tracks_passes x yes)
 
       -- which moved on, in the file
@@ -122,22 +132,20 @@ pub length_listed : (file : List ℕ) (fixup : Fixup) (from n : ℕ) → from + 
 length_listed file fixup from n h = length_fields fixup (part file from n) ∙ ap (λ (k : ℕ). k / item_size fixup) (length_part file from n h)
 
 -- what the record brings more
-pub longer : (file : List ℕ) (s : Progress) (r : Record) → record_at file s ≡ r → Onward r
-    → length (held (outlines (stepped file s r))) ≡ length (held (outlines s)) + brings r
+pub longer : (file : List ℕ) (s : Progress) (r : Record) → record_at file s ≡ Ok r → Onward (Ok r)
+    → length (held (outlines (stepped file s (Ok r)))) ≡ length (held (outlines s)) + brings r
 longer file s (Code kind address from n) e o = omega (arith, length_held (bare kind address (length (part file from n))) (outlines s))
 longer file s (Fixups fixup from n) e o =
     let h = (lies_as file s.at (last_of s.pieces) _ e).1 in
     let k = fields_longer (fields_of fixup (part file from n)) s.pieces (fixups_after file s.at (last_of s.pieces) fixup from n e) in
     omega (arith, k, length_listed file fixup from n h)
 longer file s (End entry next) e o = absurd o
-longer file s (Faulty fault offset) e o = absurd o
 
 -- which is no more than three times the bytes of the record
-brings_few : (file : List ℕ) (s : Progress) (r : Record) → record_at file s ≡ r → Onward r → 3 * s.at + brings r ≤ 3 * (stepped file s r).at
+brings_few : (file : List ℕ) (s : Progress) (r : Record) → record_at file s ≡ Ok r → Onward (Ok r) → 3 * s.at + brings r ≤ 3 * (stepped file s (Ok r)).at
 brings_few file s (Code kind address from n) e o = omega (arith, (lies_as file s.at (last_of s.pieces) _ e).0)
 brings_few file s (Fixups fixup from n) e o = omega (arith, (lies_as file s.at (last_of s.pieces) _ e).0, div-le_self n (item_size fixup))
 brings_few file s (End entry next) e o = absurd o
-brings_few file s (Faulty fault offset) e o = absurd o
 
 -- the index of the pieces so far is no longer than that of all pieces
 module _ (file : List ℕ) (b : Bases) (s : Progress) (es : List Event) where
@@ -145,12 +153,16 @@ module _ (file : List ℕ) (b : Bases) (s : Progress) (es : List Event) where
   record Grown (z : Progress) (fs : List Event) : Type 0 where
     grown : length (held (outlines s)) ≤ length (held (outlines z))
 
+  longer_on : (y : Progress) (r : Read) → record_at file y ≡ r → Onward r → length (held (outlines y)) ≤ length (held (outlines (stepped file y r)))
+  longer_on y (Ok r) e o = omega (arith, longer file y r e o)
+  longer_on y (Err f) e o = absurd o
+
   -- every record keeps that
   grown_on : (y z : Progress) (fs : List Event) → Grown y fs → (turn file b y (marks fs (marks es blank))).answer ≡ leads z
       → Grown z (fs ++ (turn file b y (marks fs (marks es blank))).events)
   grown_on y z fs h e =
       let l = turn_led file b y (marks fs (marks es blank)) z e in
-      record { grown = rw (← l.to) (omega (arith, h.grown, longer file y l.found l.is l.on)) }
+      record { grown = rw (← l.to) (omega (arith, h.grown, longer_on y l.found l.is l.on)) }
 
   -- so it holds at the end
   pub grows : (qs : List Piece) (entry : Entry) → (records_from file b s (marks es blank)).answer ≡ accepted qs entry
@@ -178,7 +190,7 @@ module _ {file : List ℕ} {b : Bases} {first : ℕ} where
   unfolding code_entries
   counting_first l = record { progress = begun first; tracks = tracks_first l; counted = refl; few = omega arith }
 
-  module _ {c : Cursor} {used : ℕ} (x : Counting file b first c used) {found : Record} (is : found ≡ read file c.at c.last) {qs : List Piece}
+  module _ {c : Cursor} {used : ℕ} (x : Counting file b first c used) {found : Record} (is : Ok found ≡ read file c.at c.last) {qs : List Piece}
       {entry : Entry} (yes : (records_of file b first).answer ≡ accepted qs entry) where
     -- at the end record all is counted but that
     pub counting_end : {other : Entry} {next n : ℕ} {bs : List ℕ} → found ≡ End other next → n ≡ brings found → bs ≡ index_of qs entry
@@ -190,12 +202,12 @@ module _ {file : List ℕ} {b : Bases} {first : ℕ} where
         omega (arith, six, x.counted, all, length_index (map outline qs) entry, ap length w)
 
     -- every other record leads on, with what it brings
-    pub counting_on : Onward found → {n : ℕ} → n ≡ brings found → Counting file b first (advanced b c found) (used + n)
+    pub counting_on : Onward (Ok found) → {n : ℕ} → n ≡ brings found → Counting file b first (advanced b c found) (used + n)
     counting_on o k =
         let s = x.progress in
         let f = tracks_found x.tracks is in
         record {
-          progress = stepped file s found;
+          progress = stepped file s (Ok found);
           tracks = read_next x.tracks is yes o;
           counted = omega (arith, k, x.counted, longer file s found f o);
           few = omega (arith, k, x.few, brings_few file s found f o);

@@ -7,7 +7,7 @@ use native.Mathlib.Numerals.{add-one, add-two, add-three, add-four, add_five}
 use native.Mathlib.Omega.{arith}
 use borrow.Rule.Slice.PartMut.{mid_of}
 use lib.ListN.{length, get_or, length-append, set, replicate}
-use Rattle.answer.specs.declared.Fault.{Fault}
+use Rattle.std.proofs.Common.{Option}
 use Rattle.entries.proofs.ReadBack.{length_fixup_bytes, length_code_bytes, length_entry}
 use Rattle.entries.specs.Bytes.{version, fixup_bytes, code_bytes, end_bytes, with_length, code_entries, index_bytes}
 use Rattle.records.specs.Types.{code_type, fixup_type, flag_of, address_in, end_type}
@@ -20,9 +20,8 @@ use Rattle.fields.specs.declared.Fixup.{Fixup}
 use Rattle.pieces.specs.Pieces.{Outline}
 use Rattle.records.specs.declared.Entry.{Entry}
 use Rattle.records.specs.declared.Kind.{Kind}
-use Rattle.records.specs.declared.Last.{Last}
 use Rattle.records.specs.declared.Record.{Record}
-use Rattle.records.specs.declared.Record.TheVariants.{Code, Fixups, End, Faulty}
+use Rattle.records.specs.declared.Record.TheVariants.{Code, Fixups, End}
 use Rattle.words.proofs.Lent.{lent_is}
 use Rattle.words.proofs.Runs.{length_part, length_put, put_append, put_in_put}
 use Rattle.words.specs.Numbers.{digits, big_digits, big_store}
@@ -221,7 +220,7 @@ fixups_lent file used r fixup from n e h l k =
     let j : used + 3 * (n / item_size fixup) ≤ 65536 = rw e at k in
     (omega (arith, m), rw m j)
 
-module _ (file : List ℕ) (last : Last) (f : Front) (room : List ℕ) {r : Record} where
+module _ (file : List ℕ) (last : Option Kind) (f : Front) (room : List ℕ) {r : Record} where
   -- code
   pub writes_code : {kind : Kind} {address from n m : ℕ} {room' : List ℕ} → r ≡ Code kind address from n → m ≡ n + 2
       → room' ≡ put room f.used (with_length (code_bytes (bare kind address (m - 2))))
@@ -245,10 +244,6 @@ module _ (file : List ℕ) (last : Last) (f : Front) (room : List ℕ) {r : Reco
   pub writes_end : {entry : Entry} {next : ℕ} → r ≡ End entry next → room ≡ room_with file last f room r
   unfolding room_with
   writes_end e = rw e refl
-
-  pub writes_fault : {fault : Fault} {offset : ℕ} → r ≡ Faulty fault offset → room ≡ room_with file last f room r
-  unfolding room_with
-  writes_fault e = rw e refl
 
 -- ---- how far the room is filled
 

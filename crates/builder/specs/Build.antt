@@ -5,10 +5,8 @@ use Rattle.std.specs.Prelude.{Bool, ◌&&◌, List, map, ◌≡◌, ℕ, ◌≤�
 use Rattle.acx.specs.Call.{load, map_after}
 use Rattle.acx.specs.Walk.{Verdict, accepted, refused, at_once}
 use Rattle.answer.specs.Checks.{need, pick}
-use Rattle.answer.specs.Report.{placed_of, adjusted_of}
+use Rattle.answer.specs.Report.{Outcome, acceptance, refusal, placed_of, adjusted_of}
 use Rattle.answer.specs.declared.Fault.TheVariants.{WrongBuffer, IndexTooLong}
-use Rattle.answer.specs.declared.Outcome.{Outcome}
-use Rattle.answer.specs.declared.Outcome.TheVariants.{Accepted, Refused}
 use Rattle.entries.specs.Bytes.{room_size, index_bytes}
 use Rattle.events.specs.Events.{Event, blank, placed_in, adjusted_in, Ran}
 use Rattle.events.specs.Sizes.{memory_size}
@@ -38,8 +36,8 @@ build form b file right =
 
 -- "its load's .. answer", and "low in the answer is how many were used"
 abbrev pub report : Bases → Verdict Piece → List Event → Outcome
-report b (accepted ps entry) es = Accepted (start_of b entry) (placed_in es) (adjusted_in es) 0 (length (index_of ps entry))
-report b (refused fault at) es = Refused fault at 0
+report b (accepted ps entry) es = acceptance (start_of b entry) (placed_in es) (adjusted_in es) 0 (length (index_of ps entry))
+report b (refused fault at) es = refusal fault at 0
 
 -- the room after a build: "The unfilled rest of any room lent for output is zero after an acceptance"; a refusal leaves "any other room lent for output as
 -- [it was]"

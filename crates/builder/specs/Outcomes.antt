@@ -1,17 +1,14 @@
 -- What a call of the builder comes to, in the wish's words: when it is accepted and what it then leaves, and when it is refused and with what. Proved in
 -- proofs/Outcomes.antt: `built_exactly : Claim`, `build_refusals : RefusalsClaim` and `same_index : SameClaim`.
 -- Assumes nothing.
-use Rattle.std.specs.Prelude.{Bool, true, ◌&&◌, List, map, ◌≡◌, ℕ, ◌≤◌, ◌<◌, leb, length, get_or}
+use Rattle.std.specs.Prelude.{Bool, true, ◌&&◌, List, map, ◌≡◌, ℕ, ◌≤◌, ◌<◌, leb, length, get_or, Option}
 use Rattle.acx.specs.Call.{in_range, Loaded}
 use Rattle.acx.specs.Demand2.{total}
 use Rattle.acx.specs.Rules.{Accepts, Refuses}
 use Rattle.answer.specs.Causes.{RefusedExactly}
-use Rattle.answer.specs.Report.{IsAccepted}
+use Rattle.answer.specs.Report.{Outcome, acceptance, IsAccepted}
 use Rattle.answer.specs.declared.Fault.{Fault}
 use Rattle.answer.specs.declared.Fault.TheVariants.{WrongBuffer, IndexTooLong}
-use Rattle.answer.specs.declared.Outcome.{Outcome}
-use Rattle.answer.specs.declared.Outcome.TheVariants.{Accepted}
-use Rattle.answer.specs.declared.Start.{Start}
 use Rattle.entries.specs.Bytes.{room_size}
 use Rattle.events.specs.Events.{blank}
 use Rattle.events.specs.Sizes.{file_limit}
@@ -27,7 +24,7 @@ use Rattle.builder.specs.Build.{index_of, sized, Built}
 -- ---- accepted
 
 -- A call that was accepted with these counts, where low is the number of bytes used: it left the map p' and the room q'.
-pub record AcceptedBuild (form : ℕ) (b : Bases) (file : List ℕ) (start : Start) (placed adjusted low : ℕ) (p' q' : List ℕ) : Type 0 where
+pub record AcceptedBuild (form : ℕ) (b : Bases) (file : List ℕ) (start : Option ℕ) (placed adjusted low : ℕ) (p' q' : List ℕ) : Type 0 where
   -- the file is accepted at the bases
   pub pieces : List Piece
   pub entry : Entry
@@ -41,18 +38,18 @@ pub record AcceptedBuild (form : ℕ) (b : Bases) (file : List ℕ) (start : Sta
   pub built : BuiltFrom form file (part q' 0 low)
   -- "with its load's map, answer": of any call of the loader there that is lent buffers of the right lengths (a load has no low, and reports 0)
   pub as_load : (k q : List ℕ) (t : Outcome) (k' q'' : List ℕ) → Loaded form b file true k q t k' q''
-      → (t ≡ Accepted start placed adjusted 0 0) × (p' ≡ q'')
+      → (t ≡ acceptance start placed adjusted 0 0) × (p' ≡ q'')
   -- so the map has the marks of the pieces
   pub marks : Marked b (map outline pieces) p'
 
 -- When a call is accepted, where the lengths of all that is lent are right or not: it left the map p' and the room q'.
 pub record Exactly (form : ℕ) (b : Bases) (file : List ℕ) (right : Bool) (r : Outcome) (p' q' : List ℕ) : Type 0 where
   -- only with the right lengths and where a load accepts the file, and then it leaves its index
-  pub only : (start : Start) (placed adjusted names low : ℕ) → r ≡ Accepted start placed adjusted names low
+  pub only : (start : Option ℕ) (placed adjusted names low : ℕ) → r ≡ acceptance start placed adjusted names low
       → (right ≡ true) × (names ≡ 0) × AcceptedBuild form b file start placed adjusted low p' q'
   -- and always then, if the index fits, with its length
   pub all : right ≡ true → (ps : List Piece) (entry : Entry) → Accepts form b file ps entry → length (index_of ps entry) ≤ room_size
-      → r ≡ Accepted (start_of b entry) (total size ps) (total (λ p. length p.fields) ps) 0 (length (index_of ps entry))
+      → r ≡ acceptance (start_of b entry) (total size ps) (total (λ p. length p.fields) ps) 0 (length (index_of ps entry))
 
 -- The claim: of every call that keeps the builder's contract. (answer_sized: a C answer, if one is lent, has its length.)
 abbrev pub Claim : Type 0

@@ -14,12 +14,12 @@ ghost use Rattle.acx.specs.Walk.{reported};
 ghost use Rattle.entries.specs.Bytes.{version, fixup_bytes, code_bytes, end_bytes, with_length};
 ghost use Rattle.records.specs.Types.{flag_of, address_in};
 ghost use Rattle.builder.specs.Build.{sized, Built};
-ghost use Rattle.builder.specs.Parts.{bytes_of, with_low, bare, kind_of, brings, front_after, closed, room_with, Sound};
+ghost use Rattle.builder.specs.Parts.{bytes_of, with_low, bare, brings, front_after, closed, room_with, Sound};
 
-use answer::{Fault, Outcome};
+use answer::{Acceptance, Fault, Outcome};
 use fields::{Field, Fixup};
 use pieces::Bases;
-use records::{Entry, Kind, Last, Record};
+use records::{Entry, Kind, Record};
 
 // How far the room is filled: where the last entry begins, and where the next one would.
 #[derive(Clone, Copy)]
@@ -61,18 +61,9 @@ fn build_sized(
     ensures { Built form (bases_at main_base zero_base) file.now true map.old index.old result map.new index.new }
 {
     let checked = acx::walk_call(form, file, main_base, zero_base, false, index, map);
-    if let Outcome::Refused {
-        fault,
-        offset,
-        side,
-    } = checked
-    {
+    if checked.is_err() {
         words::fill(map, 0);
-        return Outcome::Refused {
-            fault,
-            offset,
-            side,
-        };
+        return checked;
     }
     let bases = Bases {
         main: main_base as u16,
@@ -106,33 +97,10 @@ fn build_checked(
 fn with_low(outcome: Outcome, low: u32) -> Outcome
     ensures { result ≡ with_low low outcome }
 {
-    match outcome {
-        Outcome::Accepted {
-            start,
-            placed,
-            adjusted,
-            new_names,
-            low: none,
-        } => Outcome::Accepted {
-            start,
-            placed,
-            adjusted,
-            new_names,
-            low,
-        },
-        Outcome::Refused {
-            fault,
-            offset,
-            side,
-        } => Outcome::Refused {
-            fault,
-            offset,
-            side,
-        },
-    }
+    outcome.map(|accepted| Acceptance { low, ..accepted })
 }
 
-// How long the index of an accepted file is.
+// How long the index of an accepted file is: each of its records can be read.
 fn index_length(form: u32, file: &[u8], bases: Bases) -> usize
     requires { IsAccepted (reported bases (load form bases file.now)).answer }
     ensures { (result ≡ length (bytes_of (load form bases file.now).answer)) × (result < 4294967296) }
@@ -141,10 +109,9 @@ fn index_length(form: u32, file: &[u8], bases: Bases) -> usize
     let mut cursor = acx::first_cursor(at);
     let mut used = 1;
     loop {
-        let last = cursor.last;
-        let found = records::read(file, cursor.at, last);
+        let found = records::read(file, cursor.at, cursor.last).unwrap();
         used += entry_size(found);
-        if let Record::End { entry, next } = found {
+        if let Record::End { .. } = found {
             return used;
         }
         cursor = acx::advance(bases, cursor, found);
@@ -157,15 +124,8 @@ fn entry_size(found: Record) -> usize
     ensures { (result ≡ brings found) × (result ≤ 196608) }
 {
     match found {
-        Record::Code {
-            kind,
-            address,
-            from,
-            size,
-        } => 6,
-        Record::Fixups { fixup, from, size } => 3 * (size / fields::item_size(fixup)),
-        Record::End { entry, next } => 6,
-        Record::Faulty(fault, offset) => 0,
+        Record::Fixups { fixup, size, .. } => 3 * (size / fields::item_size(fixup)),
+        Record::Code { .. } | Record::End { .. } => 6,
     }
 }
 
@@ -179,13 +139,12 @@ fn write_index(form: u32, file: &[u8], bases: Bases, index: &mut [u8])
     let mut front = Front { entry: 1, used: 1 };
     open_index(index);
     loop {
-        let last = cursor.last;
-        let found = records::read(file, cursor.at, last);
-        if let Record::End { entry, next } = found {
+        let found = records::read(file, cursor.at, cursor.last).unwrap();
+        if let Record::End { entry, .. } = found {
             write_end(entry, front.used, index);
             return;
         }
-        write_record(file, cursor.at, last, found, front, index);
+        write_record(file, cursor.at, cursor.last, found, front, index);
         front = next_front(front, found);
         cursor = acx::advance(bases, cursor, found);
     }
@@ -207,52 +166,49 @@ fn next_front(front: Front, found: Record) -> Front
 {
     let used = front.used + entry_size(found);
     match found {
-        Record::Code {
-            kind,
-            address,
-            from,
-            size,
-        } => Front {
+        Record::Code { .. } => Front {
             entry: front.used,
             used,
         },
-        Record::Fixups { fixup, from, size } => Front {
+        Record::Fixups { .. } => Front {
             entry: front.entry,
             used,
         },
-        Record::End { entry, next } => front,
-        Record::Faulty(fault, offset) => front,
+        Record::End { .. } => front,
     }
 }
 
-// Writes what the record at `at` of the file brings, behind the last code record.
-fn write_record(file: &[u8], at: usize, last: Last, found: Record, front: Front, index: &mut [u8])
+// Writes what the record at `at` of the file brings, behind the last code record: fixups stand only behind one, whose kind they take.
+fn write_record(
+    file: &[u8],
+    at: usize,
+    last: Option<Kind>,
+    found: Record,
+    front: Front,
+    index: &mut [u8],
+)
     requires { Sound file.now at front found × (length file.now ≤ 65536) × (front.used + brings found ≤ 65536) × (length index.old ≡ 65536) }
     ensures { index.new ≡ room_with file.now last front index.old found }
 {
     match found {
-        Record::Code {
+        Record::Code { kind, address, .. } => write_code(
             kind,
             address,
-            from,
-            size,
-        } => write_code(kind, address, file[at + 1] - 2, front.used, index),
+            file[at + 1] - 2,
+            front.used,
+            index,
+        ),
         Record::Fixups { fixup, from, size } => {
             let next = from + size;
-            write_fixups(&file[from..next], kind_of(last), fixup, front, index);
+            write_fixups(
+                &file[from..next],
+                last.unwrap_or(Kind::Main),
+                fixup,
+                front,
+                index,
+            );
         }
-        Record::End { entry, next } => {}
-        Record::Faulty(fault, offset) => {}
-    }
-}
-
-// The kind of the last code record.
-fn kind_of(last: Last) -> Kind
-    ensures { result ≡ kind_of last }
-{
-    match last {
-        Last::Nothing => Kind::Main,
-        Last::Of(kind) => kind,
+        Record::End { .. } => {}
     }
 }
 
@@ -322,8 +278,8 @@ fn flag(entry: Entry) -> u8
 {
     match entry {
         Entry::Nowhere => 0,
-        Entry::Fixed(address) => 1,
-        Entry::Relative(address) => 2,
+        Entry::Fixed(_) => 1,
+        Entry::Relative(_) => 2,
     }
 }
 
@@ -333,7 +289,6 @@ fn address_in(entry: Entry) -> u16
 {
     match entry {
         Entry::Nowhere => 0,
-        Entry::Fixed(address) => address,
-        Entry::Relative(address) => address,
+        Entry::Fixed(address) | Entry::Relative(address) => address,
     }
 }

@@ -6,8 +6,8 @@ use lib.ListN.{length}
 use Rattle.builder.proofs.Walking.{Walkable, Counting}
 use Rattle.builder.proofs.index_length.Given as goal
 
-abbrev pub invariant-loop-entry : goal.invariant-loop-entry
-invariant-loop-entry l = Walkable l.form l.bases l.file l.at × Counting l.file l.bases l.at l.cursor l.used
+abbrev pub invariant-loop-cursor : goal.invariant-loop-cursor
+invariant-loop-cursor l = Walkable l.form l.bases l.file l.at × Counting l.file l.bases l.at l.cursor l.used
 
-abbrev pub decreases-loop-entry : goal.decreases-loop-entry
-decreases-loop-entry l = length l.file - l.cursor.at
+abbrev pub decreases-loop-cursor : goal.decreases-loop-cursor
+decreases-loop-cursor l = length l.file - l.cursor.at

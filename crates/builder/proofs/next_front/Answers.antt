@@ -10,6 +10,3 @@ returns-in-Code c =
 pub returns-in-Fixups : goal.returns-in-Fixups
 returns-in-Fixups c =
     front_fixups _ c.in-Fixups.is c.entry_size.ensures.0
-
-pub returns-in-Faulty : goal.returns-in-Faulty
-returns-in-Faulty c = simp c.in-Faulty.is

@@ -1,7 +1,7 @@
 -- `builder::write_record` meets its contract: each arm is what its record brings to the room.
 -- Assumes nothing.
 use native.Mathlib.Omega.{arith}
-use Rattle.builder.proofs.Writing.{sound_code, sound_fixups, fixups_lent, writes_code, writes_fixups, writes_end, writes_fault}
+use Rattle.builder.proofs.Writing.{sound_code, sound_fixups, fixups_lent, writes_code, writes_fixups, writes_end}
 use Rattle.builder.proofs.write_record.Goals as goal
 
 pub overflow_add-at : goal.overflow_add-at
@@ -42,10 +42,7 @@ returns-in-Code c =
 
 pub returns-in-Fixups : goal.returns-in-Fixups
 returns-in-Fixups c =
-    writes_fixups _ _ _ _ c.in-Fixups.is c.kind_of.ensures c.write_fixups.ensures
+    writes_fixups _ _ _ _ c.in-Fixups.is c.unwrap_or.ensures c.write_fixups.ensures
 
 pub returns-in-End : goal.returns-in-End
 returns-in-End c = writes_end _ _ _ _ c.in-End.is
-
-pub returns-in-Faulty : goal.returns-in-Faulty
-returns-in-Faulty c = writes_fault _ _ _ _ c.in-Faulty.is
