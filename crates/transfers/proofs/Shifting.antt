@@ -21,12 +21,12 @@ use Rattle.words.specs.Numbers.{value, on, off, change}
 use Rattle.moves.specs.Move.{shift}
 
 -- one amount off a field of the width w, another on (the program has the width as a number k)
-pub shifted_field : (w k old new : ℕ) (l m n : List ℕ) (i : ℕ) → w ≡ k → i + w ≤ length l → m ≡ change k (off k old) l i
+pub shifted_field : (w k old new : ℕ) (l m n : List ℕ) (i : ℕ) → k ≡ w → i + w ≤ length l → m ≡ change k (off k old) l i
     → n ≡ change k (on k new) m i
     → n ≡ change w (λ v. on w new (off w old v)) l i
 shifted_field w k old new l m n i e h a b =
-    let room : i + k ≤ length l = rw e at h in
-    rw e
+    let room : i + k ≤ length l = rw (← e) at h in
+    rw (← e)
     (b ∙ ap (λ (r : List ℕ). change k (on k new) r i) a ∙ change_change k (off k old) l i (on k new) room (off_lt k old (value k l i)))
 
 -- where the loop stands: it began with the fields all and the code bs, and rest are left
