@@ -75,10 +75,7 @@ fn gather_file(form: u32, file: &[u8], old: Bases, new: Bases, memory: &[u8], sc
     let at = acx::opening_size(acx::form_of(form));
     let mut source = acx::first_cursor(at);
     let mut target = acx::first_cursor(at);
-    loop {
-        let Ok(found) = records::read(file, source.at, source.last) else {
-            return;
-        };
+    while let Ok(found) = records::read(file, source.at, source.last) {
         if let Record::End { .. } = found {
             return;
         }
