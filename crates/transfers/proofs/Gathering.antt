@@ -219,14 +219,15 @@ pub gathers_sound : (file : List ℕ) (size : ℕ) (r : Record) → Sound file s
 gathers_sound file size r h e = rw e at h
 
 -- the items and the code that are then lent
-pub gathers_lent : (file : List ℕ) (target : Cursor) (t : List ℕ) (fixup : Fixup) (from k : ℕ) → target.place + target.size ≤ length t
-    → Each (Inside target.size) (fields_of fixup (part file from k))
+pub gathers_lent : (file : List ℕ) (target : Cursor) (t : List ℕ) (r : Record) → Sound file target.size r → {fixup : Fixup} {from k : ℕ}
+    → r ≡ Fixups fixup from k
+    → target.place + target.size ≤ length t
     → Each (Inside (length (mid_of target.place (target.place + target.size - target.place) t))) (fields_of fixup (mid_of from (from + k - from) file))
-gathers_lent file target t fixup from k j h =
+gathers_lent file target t r h {fixup} {from} {k} e j =
     let code = lent_is target.place target.size t in
     let n : length (mid_of target.place (target.place + target.size - target.place) t) ≡ target.size =
     ap length code ∙ length_part t target.place target.size j in
-    rw (n, lent_is from k file) h
+    rw (n, lent_is from k file) (gathers_sound file target.size r h e).1
 
 -- ---- a turn of the loop
 

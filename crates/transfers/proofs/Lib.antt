@@ -1,5 +1,4 @@
 -- Laws by which `transfers` keeps its contracts.
-pub mod Items
 pub mod Shifting
 pub mod Gathering
 pub mod Entries

@@ -75,10 +75,7 @@ fn gather_file(form: u32, file: &[u8], old: Bases, new: Bases, memory: &[u8], sc
     let at = acx::opening_size(acx::form_of(form));
     let mut source = acx::first_cursor(at);
     let mut target = acx::first_cursor(at);
-    loop {
-        let Ok(found) = records::read(file, source.at, source.last) else {
-            return;
-        };
+    while let Ok(found) = records::read(file, source.at, source.last) {
         if let Record::End { .. } = found {
             return;
         }
@@ -89,6 +86,7 @@ fn gather_file(form: u32, file: &[u8], old: Bases, new: Bases, memory: &[u8], sc
 }
 
 // Gathers in the scratch what a record brings: its code from memory, or a change of the fields that it lists.
+#[tactic(auto, using(crate::proofs::Gathering::gathers_lent, crate::proofs::Gathering::gathers_code, crate::proofs::Gathering::gathers_fields, crate::proofs::Gathering::gathers_end, crate::proofs::Gathering::gathers_sound))]
 fn gather_record(
     file: &[u8],
     found: Record,
@@ -146,6 +144,7 @@ fn gather_index(index: &[u8], old: Bases, new: Bases, memory: &[u8], scratch: &m
 }
 
 // Gathers in the scratch what a code entry brings: `size` code bytes of a kind from memory, with the fields changed that its items list.
+#[tactic(auto, using(crate::proofs::Entries::entry_lent, crate::proofs::Entries::entry_moved))]
 fn gather_entry(
     items: &[u8],
     kind: Kind,
@@ -167,6 +166,7 @@ fn gather_entry(
 }
 
 // Copies `size` code bytes from `place` in memory to `to` in the scratch.
+#[tactic(auto, using(crate::proofs::Gathering::taken))]
 fn take_code(place: usize, to: usize, size: usize, memory: &[u8], scratch: &mut [u8])
     requires { (place + size ≤ length memory.now) × (to + size ≤ length scratch.old) }
     ensures { scratch.new ≡ put scratch.old to (part memory.now place size) }
@@ -215,8 +215,7 @@ fn shift_field(code: &mut [u8], field: Field, old: u16, new: u16)
     requires { Inside (length code.old) field }
     ensures { code.new ≡ change (width field) (λ v. on (width field) new (off (width field) old v)) code.old field.index }
 {
-    let fixup = field.fixup;
-    let width = fields::width(fixup);
+    let width = fields::width(field.fixup);
     words::take_off(code, field.index, width, old);
     words::add(code, field.index, width, new);
 }

@@ -81,7 +81,7 @@ loop-found-preserved c =
           (gathering_on x u v r on c.requires.1 l.0 t),
     )
 
-pub returns-in_default : goal.returns-in_default
-returns-in_default c =
+pub returns : goal.returns
+returns c =
     let l = c.loop-found.invariant in
     absurd (gathering_read l.2 l.1.yes_old l.1.yes_new (sym c.in_default.is ∙ c.read.ensures))

@@ -9,9 +9,6 @@ use Rattle.transfers.proofs.gather_index.Goals as goal
 pub loop-kind-init : goal.loop-kind-init
 loop-kind-init c = (c.requires.2, gathering_first c.requires.0)
 
-pub read-requires : goal.read-requires
-read-requires c = (c.loop-kind.invariant.1.in_index, c.loop-kind.invariant.1.whole.fits)
-
 pub overflow_add-next : goal.overflow_add-next
 overflow_add-next c =
     let l = c.loop-kind.invariant.1 in

@@ -2,7 +2,7 @@
 -- Assumes nothing.
 use mathlib.Core.Path.{◌∙◌}
 use native.Mathlib.Omega.{arith}
-use Rattle.transfers.proofs.Items.{item_first, item_none}
+use Rattle.fields.proofs.Listing.{item_next, item_none}
 use Rattle.transfers.proofs.Shifting.{shifting_here, shifting_more, shifting_end}
 use Rattle.transfers.proofs.shift_fields.Goals as goal
 
@@ -10,14 +10,14 @@ pub shift_field-requires : goal.shift_field-requires
 shift_field-requires c =
     let l = c.loop-item.invariant in
     let s = c.in-Some.ensures.steps.1 in
-    shifting_here (item_first c.args.fixup _ _ _ s.0 (s.1 ∙ l.0) c.field_at-field.ensures.0) l.1
+    shifting_here (item_next c.args.fixup _ _ _ s.0 (s.1 ∙ l.0) c.field_at-field.ensures.0) l.1
 
 pub loop-item-preserved : goal.loop-item-preserved
 loop-item-preserved c =
     let l = c.loop-item.invariant in
     let s = c.in-Some.ensures.steps in (
       s.0 ∙ l.0,
-      shifting_more (item_first c.args.fixup _ _ _ s.1.0 (s.1.1 ∙ l.0) c.field_at-field.ensures.0) l.1 c.amount.ensures c.amount-in-loop-item.ensures
+      shifting_more (item_next c.args.fixup _ _ _ s.1.0 (s.1.1 ∙ l.0) c.field_at-field.ensures.0) l.1 c.amount.ensures c.amount-in-loop-item.ensures
           c.shift_field.ensures,
     )
 

@@ -2,8 +2,7 @@
 -- Assumes nothing.
 use mathlib.Core.Path.{◌∙◌}
 use native.Mathlib.Omega.{arith}
-use Rattle.transfers.proofs.Items.{fixup_first, fixup_none}
-use Rattle.transfers.proofs.Shifting.{shifting_here, shifting_more, shifting_end}
+use Rattle.transfers.proofs.Shifting.{shifting_here, shifting_more, shifting_end, fixup_first, fixup_none}
 use Rattle.transfers.proofs.shift_listed.Goals as goal
 
 pub returns-in_default : goal.returns-in_default
