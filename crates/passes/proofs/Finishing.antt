@@ -8,21 +8,19 @@ use native.Mathlib.Omega.{arith}
 use borrow.Rule.Slice.PartMut.{mid_of, put_mid}
 use lib.ListN.{length, replicate, take, drop, length-replicate, drop_of_length-le}
 use lib.Seq.{sets-eq}
+use Rattle.std.proofs.Common.{Option, Some, None}
 use Rattle.answer.specs.Checks.{pick}
-use Rattle.answer.specs.declared.Outcome.TheVariants.{Accepted}
-use Rattle.answer.specs.declared.Start.{Start}
-use Rattle.answer.specs.declared.Start.TheVariants.{Absent, At}
+use Rattle.answer.specs.Report.{acceptance}
 use Rattle.events.specs.Events.{blank, Ran}
 use Rattle.words.proofs.Lent.{lent_is, back_is}
 use Rattle.words.proofs.Runs.{length_part}
 use Rattle.words.specs.Runs.{part, put}
 use Rattle.updates.specs.Bodies.{word_loaded}
 use Rattle.words.specs.Numbers.{value}
-use Rattle.passes.specs.Parts.{Walked, Checked, Reported}
+use Rattle.passes.specs.Parts.{WalkEnd, Walked, Checked, Reported}
 use Rattle.passes.specs.Buffers.{start_in, filled_up, buffers}
 use Rattle.passes.specs.Walk.{Verdict}
 use Rattle.passes.specs.declared.Totals.{Totals}
-use Rattle.passes.specs.declared.WalkEnd.{WalkEnd}
 
 -- ---- the rest of a room is cleared
 
@@ -49,9 +47,9 @@ rest_cleared n k l w h e f =
     ∙ ap (λ (i : ℕ). take k l ++ replicate (n - i) 0) (sym front)
 
 -- an acceptance, with both buffers
-pub reported_as : {t : Totals} {m p ns ads ns' ads' : List ℕ} {start : Start} → start ≡ start_in p m
+pub reported_as : {t : Totals} {m p ns ads ns' ads' : List ℕ} {start : Option ℕ} → start ≡ start_in p m
     → ns' ≡ filled_up 256 (part ns 0 (8 * t.named)) → ads' ≡ filled_up 32 (part ads 0 t.named)
-    → Reported t (buffers m p ns ads) (Accepted start t.placed t.adjusted t.named t.low) ns' ads'
+    → Reported t (buffers m p ns ads) (acceptance start t.placed t.adjusted t.named t.low) ns' ads'
 reported_as e f g = record { outcome = rw e refl; names = f; addresses = g }
 
 -- ---- first checked, then carried out
@@ -65,11 +63,11 @@ checked_as h clear = record { answer = h.did.answer; memory = h.did.reached.memo
 
 module _ (map memory : List ℕ) (loaded : Bool) (e : loaded ≡ word_loaded map 736) where
   -- absent unless both bytes at 02E0 are loaded
-  pub start_absent : loaded ≡ false → Absent ≡ start_in map memory
+  pub start_absent : loaded ≡ false → None ≡ start_in map memory
   unfolding start_in pick
   start_absent h = let f : word_loaded map 736 ≡ false = sym e ∙ h in rw f refl
 
   -- else the word there
-  pub start_there : (word : ℕ) → loaded ≡ true → word ≡ value 2 memory 736 → At word ≡ start_in map memory
+  pub start_there : (word : ℕ) → loaded ≡ true → word ≡ value 2 memory 736 → Some word ≡ start_in map memory
   unfolding start_in pick
   start_there word h i = let f : word_loaded map 736 ≡ true = sym e ∙ h in rw (f, i) refl
