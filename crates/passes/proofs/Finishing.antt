@@ -1,6 +1,6 @@
 -- The end of a load, over plain values: the rest of the new-name buffers cleared, the start, and the walk that only checks.
 -- Assumes nothing.
-use mathlib.Core.Bool.{Bool, true, false}
+use mathlib.Core.Bool.{false}
 use mathlib.Core.List.{List, [], ◌++◌, append-nil}
 use mathlib.Core.Path.{◌≡◌, refl, sym, ap, ◌∙◌}
 use Prim.Native.Nat.{ℕ, ◌+◌, ◌-◌, ◌*◌, ◌≤◌}
@@ -8,15 +8,12 @@ use native.Mathlib.Omega.{arith}
 use borrow.Rule.Slice.PartMut.{mid_of, put_mid}
 use lib.ListN.{length, replicate, take, drop, length-replicate, drop_of_length-le}
 use lib.Seq.{sets-eq}
-use Rattle.std.proofs.Common.{Option, Some, None}
-use Rattle.answer.specs.Checks.{pick}
+use Rattle.std.proofs.Common.{Option}
 use Rattle.answer.specs.Report.{acceptance}
 use Rattle.events.specs.Events.{blank, Ran}
 use Rattle.words.proofs.Lent.{lent_is, back_is}
 use Rattle.words.proofs.Runs.{length_part}
 use Rattle.words.specs.Runs.{part, put}
-use Rattle.updates.specs.Bodies.{word_loaded}
-use Rattle.words.specs.Numbers.{value}
 use Rattle.passes.specs.Parts.{WalkEnd, Walked, Checked, Reported}
 use Rattle.passes.specs.Buffers.{start_in, filled_up, buffers}
 use Rattle.passes.specs.Walk.{Verdict}
@@ -58,16 +55,3 @@ reported_as e f g = record { outcome = rw e refl; names = f; addresses = g }
 pub checked_as : {o : Ran Verdict} {m p ns ads m' p' ns' ads' p'' : List ℕ} {r : WalkEnd}
     → Walked o false (buffers m p ns ads) r (buffers m' p' ns' ads') → p'' ≡ blank → Checked o m r m' p''
 checked_as h clear = record { answer = h.did.answer; memory = h.did.reached.memory; map = clear; bounded = h.bounded }
-
--- ---- the start
-
-module _ (map memory : List ℕ) (loaded : Bool) (e : loaded ≡ word_loaded map 736) where
-  -- absent unless both bytes at 02E0 are loaded
-  pub start_absent : loaded ≡ false → None ≡ start_in map memory
-  unfolding start_in pick
-  start_absent h = let f : word_loaded map 736 ≡ false = sym e ∙ h in rw f refl
-
-  -- else the word there
-  pub start_there : (word : ℕ) → loaded ≡ true → word ≡ value 2 memory 736 → Some word ≡ start_in map memory
-  unfolding start_in pick
-  start_there word h i = let f : word_loaded map 736 ≡ true = sym e ∙ h in rw (f, i) refl

@@ -2,7 +2,7 @@
 // also writes memory and the new-name buffers that are lent. So a refusal has touched neither.
 #![tactic(auto)]
 
-ghost use Rattle.std.specs.Prelude.{◌≡◌, ◌*◌, ◌≤◌, length, replicate};
+ghost use Rattle.std.specs.Prelude.{◌≡◌, ◌*◌, ◌≤◌, length};
 ghost use Rattle.events.specs.Events.{blank};
 ghost use Rattle.passes.specs.Walk.{inputs, blocks_of};
 ghost use Rattle.passes.specs.Buffers.{buffers, start_in};
@@ -58,7 +58,7 @@ pub fn check(
         &mut names,
         &mut addresses,
     );
-    words::fill(map, 0);
+    map.fill(0);
     walked
 }
 
@@ -111,8 +111,8 @@ pub fn finish(
 {
     let named = totals.named;
     let size = names::NAME * named;
-    words::fill(&mut new_names[size..NAMES], 0);
-    clear(&mut new_addresses[named..ADDRESSES]);
+    new_names[size..NAMES].fill(0);
+    new_addresses[named..ADDRESSES].fill(0);
     Ok(Acceptance {
         start: start(memory, map),
         placed: totals.placed as u32,
@@ -134,25 +134,15 @@ fn total(cursor: Cursor, placed: usize, adjusted: usize) -> Totals
     }
 }
 
-// Puts zero in all addresses.
-fn clear(addresses: &mut [u16])
-    ensures { addresses.new ≡ replicate (length addresses.old) 0 }
-{
-    let mut i = 0;
-    while i < addresses.len() {
-        addresses[i] = 0;
-        i += 1;
-    }
-}
-
 // Where the program starts: the word at its place, if it is loaded.
+#[tactic(auto, unfolding(crate::specs::Buffers::start_in, answer::specs::Checks::pick))]
 fn start(memory: &[u8], map: &[u8]) -> Option<u16>
     requires { (length memory.now ≡ 65536) × (length map.now ≡ 65536) }
     ensures { result ≡ start_in map.now memory.now }
 {
-    let loaded = updates::word_loaded(map, START);
-    if !loaded {
-        return None;
+    if updates::word_loaded(map, START) {
+        Some(words::word_at(memory, START))
+    } else {
+        None
     }
-    Some(words::word_at(memory, START))
 }
