@@ -1,4 +1,4 @@
--- What a block that is read says of memory: a plain block lies there.
+-- What a block that is read says of memory: a plain block lies there. And what the words of a body grow by.
 -- Assumes nothing.
 use Rattle.std.proofs.Common.{◌≡◌, ℕ, ◌+◌, ◌-◌, ◌%◌, ◌<◌, ◌≤◌, Bool, List, Option, Some, None, Result, ap, arith}
 use Rattle.answer.proofs.Checks.{on_need}

@@ -1,21 +1,17 @@
--- One block carried out, over plain values: what it does to memory and the map, where it lies, and its name in the room for new names.
+-- One block carried out, over plain values: what it does to memory and the map, and its name in the room for new names.
 -- Assumes nothing.
 use mathlib.Core.Bool.{Bool, true, false}
 use mathlib.Core.List.{List, [], ◌∷◌}
 use mathlib.Core.Path.{◌≡◌, refl, ap, ◌∙◌}
-use Prim.Native.Nat.{ℕ, ◌+◌, ◌-◌, ◌*◌, ◌≤◌, ◌<◌}
+use Prim.Native.Nat.{ℕ, ◌+◌, ◌-◌, ◌*◌, ◌≤◌}
 use borrow.Rule.Slice.PartMut.{mid_of, put_mid}
 use lib.ListN.{length, set}
-use Rattle.answer.specs.declared.Fault.{Fault}
-use Rattle.blocks.specs.Blocks.{data_size, amount_of}
-use Rattle.blocks.specs.Bounds.{Listed, Fits}
 use Rattle.blocks.specs.declared.Block.{Block}
 use Rattle.blocks.specs.declared.Block.TheVariants.{Plain, Relocatable, Update, NewName}
 use Rattle.blocks.specs.declared.Cursor.{Cursor}
-use Rattle.blocks.specs.declared.Source.{Source}
 use Rattle.events.proofs.Events.{did_none}
 use Rattle.events.specs.Events.{place, reserve, play, marks, adjusted_in, Reached, Did}
-use Rattle.updates.specs.Bodies.{Ended, ended_at, ended, body}
+use Rattle.updates.specs.Bodies.{Ended, ended_at, ended}
 use Rattle.words.proofs.Lent.{lent_is, back_is}
 use Rattle.words.proofs.Runs.{length_part}
 use Rattle.words.specs.Runs.{part, put}
@@ -46,47 +42,11 @@ pub relocatable_reserved : (reserves : Bool) (file : List ℕ) (low from size : 
     → Did Ended (ended (placing_relocatable reserves file low from size)) write m p (ended_at from 0) m p'
 relocatable_reserved reserves file low from size write m p p' e h = rw e (reserved_did file low from size write m p p' h)
 
-pub relocatable_placed : (reserves : Bool) (file : List ℕ) (low from size : ℕ) (write : Bool) (m p : List ℕ) (r : Ended) (m' p' : List ℕ)
-    → reserves ≡ false
-    → Did Ended (ended (placing file low from size)) write m p r m' p' → Did Ended (ended (placing_relocatable reserves file low from size)) write m p r m' p'
-relocatable_placed reserves file low from size write m p r m' p' e h = rw e h
-
--- each kind of block comes to what its part comes to
-module _ (file lent own : List ℕ) (c : Cursor) (b : Block) (write : Bool) (m p : List ℕ) where
-  pub applied_plain : (address from size : ℕ) (r : Ended) (m' p' : List ℕ) → b ≡ Plain address from size
-      → Did Ended (ended (placing file address from size)) write m p r m' p' → Did Ended (ended (applied file lent own c b p)) write m p r m' p'
-  applied_plain address from size r m' p' e h = rw e h
-
-  pub applied_room : (reserves : Bool) (number offset from size : ℕ) (r : Ended) (m' p' : List ℕ) → b ≡ Relocatable reserves number offset from size
-      → Did Ended (ended (placing_relocatable reserves file c.low from size)) write m p r m' p'
-      → Did Ended (ended (applied file lent own c b p)) write m p r m' p'
-  applied_room reserves number offset from size r m' p' e h = rw e h
-
-  pub applied_body : (source : Source) (from amount : ℕ) (r : Ended) (m' p' : List ℕ) → b ≡ Update source from
-      → amount ≡ amount_of c.table lent own source → Did Ended (ended (body file c.table amount from p)) write m p r m' p'
-      → Did Ended (ended (applied file lent own c b p)) write m p r m' p'
-  applied_body source from amount r m' p' e a h = rw (e, ← a) h
-
-  -- a new name leaves memory and the map as they are
-  pub applied_name : (from address : ℕ) → b ≡ NewName from address
-      → Did Ended (ended (applied file lent own c b p)) write m p (ended_at (from + 8) 0) m p
-  unfolding adjusted_in
-  applied_name from address e = rw e (did_none (ended_at (from + 8) 0) write m p)
-
--- what a block asks for lies where it says
-module _ (len : ℕ) (c : Cursor) (lent own : ℕ) (b : Block) (f : Fits len c lent own b) where
-  pub plain_inside : (address from size : ℕ) → b ≡ Plain address from size → from + size ≤ len
-  plain_inside address from size e = (rw e at f.lies).1
-
-  pub room_inside : (reserves : Bool) (number offset from size : ℕ) → b ≡ Relocatable reserves number offset from size
-      → (from + data_size reserves size ≤ len) × (c.low + size ≤ 65535) × (number < 8)
-  room_inside reserves number offset from size e = let l = rw e at f.lies in (l.1, l.2, l.3)
-
-  pub body_inside : (source : Source) (from : ℕ) → b ≡ Update source from → (from ≤ len) × Listed lent own source
-  body_inside source from e = let l = rw e at f.lies in (l.1, l.2)
-
-  pub name_inside : (from address : ℕ) → b ≡ NewName from address → from + 8 ≤ len
-  name_inside from address e = (rw e at f.lies).1
+-- a new name leaves memory and the map as they are
+pub applied_name : (file lent own : List ℕ) (c : Cursor) (b : Block) (write : Bool) (m p : List ℕ) (from address : ℕ) → b ≡ NewName from address
+    → Did Ended (ended (applied file lent own c b p)) write m p (ended_at (from + 8) 0) m p
+unfolding adjusted_in
+applied_name file lent own c b write m p from address e = rw e (did_none (ended_at (from + 8) 0) write m p)
 
 -- ---- the new name
 

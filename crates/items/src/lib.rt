@@ -45,9 +45,8 @@ pub fn read(
             offset: file.len(),
         });
     }
-    let byte = file[at];
-    match byte {
-        0..=251 => add(at, byte, counter),
+    match file[at] {
+        amount @ 0..=251 => add(at, amount, counter),
         252 => Ok(Item::End(at + 1)),
         253 => set(file, at),
         254 => set_to_block(file, table, at),
@@ -65,7 +64,7 @@ fn add(at: usize, amount: u8, counter: Option<u16>) -> Result<Item, Failure>
         fault: Fault::CounterUnusable,
         offset: at,
     };
-    let sum = counter.ok_or(unusable)?.checked_add(amount as u16);
+    let sum = counter.ok_or(unusable)?.checked_add(u16::from(amount));
     let to = sum.filter(|to| *to <= 65534).ok_or(unusable)?;
     Ok(Item::Adjust {
         counter: to,
