@@ -8,9 +8,6 @@ use Rattle.passes.specs.Walk.{inputs}
 use Rattle.pairs.proofs.Pairs.{known_front, loads_accepted, loads_refused}
 use Rattle.pairs.proofs.load_words.Goals as goal
 
-pub slice_bounds-load-end : goal.slice_bounds-load-end
-slice_bounds-load-end c = sym (length-take-le _ _ (omega arith))
-
 pub returns-else-is_ok : goal.returns-else-is_ok
 returns-else-is_ok c =
     let a = c.args in

@@ -23,25 +23,11 @@ returns-then-cursor-file c =
     let l = c.loop-cursor.invariant in
     rw c.total.ensures (going_done l.4 c.if-cursor-file.true)
 
-pub overflow_mul-size : goal.overflow_mul-size
-overflow_mul-size c = let few = c.loop-cursor.invariant.4.counted.few in omega (arith, few)
-
-pub slice_bounds-read-end : goal.slice_bounds-read-end
-slice_bounds-read-end c = let l = c.loop-cursor.invariant in omega (arith, l.2, l.4.counted.few)
-
-pub read-requires : goal.read-requires
-read-requires c =
-    let l = c.loop-cursor.invariant in
-    (l.4.lent.short, l.4.passed.inside, l.4.tabled.packed)
-
 -- the fault of what was read, or of the block, is that of the walk
 pub returns-in_err-found : goal.returns-in_err-found
 returns-in_err-found c =
     let p = err_from_is_err_and c.from_residual.result c.from_residual.ensures.1 in
     rw (p.1, p.2) (going_unread c.loop-cursor.invariant.4 c.if-cursor-file.false (sym c.in_err-found.was ∙ c.read.ensures.value))
-
-pub slice_bounds-own-end : goal.slice_bounds-own-end
-slice_bounds-own-end c = let l = c.loop-cursor.invariant in omega (arith, l.3, l.4.counted.few)
 
 pub apply-requires : goal.apply-requires
 apply-requires c =
@@ -60,12 +46,6 @@ store_name-requires c =
     (name_fits l.4 (sym c.in_ok-found.was ∙ c.read.ensures.value), l.2, l.3)
 
 -- both counts with the block's own stay within the file
-pub overflow_add-bytes : goal.overflow_add-bytes
-overflow_add-bytes c =
-    let l = c.loop-cursor.invariant.4 in
-    let k = going_counts l (sym c.in_ok-found.was ∙ c.read.ensures.value) c.if-cursor-file.false c.apply.ensures c.in_ok-end.was in
-    omega (arith, k.0, l.lent.short, c.placed_by-bytes.ensures)
-
 pub overflow_add-fields : goal.overflow_add-fields
 overflow_add-fields c =
     let l = c.loop-cursor.invariant.4 in
