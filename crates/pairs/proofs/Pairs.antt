@@ -8,13 +8,10 @@ use native.Mathlib.Omega.{arith}
 use borrow.Author.Tests.{eqb-true, ne_eqb, lt-leb}
 use lib.Dec.{eqb}
 use lib.ListN.{length, replicate, take}
-use Rattle.answer.proofs.Outcomes.{is_refused}
+use Rattle.std.proofs.Common.{Ok, Err, is_ok}
 use Rattle.answer.specs.Checks.{need, pick}
-use Rattle.answer.specs.declared.Fault.{Fault}
 use Rattle.answer.specs.declared.Fault.TheVariants.{WrongBuffer}
-use Rattle.answer.specs.declared.Outcome.{Outcome}
-use Rattle.answer.specs.declared.Outcome.TheVariants.{Accepted, Refused}
-use Rattle.answer.specs.declared.Start.{Start}
+use Rattle.answer.specs.Report.{Outcome, refusal}
 use Rattle.events.specs.Events.{Ran}
 use Rattle.passes.specs.Buffers.{Buffers}
 use Rattle.passes.specs.Walk.{Inputs, inputs, Verdict, finished, refused}
@@ -61,7 +58,7 @@ module _ (g : Inputs) (b : Buffers) where
           and_false (eqb (length b.memory) 65536) _
           (and_false (eqb (length b.map) 65536) _ (and_false (eqb (length b.names) 256) _ (rw (ne_eqb _ _ other) refl)))
 
-module _ {file : List ℕ} {g : Inputs} {b : Buffers} {o : Outcome} (e : o ≡ Refused WrongBuffer 0 0) where
+module _ {file : List ℕ} {g : Inputs} {b : Buffers} {o : Outcome} (e : o ≡ refusal WrongBuffer 0 0) where
   -- where some length is wrong, nothing is done
   pub loads_wrong : (answered : Bool) → (answered && both_paired g b) && sized (as_words g) (in_words b) ≡ false → Loads file g answered b o b
   unfolding call need pick
@@ -103,6 +100,15 @@ known_front bytes l room e h = front_holds room (addresses_in bytes) l (length b
 abbrev pub new_words : List ℕ
 new_words = replicate 32 0
 
+-- the new addresses go back as pairs where the outcome is an acceptance, and only there
+pairs_accepted : (o : Outcome) → is_ok o ≡ true → (new bytes : List ℕ) → pairs_after o new bytes ≡ encoded 2 new
+pairs_accepted (Ok a) e new bytes = refl
+pairs_accepted (Err r) e new bytes = absurd (false≢true e)
+
+pairs_refused : (o : Outcome) → is_ok o ≡ false → (new bytes : List ℕ) → pairs_after o new bytes ≡ bytes
+pairs_refused (Ok a) e new bytes = absurd (false≢true (sym e))
+pairs_refused (Err r) e new bytes = refl
+
 -- the lengths of pairs are right where those of the words are
 same_lengths : (g : Inputs) (b : Buffers) → paired g.addresses ≡ true → length b.addresses ≡ 64
     → (true && both_paired g b) && sized (as_words g) (in_words b) ≡ sized (as_words g) (with_addresses b new_words)
@@ -139,11 +145,13 @@ module _ (file : List ℕ) (g : Inputs) (b b' : Buffers) (o : Outcome) (known ne
         addresses = f;
       }
 
+  -- it was accepted where the walk finished
+  finished_ok : (v : Verdict) → ran.answer ≡ v → is_ok o ≡ is_ok (report b.memory v ran.events)
+  finished_ok v h = ap (λ (q : Outcome). is_ok q) (d.outcome ∙ ap (λ (w : Verdict). report b.memory w ran.events) h)
+
   -- an acceptance puts the new addresses into pairs, in which they are read
-  pub loads_accepted : (start : Start) (i j k l : ℕ) → o ≡ Accepted start i j k l → b'.addresses ≡ encoded 2 new
-      → decoded 2 (length new) b'.addresses ≡ new
-      → Loads file g true b o b'
-  loads_accepted start i j k l e f back = by ran.answer refl
+  pub loads_accepted : is_ok o ≡ true → b'.addresses ≡ encoded 2 new → decoded 2 (length new) b'.addresses ≡ new → Loads file g true b o b'
+  loads_accepted e f back = by ran.answer refl
     where
       words_in : addresses_in b'.addresses ≡ new
       words_in =
@@ -155,17 +163,14 @@ module _ (file : List ℕ) (g : Inputs) (b b' : Buffers) (o : Outcome) (known ne
           loads
           (words_in ∙ d.addresses ∙ ap (λ (v : Verdict). addresses_after v new_words) h
           ∙ sym (ap (λ (v : Verdict). addresses_after v (addresses_in b.addresses)) h))
-          (rw (e, words_in) f)
-      by (refused fault offset z) h =
-          absurd (false≢true (ap is_refused (sym e ∙ d.outcome ∙ ap (λ (v : Verdict). report b.memory v ran.events) h)))
+          (f ∙ ap (λ (l : List ℕ). encoded 2 l) (sym words_in) ∙ sym (pairs_accepted o e _ _))
+      by (refused fault offset z) h = absurd (false≢true (sym (finished_ok (refused fault offset z) h) ∙ e))
 
   -- a refusal leaves the pairs as they were
-  pub loads_refused : (fault : Fault) (at side : ℕ) → o ≡ Refused fault at side → b'.addresses ≡ b.addresses
-      → Loads file g true b (Refused fault at side) b'
-  loads_refused fault at side e f = rw (← e) (by ran.answer refl)
+  pub loads_refused : is_ok o ≡ false → b'.addresses ≡ b.addresses → Loads file g true b o b'
+  loads_refused e f = by ran.answer refl
     where
       by : (v : Verdict) → ran.answer ≡ v → Loads file g true b o b'
-      by (finished z) h =
-          absurd (false≢true (sym (ap is_refused (sym e ∙ d.outcome ∙ ap (λ (v : Verdict). report b.memory v ran.events) h))))
+      by (finished z) h = absurd (false≢true (sym e ∙ finished_ok (finished z) h))
       by (refused k i z) h =
-          loads (ap addresses_in f ∙ sym (ap (λ (v : Verdict). addresses_after v (addresses_in b.addresses)) h)) (rw e f)
+          loads (ap addresses_in f ∙ sym (ap (λ (v : Verdict). addresses_after v (addresses_in b.addresses)) h)) (f ∙ sym (pairs_refused o e _ _))

@@ -1,9 +1,8 @@
 -- An SDX load whose address lists are byte pairs (document 01, "What the bench lends", "C calls"): here the address lists among
 -- the inputs and the buffers are bytes.
 -- Assumes nothing.
-use Rattle.std.specs.Prelude.{Bool, ◌&&◌, List, ◌≡◌, ℕ, ◌/◌, ◌%◌, eqb, length}
-use Rattle.answer.specs.declared.Outcome.{Outcome}
-use Rattle.answer.specs.declared.Outcome.TheVariants.{Accepted, Refused}
+use Rattle.std.specs.Prelude.{Bool, ◌&&◌, List, ◌≡◌, ℕ, ◌/◌, ◌%◌, eqb, length, Ok, Err}
+use Rattle.answer.specs.Report.{Outcome}
 use Rattle.passes.specs.Buffers.{Buffers, buffers}
 use Rattle.passes.specs.Walk.{Inputs, inputs}
 use Rattle.sdx.specs.Call.{sized, Loaded}
@@ -35,8 +34,8 @@ both_paired g b = paired g.addresses && paired b.addresses
 
 -- the buffer for new addresses after a load over words that left these: pairs on an acceptance, and "as they were" on a refusal
 abbrev pub pairs_after : Outcome → List ℕ → List ℕ → List ℕ
-pairs_after (Accepted start placed adjusted named low) new bytes = encoded 2 new
-pairs_after (Refused fault offset side) new bytes = bytes
+pairs_after (Ok a) new bytes = encoded 2 new
+pairs_after (Err r) new bytes = bytes
 
 -- What a load over pairs does: it found the buffers b, comes to the outcome o, and leaves b', as the loader does over the words in them. `others`
 -- says whether all else that is lent has its length (the answer, in a call from C).

@@ -77,14 +77,8 @@ fn load_words(
         new_names,
         &mut new,
     );
-    if let Outcome::Refused {
-        fault,
-        offset,
-        side,
-    } = outcome
-    {
-        return outcome;
+    if outcome.is_ok() {
+        words::encode_words(new_addresses, &new);
     }
-    words::encode_words(new_addresses, &new);
     outcome
 }

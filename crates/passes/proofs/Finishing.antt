@@ -1,6 +1,6 @@
 -- The end of a load, over plain values: the rest of the new-name buffers cleared, the start, and the walk that only checks.
 -- Assumes nothing.
-use mathlib.Core.Bool.{Bool, true, false}
+use mathlib.Core.Bool.{false}
 use mathlib.Core.List.{List, [], ◌++◌, append-nil}
 use mathlib.Core.Path.{◌≡◌, refl, sym, ap, ◌∙◌}
 use Prim.Native.Nat.{ℕ, ◌+◌, ◌-◌, ◌*◌, ◌≤◌}
@@ -8,21 +8,16 @@ use native.Mathlib.Omega.{arith}
 use borrow.Rule.Slice.PartMut.{mid_of, put_mid}
 use lib.ListN.{length, replicate, take, drop, length-replicate, drop_of_length-le}
 use lib.Seq.{sets-eq}
-use Rattle.answer.specs.Checks.{pick}
-use Rattle.answer.specs.declared.Outcome.TheVariants.{Accepted}
-use Rattle.answer.specs.declared.Start.{Start}
-use Rattle.answer.specs.declared.Start.TheVariants.{Absent, At}
+use Rattle.std.proofs.Common.{Option}
+use Rattle.answer.specs.Report.{acceptance}
 use Rattle.events.specs.Events.{blank, Ran}
 use Rattle.words.proofs.Lent.{lent_is, back_is}
 use Rattle.words.proofs.Runs.{length_part}
 use Rattle.words.specs.Runs.{part, put}
-use Rattle.updates.specs.Bodies.{word_loaded}
-use Rattle.words.specs.Numbers.{value}
-use Rattle.passes.specs.Parts.{Walked, Checked, Reported}
+use Rattle.passes.specs.Parts.{WalkEnd, Walked, Checked, Reported}
 use Rattle.passes.specs.Buffers.{start_in, filled_up, buffers}
 use Rattle.passes.specs.Walk.{Verdict}
 use Rattle.passes.specs.declared.Totals.{Totals}
-use Rattle.passes.specs.declared.WalkEnd.{WalkEnd}
 
 -- ---- the rest of a room is cleared
 
@@ -49,9 +44,9 @@ rest_cleared n k l w h e f =
     ∙ ap (λ (i : ℕ). take k l ++ replicate (n - i) 0) (sym front)
 
 -- an acceptance, with both buffers
-pub reported_as : {t : Totals} {m p ns ads ns' ads' : List ℕ} {start : Start} → start ≡ start_in p m
+pub reported_as : {t : Totals} {m p ns ads ns' ads' : List ℕ} {start : Option ℕ} → start ≡ start_in p m
     → ns' ≡ filled_up 256 (part ns 0 (8 * t.named)) → ads' ≡ filled_up 32 (part ads 0 t.named)
-    → Reported t (buffers m p ns ads) (Accepted start t.placed t.adjusted t.named t.low) ns' ads'
+    → Reported t (buffers m p ns ads) (acceptance start t.placed t.adjusted t.named t.low) ns' ads'
 reported_as e f g = record { outcome = rw e refl; names = f; addresses = g }
 
 -- ---- first checked, then carried out
@@ -60,16 +55,3 @@ reported_as e f g = record { outcome = rw e refl; names = f; addresses = g }
 pub checked_as : {o : Ran Verdict} {m p ns ads m' p' ns' ads' p'' : List ℕ} {r : WalkEnd}
     → Walked o false (buffers m p ns ads) r (buffers m' p' ns' ads') → p'' ≡ blank → Checked o m r m' p''
 checked_as h clear = record { answer = h.did.answer; memory = h.did.reached.memory; map = clear; bounded = h.bounded }
-
--- ---- the start
-
-module _ (map memory : List ℕ) (loaded : Bool) (e : loaded ≡ word_loaded map 736) where
-  -- absent unless both bytes at 02E0 are loaded
-  pub start_absent : loaded ≡ false → Absent ≡ start_in map memory
-  unfolding start_in pick
-  start_absent h = let f : word_loaded map 736 ≡ false = sym e ∙ h in rw f refl
-
-  -- else the word there
-  pub start_there : (word : ℕ) → loaded ≡ true → word ≡ value 2 memory 736 → At word ≡ start_in map memory
-  unfolding start_in pick
-  start_there word h i = let f : word_loaded map 736 ≡ true = sym e ∙ h in rw (f, i) refl

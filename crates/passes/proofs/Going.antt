@@ -7,8 +7,11 @@ use Prim.Native.Nat.{ℕ, ◌+◌, ◌-◌, ◌*◌, ◌/◌, ◌≤◌, ◌<◌
 use native.Mathlib.Omega.{arith}
 use borrow.Rule.Slice.PartMut.{mid_of}
 use lib.ListN.{length}
-use Rattle.answer.specs.declared.Fault.{Fault}
+use Rattle.std.proofs.Common.{Result, Ok, Err}
+use Rattle.answer.proofs.Faults.{OfFile, of_file_located}
+use Rattle.answer.specs.declared.Failure.{Failure}
 use Rattle.answer.specs.declared.Fault.TheVariants.{CutShort}
+use Rattle.blocks.proofs.Lying.{BlockFaults}
 use Rattle.blocks.specs.Blocks.{read}
 use Rattle.blocks.specs.Bounds.{Fits}
 use Rattle.blocks.specs.declared.Block.{Block}
@@ -18,43 +21,44 @@ use Rattle.events.proofs.Walks.{walk_goes_on, walk_ends}
 use Rattle.events.specs.Events.{Event, marks, blank, placed_in, adjusted_in, Ran, Reached, Did}
 use Rattle.events.specs.Walk.{Turn, ends, leads, after, bytes_left}
 use Rattle.updates.proofs.Faults.{stop_within}
-use Rattle.updates.specs.Bodies.{Stop, broken, done, ended}
-use Rattle.updates.specs.declared.Ended.{Ended}
-use Rattle.updates.specs.declared.Ended.TheVariants.{Broken, Done}
+use Rattle.updates.specs.Bodies.{Stop, broken, done, Ended, ended}
+use Rattle.updates.specs.declared.Done.{Done}
 use Rattle.words.proofs.Runs.{front_holds}
 use Rattle.words.specs.Runs.{put}
 use Rattle.effects.proofs.Ending.{Ends, applied_ends, advanced_at, Behind, behind_first, behind_on, placed_by_lem, stop_broken, stop_done}
 use Rattle.effects.proofs.NewNames.{front_is, behind, Counted, counted_first, counted_on, Tabled, tabled_first, tabled_on}
 use Rattle.effects.specs.Effects.{Effect, placed_by, applied, advanced, name_in, address_in, first_cursor}
 use Rattle.effects.specs.Parts.{NameFits, RoomFits, NameStored}
-use Rattle.passes.proofs.Turning.{turn_end, turn_block, block_fits, block_faults, turn_falls}
-use Rattle.passes.specs.Parts.{totals, Bounded, Walked}
+use Rattle.passes.proofs.Turning.{turn_end, turn_block, block_fits, read_faulty, block_faults, turn_falls}
+use Rattle.passes.specs.Parts.{totals, WalkEnd, Bounded, Walked}
 use Rattle.passes.specs.Buffers.{Buffers, buffers}
-use Rattle.passes.specs.Walk.{stepped, Inputs, Progress, Verdict, finished, refused, judge, block_at, applied_at, turn, blocks_from, begun, blocks_of}
+use Rattle.passes.specs.Walk.{stepped, Inputs, Progress, Verdict, finished, refused, judge, block_at, applied_at, carried, turn, blocks_from, begun, blocks_of}
 use Rattle.passes.specs.declared.Totals.{Totals}
-use Rattle.passes.specs.declared.WalkEnd.{WalkEnd}
-use Rattle.passes.specs.declared.WalkEnd.TheVariants.{Stopped, Finished}
 
 eighth : {n k : ℕ} → n ≡ 8 * k → n / 8 ≡ k
 eighth e = omega (arith, e)
 
-finished_same : (low : ℕ) {n k i j l m : ℕ} → k ≡ n → i ≡ j → l ≡ m → Finished (totals low n i l) ≡ Finished (totals low k j m)
+finished_same : (low : ℕ) {n k i j l m : ℕ} → k ≡ n → i ≡ j → l ≡ m → ◌≡◌ {A = WalkEnd} (Ok (totals low n i l)) (Ok (totals low k j m))
 finished_same low e f g = rw (e, f, g) refl
 
-pub stopped_finished : {fault : Fault} {offset : ℕ} {t : Totals} → Stopped fault offset ≡ Finished t → ⊥
+pub stopped_finished : {e : Failure} {t : Totals} → ◌≡◌ {A = WalkEnd} (Err e) (Ok t) → ⊥
 stopped_finished e = let z : ◌≡◌ {A = ℕ} 0 1 = cc in omega arith
 
 -- what a walk that has finished comes to
 abbrev pub totals_in : WalkEnd → Totals
-totals_in (Stopped fault offset) = totals 0 0 0 0
-totals_in (Finished t) = t
+totals_in (Err e) = totals 0 0 0 0
+totals_in (Ok t) = t
 
-bounded_stopped : (fault : Fault) (offset : ℕ) → offset ≤ 65536 → Bounded (Stopped fault offset)
-bounded_stopped fault offset h =
-    record { offset = λ f at e. let z : offset ≡ at = cc in omega arith; counts = λ t e. absurd (stopped_finished e) }
+-- where a walk stopped
+abbrev offset_in : WalkEnd → ℕ
+offset_in (Err e) = e.offset
+offset_in (Ok t) = 0
+
+bounded_stopped : (e : Failure) → e.offset ≤ 65536 → Bounded (Err e)
+bounded_stopped e h = record { offset = λ f at i. omega (arith, ap offset_in i, h); counts = λ t i. absurd (stopped_finished i) }
 
 bounded_finished : (low named placed adjusted : ℕ) → named ≤ 32 → placed ≤ 65536 → adjusted ≤ 65536
-    → Bounded (Finished (totals low named placed adjusted))
+    → Bounded (Ok (totals low named placed adjusted))
 bounded_finished low named placed adjusted h i j =
     record {
       offset = λ f at e. absurd (stopped_finished (sym e));
@@ -145,7 +149,7 @@ module _ {file : List ℕ} {g : Inputs} {write : Bool} {b : Buffers} where
         x.so_far v e
 
     -- at the file's end the walk has finished
-    pub going_done : c.at ≡ length file → Walked (blocks_of file g) write b (Finished (totals c.low c.named placed adjusted)) b'
+    pub going_done : c.at ≡ length file → Walked (blocks_of file g) write b (Ok (totals c.low c.named placed adjusted)) b'
     going_done e =
         let t = turn_end file g here (marks x.events blank) e in
         let w : blocks_of file g ≡ record { answer = finished here; events = x.events } =
@@ -167,15 +171,46 @@ module _ {file : List ℕ} {g : Inputs} {write : Bool} {b : Buffers} where
               (omega (arith, x.adjusted_is, x.passed.counts, x.passed.inside, x.lent.short));
         })
 
-    -- the block that the program reads is the definition's
-    module _ {found : Block} (as_read : found ≡ read file g.high g.names (mid_of 0 (8 * c.named - 0) b'.names) c) where
-      found_is : found ≡ block_at file g here
-      found_is = as_read ∙ ap (λ (l : List ℕ). read file g.high g.names l c) own_names
+    -- a turn that ends the walk with a fault
+    stops_with : {e : Failure} {es : List Event} {m p : List ℕ}
+        → turn file g here (marks x.events blank) ≡ record { answer = ends (refused e.fault e.offset here); events = es }
+        → Reached (x.events ++ es) write b.memory blank m p
+        → e.offset ≤ length file
+        → Walked (blocks_of file g) write b (Err e) (buffers m p b'.names b'.addresses)
+    stops_with {e} {es} t reached w =
+        let v : blocks_of file g ≡ record { answer = refused e.fault e.offset here; events = x.events ++ es } =
+        ends_with (refused e.fault e.offset here) (ap (λ (q : Ran (Turn Progress Verdict)). q.answer) t)
+        ∙ ap (λ (fs : List Event). record { answer = refused e.fault e.offset here; events = x.events ++ fs })
+        (ap (λ (q : Ran (Turn Progress Verdict)). q.events) t) in
+        rw v
+        (record {
+          did = record { answer = refl; reached = rw x.lent.clear reached };
+          names = x.new_names;
+          addresses = x.new_addresses;
+          eights = x.counted.bytes ∙ ap (λ (n : ℕ). 8 * n) (sym x.counted.each);
+          bounded = bounded_stopped e (omega (arith, w, x.lent.short));
+        })
 
+    -- what the program reads is the definition's
+    read_is : {r : Result Block Failure} → r ≡ read file g.high g.names (mid_of 0 (8 * c.named - 0) b'.names) c → block_at file g here ≡ r
+    read_is e = sym (e ∙ ap (λ (l : List ℕ). read file g.high g.names l c) own_names)
+
+    -- what is no block ends the walk with its fault
+    pub going_unread : {e : Failure} → (c.at ≡ length file → ⊥) → Err e ≡ read file g.high g.names (mid_of 0 (8 * c.named - 0) b'.names) c
+        → Walked (blocks_of file g) write b (Err e) b'
+    going_unread {e} more as_read =
+        let i = read_is as_read in
+        let w : OfFile (length file) e.fault e.offset = subst (λ (r : Result Block Failure). BlockFaults (length file) r) i (read_faulty file g x.lent.top here) in
+        let t = turn_block file g here (marks x.events blank) more
+        ∙ ap (λ (r : Result Block Failure). carried file g here r (marks x.events blank)) i in
+        let reached : Reached (x.events ++ []) write b.memory blank b'.memory b'.map = rw (append-nil x.events) x.reached in
+        stops_with t reached (of_file_located w).within
+
+    module _ {found : Block} (as_read : Ok found ≡ read file g.high g.names (mid_of 0 (8 * c.named - 0) b'.names) c) where
       fits : Fits (length file) c (length g.names / 8) (length x.names / 8) found
-      fits = rw found_is (block_fits file g x.lent.top here)
+      fits = block_fits file g x.lent.top here (read_is as_read)
 
-      -- it lies where the parts of the program need it
+      -- a block lies where the parts of the program need it
       pub found_fits : Fits (length file) c (length g.addresses) (length (mid_of 0 (c.named - 0) b'.addresses)) found
       found_fits =
           let lent : length g.names / 8 ≡ length g.addresses = omega (arith, x.lent.known) in
@@ -194,60 +229,44 @@ module _ {file : List ℕ} {g : Inputs} {write : Bool} {b : Buffers} where
           (did : Did Ended (ended (applied file g.addresses (mid_of 0 (c.named - 0) b'.addresses) c found b'.map)) write
           b'.memory b'.map r m p) where
         abbrev o : Ran Stop
-        o = applied_at file g here (marks x.events blank)
+        o = applied_at file g here found (marks x.events blank)
 
         applied_is : applied file g.addresses (mid_of 0 (c.named - 0) b'.addresses) c found b'.map ≡ o
         unfolding applied_at
         applied_is =
             ap (λ (l : List ℕ). applied file g.addresses l c found b'.map) own_addresses
-            ∙ ap (λ (q : Block). applied file g.addresses x.addresses c q b'.map) found_is
-            ∙ ap (λ (q : List ℕ). applied file g.addresses x.addresses c (block_at file g here) q) x.reached.map
+            ∙ ap (λ (q : List ℕ). applied file g.addresses x.addresses c found q) x.reached.map
 
         did_is : Did Ended (ended o) write b'.memory b'.map r m p
         did_is = subst (λ (q : Ran Stop). Did Ended (ended q) write b'.memory b'.map r m p) applied_is did
 
-        abbrev turned : Ran (Turn Progress Verdict)
-        turned = record { answer = judge file here (block_at file g here) o.events o.answer; events = o.events }
-
-        turn_is : turn file g here (marks x.events blank) ≡ turned
-        turn_is = turn_block file g here (marks x.events blank) more
+        turn_is : turn file g here (marks x.events blank) ≡ record { answer = judge file here found o.events o.answer; events = o.events }
+        turn_is =
+            turn_block file g here (marks x.events blank) more
+            ∙ ap (λ (q : Result Block Failure). carried file g here q (marks x.events blank)) (read_is as_read)
 
         reached_then : Reached (x.events ++ o.events) write b.memory blank m p
         reached_then = reached_more x.events write b.memory blank b'.memory b'.map m p (ended o) r x.reached did_is
 
         -- a fault ends the walk
-        pub going_stops : (fault : Fault) (offset : ℕ) → r ≡ Broken fault offset
-            → Walked (blocks_of file g) write b (Stopped fault offset) (buffers m p b'.names b'.addresses)
-        going_stops fault offset e =
-            let k : o.answer ≡ broken fault offset = stop_broken o.answer o.events fault offset (sym did_is.answer ∙ e) in
-            let w = stop_within (block_faults file g x.lent.top here (marks x.events blank)) k in
-            let t : turn file g here (marks x.events blank) ≡ record { answer = ends (refused fault offset here); events = o.events } =
-            turn_is
-            ∙ ap (λ (s : Stop). record { answer = judge file here (block_at file g here) o.events s; events = o.events }) k in
-            let v : blocks_of file g ≡ record { answer = refused fault offset here; events = x.events ++ o.events } =
-            ends_with (refused fault offset here) (ap (λ (q : Ran (Turn Progress Verdict)). q.answer) t)
-            ∙ ap (λ (es : List Event). record { answer = refused fault offset here; events = x.events ++ es })
-            (ap (λ (q : Ran (Turn Progress Verdict)). q.events) t) in
-            rw v
-            (record {
-              did = record { answer = refl; reached = rw x.lent.clear reached_then };
-              names = x.new_names;
-              addresses = x.new_addresses;
-              eights = x.counted.bytes ∙ ap (λ (n : ℕ). 8 * n) (sym x.counted.each);
-              bounded = bounded_stopped fault offset (omega (arith, w, x.lent.short));
-            })
+        pub going_stops : {e : Failure} → r ≡ Err e → Walked (blocks_of file g) write b (Err e) (buffers m p b'.names b'.addresses)
+        going_stops {e} i =
+            let k : o.answer ≡ broken e.fault e.offset = stop_broken o.answer o.events e.fault e.offset (sym did_is.answer ∙ i) in
+            let t : turn file g here (marks x.events blank) ≡ record { answer = ends (refused e.fault e.offset here); events = o.events } =
+            turn_is ∙ ap (λ (s : Stop). record { answer = judge file here found o.events s; events = o.events }) k in
+            stops_with t reached_then (stop_within (block_faults file g here found (marks x.events blank)) k)
 
         -- else the loop goes on behind the block
-        module _ (next adjusts : ℕ) (e : r ≡ Done next adjusts) where
+        module _ {d : Done} (e : r ≡ Ok d) where
           abbrev then : Progress
-          then = stepped file here (block_at file g here) o.events next
+          then = stepped file here found o.events d.next
 
-          stopped : (o.answer ≡ done next) × (adjusted_in o.events ≡ adjusts)
-          stopped = stop_done o.answer o.events next adjusts (sym did_is.answer ∙ e)
+          stopped : (o.answer ≡ done d.next) × (adjusted_in o.events ≡ d.adjusted)
+          stopped = stop_done o.answer o.events d.next d.adjusted (sym did_is.answer ∙ e)
 
-          ends_there : Ends (length file) c.at next o.events
+          ends_there : Ends (length file) c.at d.next o.events
           unfolding applied_at
-          ends_there = applied_ends file g.addresses x.addresses c (block_at file g here) _ _ _ (block_fits file g x.lent.top here) next stopped.0
+          ends_there = applied_ends file g.addresses x.addresses c found _ _ _ fits d.next stopped.0
 
           so_far_then : blocks_of file g
               ≡ after (x.events ++ o.events) (blocks_from file g then (marks (x.events ++ o.events) blank))
@@ -255,59 +274,51 @@ module _ {file : List ℕ} {g : Inputs} {write : Bool} {b : Buffers} where
           so_far_then =
               let t : turn file g here (marks x.events blank) ≡ record { answer = leads then; events = o.events } =
               turn_is
-              ∙ ap (λ (s : Stop). record { answer = judge file here (block_at file g here) o.events s; events = o.events }) stopped.0 in
+              ∙ ap (λ (s : Stop). record { answer = judge file here found o.events s; events = o.events }) stopped.0 in
               walk_goes_on (turn file g) (λ y. refused CutShort (length file) y) (λ y. bytes_left file y.cursor.at) (turn_falls file g x.lent.top) (blocks_of file g) x.events here blank
               x.so_far then (ap (λ (q : Ran (Turn Progress Verdict)). q.answer) t)
               ∙ ap
               (λ (es : List Event). after (x.events ++ es) (blocks_from file g then (marks (x.events ++ es) blank)))
               (ap (λ (q : Ran (Turn Progress Verdict)). q.events) t)
 
-          at_then : (advanced c (block_at file g here) next).at ≡ next
+          at_then : (advanced c found d.next).at ≡ d.next
           unfolding applied_at
-          at_then = advanced_at file g.addresses x.addresses c (block_at file g here) (marks x.events blank) next stopped.0
+          at_then = advanced_at file g.addresses x.addresses c found (marks x.events blank) d.next stopped.0
 
-          placed_then : placed_in o.events ≡ placed_by (block_at file g here)
+          placed_then : placed_in o.events ≡ placed_by found
           unfolding applied_at
-          placed_then = placed_by_lem file g.addresses x.addresses c (block_at file g here) _ _ _ (block_fits file g x.lent.top here) next stopped.0
+          placed_then = placed_by_lem file g.addresses x.addresses c found _ _ _ fits d.next stopped.0
 
           -- with fewer bytes left
-          pub going_falls : length file - (advanced c found next).at < length file - c.at
-          going_falls =
-              let e : (advanced c found next).at ≡ next = ap (λ (q : Block). (advanced c q next).at) found_is ∙ at_then in
-              omega (arith, e, ends_there.further, ends_there.inside)
+          pub going_falls : length file - (advanced c found d.next).at < length file - c.at
+          going_falls = omega (arith, at_then, ends_there.further, ends_there.inside)
 
           -- the counts stay within the file
-          pub going_counts : (placed + placed_by found ≤ length file) × (adjusted + adjusts ≤ length file)
-          going_counts =
-              let same : placed_by found ≡ placed_in o.events = ap placed_by found_is ∙ sym placed_then in (
-                omega (arith, same, x.placed_is, x.passed.counts, ends_there.behind, ends_there.inside),
-                omega (arith, stopped.1, x.adjusted_is, x.passed.counts, ends_there.behind, ends_there.inside),
-              )
+          pub going_counts : (placed + placed_by found ≤ length file) × (adjusted + d.adjusted ≤ length file)
+          going_counts = (
+            omega (arith, placed_then, x.placed_is, x.passed.counts, ends_there.behind, ends_there.inside),
+            omega (arith, stopped.1, x.adjusted_is, x.passed.counts, ends_there.behind, ends_there.inside),
+          )
 
           -- and there it stands, with the block's name behind those before it
           pub going_on : (ns ads : List ℕ) → NameStored file found c.named b'.names b'.addresses ns ads
-              → Going file g write b (advanced c found next) (placed + placed_by found) (adjusted + adjusts) (buffers m p ns ads)
+              → Going file g write b (advanced c found d.next) (placed + placed_by found) (adjusted + d.adjusted) (buffers m p ns ads)
           going_on ns ads stored =
-              subst (λ (q : Block). Going file g write b (advanced c q next) (placed + placed_by q) (adjusted + adjusts) (buffers m p ns ads))
-              (sym found_is)
-              (record {
+              record {
                 lent = x.lent;
                 events = x.events ++ o.events;
-                names = x.names ++ name_in file (block_at file g here);
-                addresses = x.addresses ++ address_in (block_at file g here);
-                effects = record { at = c.at; block = block_at file g here; events = o.events } ∷ x.effects;
+                names = x.names ++ name_in file found;
+                addresses = x.addresses ++ address_in found;
+                effects = record { at = c.at; block = found; events = o.events } ∷ x.effects;
                 so_far = so_far_then;
                 reached = reached_then;
                 placed_is = omega (arith, x.placed_is, placed_then, placed_append x.events o.events);
                 adjusted_is = omega (arith, x.adjusted_is, stopped.1, adjusted_append x.events o.events);
                 passed = behind_on (length file) c _ x.events o.events (rw at_then ends_there) x.passed;
-                new_names = behind b.names x.names b'.names ns (name_in file (block_at file g here)) (8 * c.named) x.new_names
-                    x.counted.bytes as_found.names;
-                new_addresses = behind b.addresses x.addresses b'.addresses ads (address_in (block_at file g here)) c.named
-                    x.new_addresses x.counted.each as_found.addresses;
-                counted = counted_on file c (block_at file g here) next _ _ x.names x.addresses (block_fits file g x.lent.top here) x.counted;
-                tabled = tabled_on c (block_at file g here) next _ _ _ (block_fits file g x.lent.top here) x.tabled;
-              })
-            where
-              as_found : NameStored file (block_at file g here) c.named b'.names b'.addresses ns ads
-              as_found = subst (λ (q : Block). NameStored file q c.named b'.names b'.addresses ns ads) found_is stored
+                new_names = behind b.names x.names b'.names ns (name_in file found) (8 * c.named) x.new_names
+                    x.counted.bytes stored.names;
+                new_addresses = behind b.addresses x.addresses b'.addresses ads (address_in found) c.named
+                    x.new_addresses x.counted.each stored.addresses;
+                counted = counted_on file c found d.next _ _ x.names x.addresses fits x.counted;
+                tabled = tabled_on c found d.next _ _ _ fits x.tabled;
+              }

@@ -1,9 +1,7 @@
 -- The buffers that a call may write, and what an acceptance leaves in the buffers for new names and reports as the start.
 -- Assumes nothing.
-use Rattle.std.specs.Prelude.{List, ◌++◌, ℕ, ◌-◌, length, replicate}
+use Rattle.std.specs.Prelude.{List, ◌++◌, ℕ, ◌-◌, length, replicate, Option, Some, None}
 use Rattle.answer.specs.Checks.{pick}
-use Rattle.answer.specs.declared.Start.{Start}
-use Rattle.answer.specs.declared.Start.TheVariants.{Absent, At}
 use Rattle.blocks.specs.Blocks.{most_names}
 use Rattle.updates.specs.Bodies.{word_loaded}
 use Rattle.words.specs.Numbers.{value}
@@ -36,5 +34,5 @@ abbrev pub start_place : ℕ
 start_place = 0x02E0
 
 -- "The start is the word at 02E0 if both its bytes end marked 1 or 3, else absent."
-unfoldable pub start_in : List ℕ → List ℕ → Start
-start_in map memory = pick (word_loaded map start_place) (At (value 2 memory start_place)) Absent
+unfoldable pub start_in : List ℕ → List ℕ → Option ℕ
+start_in map memory = pick (word_loaded map start_place) (Some (value 2 memory start_place)) None

@@ -1,7 +1,8 @@
 -- A file, block by block: "A file is blocks until its end."
 -- Assumes nothing.
-use Rattle.std.specs.Prelude.{List, [], ◌∷◌, ◌++◌, ℕ, eqb, length}
+use Rattle.std.specs.Prelude.{List, [], ◌∷◌, ◌++◌, ℕ, eqb, length, Result, Ok, Err}
 use Rattle.answer.specs.Checks.{pick}
+use Rattle.answer.specs.declared.Failure.{Failure}
 use Rattle.answer.specs.declared.Fault.{Fault}
 use Rattle.answer.specs.declared.Fault.TheVariants.{CutShort}
 use Rattle.blocks.specs.Blocks.{read}
@@ -50,23 +51,27 @@ abbrev pub judge : List ℕ → Progress → Block → List Event → Stop → T
 judge file z found es (broken fault offset) = ends (refused fault offset z)
 judge file z found es (done next) = leads (stepped file z found es next)
 
--- the next block
-abbrev pub block_at : List ℕ → Inputs → Progress → Block
+-- the next block, or the fault for which it is none
+abbrev pub block_at : List ℕ → Inputs → Progress → Result Block Failure
 block_at file g z = read file g.high g.names z.names z.cursor
 
--- and what it comes to
-unfoldable pub applied_at : List ℕ → Inputs → Progress → List ℕ → Ran Stop
-applied_at file g z map = applied file g.addresses z.addresses z.cursor (block_at file g z) map
+-- what a block comes to
+unfoldable pub applied_at : List ℕ → Inputs → Progress → Block → List ℕ → Ran Stop
+applied_at file g z found map = applied file g.addresses z.addresses z.cursor found map
+
+-- what was read carried out, and where that leads
+abbrev pub carried : List ℕ → Inputs → Progress → Result Block Failure → List ℕ → Ran (Turn Progress Verdict)
+carried file g z (Err e) map = record { answer = ends (refused e.fault e.offset z); events = [] }
+carried file g z (Ok found) map =
+    let o = applied_at file g z found map in
+    record { answer = judge file z found o.events o.answer; events = o.events }
 
 -- one turn: the file's end, or the next block
 unfoldable pub turn : List ℕ → Inputs → Progress → List ℕ → Ran (Turn Progress Verdict)
 turn file g z map =
     pick (eqb z.cursor.at (length file))
     (record { answer = ends (finished z); events = [] })
-    (record {
-      answer = judge file z (block_at file g z) (applied_at file g z map).events (applied_at file g z map).answer;
-      events = (applied_at file g z map).events;
-    })
+    (carried file g z (block_at file g z) map)
 
 -- the blocks from some progress on
 unfoldable pub blocks_from : List ℕ → Inputs → Progress → List ℕ → Ran Verdict

@@ -2,15 +2,14 @@
 // also writes memory and the new-name buffers that are lent. So a refusal has touched neither.
 #![tactic(auto)]
 
-ghost use Rattle.std.specs.Prelude.{◌≡◌, ◌*◌, ◌≤◌, length, replicate};
+ghost use Rattle.std.specs.Prelude.{◌≡◌, ◌*◌, ◌≤◌, length};
 ghost use Rattle.events.specs.Events.{blank};
 ghost use Rattle.passes.specs.Walk.{inputs, blocks_of};
 ghost use Rattle.passes.specs.Buffers.{buffers, start_in};
 ghost use Rattle.passes.specs.Parts.{totals, Walked, Checked, Reported};
 
-use answer::{Fault, Outcome, Start};
+use answer::{Acceptance, Failure, Outcome};
 use blocks::Cursor;
-use updates::Ended;
 
 // The buffers for new names: their bytes, and their addresses.
 pub const NAMES: usize = 256;
@@ -29,12 +28,8 @@ pub struct Totals {
     pub adjusted: usize,
 }
 
-// How a walk ends: with a fault at an offset, or at the file's end.
-#[derive(Clone, Copy)]
-pub enum WalkEnd {
-    Stopped(Fault, usize),
-    Finished(Totals),
-}
+// How a walk ends: at the file's end, or with a fault at an offset.
+pub type WalkEnd = Result<Totals, Failure>;
 
 // Goes through all blocks and only checks them, with buffers of its own for new names. The map is clear again after it.
 pub fn check(
@@ -63,7 +58,7 @@ pub fn check(
         &mut names,
         &mut addresses,
     );
-    words::fill(map, 0);
+    map.fill(0);
     walked
 }
 
@@ -89,22 +84,17 @@ pub fn walk(
     let mut fields = 0;
     loop {
         if cursor.at == file.len() {
-            return WalkEnd::Finished(total(cursor, bytes, fields));
+            return Ok(total(cursor, bytes, fields));
         }
         let named = cursor.named;
         let size = names::NAME * named;
-        let found = blocks::read(file, high, lent_names, &new_names[0..size], cursor);
+        let found = blocks::read(file, high, lent_names, &new_names[0..size], cursor)?;
         let own = &new_addresses[0..named];
-        let end = effects::apply(file, found, cursor, lent_addresses, own, write, memory, map);
-        match end {
-            Ended::Broken(fault, offset) => return WalkEnd::Stopped(fault, offset),
-            Ended::Done { next, adjusted } => {
-                effects::store_name(file, found, named, new_names, new_addresses);
-                bytes += effects::placed_by(found);
-                fields += adjusted;
-                cursor = effects::advance(cursor, found, next);
-            }
-        }
+        let end = effects::apply(file, found, cursor, lent_addresses, own, write, memory, map)?;
+        effects::store_name(file, found, named, new_names, new_addresses);
+        bytes += effects::placed_by(found);
+        fields += end.adjusted;
+        cursor = effects::advance(cursor, found, end.next);
     }
 }
 
@@ -121,15 +111,15 @@ pub fn finish(
 {
     let named = totals.named;
     let size = names::NAME * named;
-    words::fill(&mut new_names[size..NAMES], 0);
-    clear(&mut new_addresses[named..ADDRESSES]);
-    Outcome::Accepted {
+    new_names[size..NAMES].fill(0);
+    new_addresses[named..ADDRESSES].fill(0);
+    Ok(Acceptance {
         start: start(memory, map),
         placed: totals.placed as u32,
         adjusted: totals.adjusted as u32,
         new_names: named as u32,
         low: totals.low as u32,
-    }
+    })
 }
 
 // What a walk comes to that has reached the file's end.
@@ -144,25 +134,15 @@ fn total(cursor: Cursor, placed: usize, adjusted: usize) -> Totals
     }
 }
 
-// Puts zero in all addresses.
-fn clear(addresses: &mut [u16])
-    ensures { addresses.new ≡ replicate (length addresses.old) 0 }
-{
-    let mut i = 0;
-    while i < addresses.len() {
-        addresses[i] = 0;
-        i += 1;
-    }
-}
-
 // Where the program starts: the word at its place, if it is loaded.
-fn start(memory: &[u8], map: &[u8]) -> Start
+#[tactic(auto, unfolding(crate::specs::Buffers::start_in, answer::specs::Checks::pick))]
+fn start(memory: &[u8], map: &[u8]) -> Option<u16>
     requires { (length memory.now ≡ 65536) × (length map.now ≡ 65536) }
     ensures { result ≡ start_in map.now memory.now }
 {
-    let loaded = updates::word_loaded(map, START);
-    if !loaded {
-        return Start::Absent;
+    if updates::word_loaded(map, START) {
+        Some(words::word_at(memory, START))
+    } else {
+        None
     }
-    Start::At(words::word_at(memory, START))
 }

@@ -3,37 +3,30 @@
 use mathlib.Core.Bool.{Bool, true, false}
 use mathlib.Core.List.{List, [], ◌++◌}
 use mathlib.Core.Path.{◌≡◌, refl, sym, ap, ◌∙◌}
-use Prim.Native.Nat.{ℕ, ◌+◌, ◌*◌, ◌≤◌, ◌<◌}
+use Prim.Native.Nat.{ℕ, ◌+◌, ◌*◌, ◌≤◌}
 use native.Mathlib.Omega.{arith}
-use borrow.Author.Tests.{le-leb, lt-leb, leb-true, eqb-true}
+use borrow.Author.Tests.{leb-true, eqb-true}
 use lib.Dec.{leb, eqb}
 use lib.ListN.{length}
+use Rattle.std.proofs.Common.{Option, None, Ok, Err}
 use Rattle.answer.proofs.Checks.{and_true}
 use Rattle.answer.specs.Checks.{need, pick}
-use Rattle.answer.specs.Report.{placed_of, adjusted_of}
+use Rattle.answer.specs.Report.{Outcome, acceptance, refusal, placed_of, adjusted_of}
+use Rattle.answer.specs.declared.Failure.{Failure}
 use Rattle.answer.specs.declared.Fault.{Fault}
-use Rattle.answer.specs.declared.Fault.TheVariants.{WrongBuffer, SettingOutOfRange, FileTooLong, CutShort, WrongOpening}
-use Rattle.answer.specs.declared.Outcome.{Outcome}
-use Rattle.answer.specs.declared.Outcome.TheVariants.{Accepted, Refused}
-use Rattle.answer.specs.declared.Start.{Start}
-use Rattle.answer.specs.declared.Start.TheVariants.{Absent}
+use Rattle.answer.specs.declared.Fault.TheVariants.{WrongBuffer}
 use Rattle.events.proofs.Checks.{check_passed}
-use Rattle.events.specs.Events.{Event, play, marks, blank, placed_in, adjusted_in, Ran}
+use Rattle.events.specs.Events.{Event, play, marks, blank, placed_in, adjusted_in, Ran, Check}
 use Rattle.events.specs.Walk.{leads}
-use Rattle.events.specs.declared.Check.TheVariants.{Passed, Failed}
 use Rattle.words.proofs.Runs.{front_holds}
 use Rattle.words.specs.Runs.{part, put}
-use Rattle.words.specs.Numbers.{value}
-use Rattle.events.specs.declared.Check.{Check}
 use Rattle.effects.proofs.Ending.{Behind, behind_first, behind_on}
 use Rattle.passes.proofs.Going.{stopped_finished, totals_in}
 use Rattle.passes.proofs.Turning.{refused_finished, led_ends, blocks_hold}
-use Rattle.passes.specs.Parts.{walk_end, progress_of, Walked, Checked, Reported}
+use Rattle.passes.specs.Parts.{WalkEnd, walk_end, progress_of, Walked, Checked, Reported}
 use Rattle.passes.specs.Buffers.{start_in, filled_up, Buffers, buffers}
 use Rattle.passes.specs.Walk.{Inputs, inputs, Progress, Verdict, finished, refused, turn, blocks_of, begun}
 use Rattle.passes.specs.declared.Totals.{Totals}
-use Rattle.passes.specs.declared.WalkEnd.{WalkEnd}
-use Rattle.passes.specs.declared.WalkEnd.TheVariants.{Stopped, Finished}
 use Rattle.sdx.specs.Call.{in_range, listed, sized, at_once, opening, opened, admitting, load, call, report, memory_after, map_after, names_after, addresses_after, Loaded}
 
 -- what a file comes to whose settings and length are right: its opening, then its blocks
@@ -42,44 +35,7 @@ judged file g = opened g (opening file) (blocks_of file g)
 
 -- ---- before the first block
 
--- low above high
-pub range_not : (low high : ℕ) → high < low → false ≡ in_range (inputs [] [] low high)
-range_not low high h = rw (lt-leb _ _ h) refl
-
-module _ (file : List ℕ) where
-  -- under two bytes: 5
-  pub opening_cut : length file < 2 → Failed CutShort (length file) ≡ opening file
-  unfolding opening need
-  opening_cut h = rw (lt-leb _ _ h) refl
-
-  -- a first word below FFFA: 4
-  pub opening_wrong : (word : ℕ) → word ≡ value 2 file 0 → 2 ≤ length file → word < 65530 → Failed WrongOpening 0 ≡ opening file
-  unfolding opening need
-  opening_wrong word e h i = rw (le-leb _ _ h, ← e, lt-leb _ _ i) refl
-
-  -- else it opens
-  pub opening_right : (word : ℕ) → word ≡ value 2 file 0 → 2 ≤ length file → 65530 ≤ word → Passed ≡ opening file
-  unfolding opening need
-  opening_right word e h i = rw (le-leb _ _ h, ← e, le-leb _ _ i) refl
-
--- the checks before the first block, in their order
-module _ (file : List ℕ) (g : Inputs) where
-  -- a setting outside its range: 2
-  pub admit_range : in_range g ≡ false → Failed SettingOutOfRange 0 ≡ admitting file g
-  unfolding admitting need
-  admit_range h = rw h refl
-
-  -- a file longer than 65,536: 3
-  pub admit_long : in_range g ≡ true → 65536 < length file → Failed FileTooLong 0 ≡ admitting file g
-  unfolding admitting need
-  admit_long h i = rw (h, lt-leb _ _ i) refl
-
-  -- else the opening decides
-  pub admit_opening : (r : Check) → in_range g ≡ true → length file ≤ 65536 → r ≡ opening file → r ≡ admitting file g
-  unfolding admitting need
-  admit_opening r h i e = rw (h, le-leb _ _ i) e
-
--- (they ask of the settings alone)
+-- the checks ask of the settings alone
 pub admit_settings : (file names addresses : List ℕ) (low high : ℕ)
     → admitting file (inputs [] [] low high) ≡ admitting file (inputs names addresses low high)
 unfolding admitting
@@ -89,10 +45,10 @@ admit_settings file names addresses low high = refl
 pub record Admitted (file : List ℕ) (g : Inputs) : Type 0 where
   pub settings : in_range g ≡ true
   pub fits : length file ≤ 65536
-  pub opens : opening file ≡ Passed
+  pub opens : opening file ≡ Ok tt
 
 -- a load that was admitted passed each
-pub admitted : (file : List ℕ) (g : Inputs) → admitting file g ≡ Passed → Admitted file g
+pub admitted : (file : List ℕ) (g : Inputs) → admitting file g ≡ Ok tt → Admitted file g
 unfolding admitting
 admitted file g e =
     let x = check_passed _ _ _ _ e in
@@ -114,23 +70,23 @@ record Carried (o : Ran Verdict) (b : Buffers) (r : Outcome) (b' : Buffers) : Ty
   addresses : b'.addresses ≡ addresses_after o.answer b.addresses
 
 -- what a stopped walk is reported as
-abbrev refusal : WalkEnd → Outcome
-refusal (Stopped fault offset) = Refused fault offset 0
-refusal (Finished t) = Accepted Absent 0 0 0 0
+abbrev reported_stop : WalkEnd → Outcome
+reported_stop (Err e) = refusal e.fault e.offset 0
+reported_stop (Ok t) = acceptance None 0 0 0 0
 
-accepted_same : {start t : Start} {a b i j k l n q : ℕ} → start ≡ t → a ≡ b → i ≡ j → k ≡ l → n ≡ q → Accepted start a i k n ≡ Accepted t b j l q
+accepted_same : {start t : Option ℕ} {a b i j k l n q : ℕ} → start ≡ t → a ≡ b → i ≡ j → k ≡ l → n ≡ q
+    → acceptance start a i k n ≡ acceptance t b j l q
 accepted_same e f g h i = rw (e, f, g, h, i) refl
 
 module _ {o : Ran Verdict} {m p ns ads m₁ p₁ : List ℕ} {r₁ : WalkEnd} (first : Checked o m r₁ m₁ p₁) where
-  carried_refused : {fault : Fault} {offset : ℕ} → r₁ ≡ Stopped fault offset
-      → Carried o (buffers m p ns ads) (Refused fault offset 0) (buffers m₁ p₁ ns ads)
-  carried_refused {fault} {offset} e = by o.answer refl
+  carried_refused : {d : Failure} → r₁ ≡ Err d → Carried o (buffers m p ns ads) (refusal d.fault d.offset 0) (buffers m₁ p₁ ns ads)
+  carried_refused {d} e = by o.answer refl
     where
-      by : (v : Verdict) → o.answer ≡ v → Carried o (buffers m p ns ads) (Refused fault offset 0) (buffers m₁ p₁ ns ads)
+      by : (v : Verdict) → o.answer ≡ v → Carried o (buffers m p ns ads) (refusal d.fault d.offset 0) (buffers m₁ p₁ ns ads)
       by (finished z) f = absurd (stopped_finished (sym e ∙ first.answer ∙ ap (λ (v : Verdict). walk_end v o.events) f))
       by (refused k i z) f =
           record {
-            outcome = rw f (ap refusal (sym e ∙ first.answer ∙ ap (λ (v : Verdict). walk_end v o.events) f));
+            outcome = rw f (ap reported_stop (sym e ∙ first.answer ∙ ap (λ (v : Verdict). walk_end v o.events) f));
             memory = rw f first.memory;
             map = rw f first.map;
             names = rw f refl;
@@ -138,7 +94,7 @@ module _ {o : Ran Verdict} {m p ns ads m₁ p₁ : List ℕ} {r₁ : WalkEnd} (f
           }
 
   -- the second walk does what the first one found, and the acceptance reports it
-  carried_accepted : {t : Totals} {m₂ p₂ ns₂ ads₂ ns₃ ads₃ : List ℕ} {r₂ : WalkEnd} {r : Outcome} → r₁ ≡ Finished t → length ns ≡ 256
+  carried_accepted : {t : Totals} {m₂ p₂ ns₂ ads₂ ns₃ ads₃ : List ℕ} {r₂ : WalkEnd} {r : Outcome} → r₁ ≡ Ok t → length ns ≡ 256
       → length ads ≡ 32 → Walked o true (buffers m₁ p₁ ns ads) r₂ (buffers m₂ p₂ ns₂ ads₂) → Reported t (buffers m₂ p₂ ns₂ ads₂) r ns₃ ads₃
       → Carried o (buffers m p ns ads) r (buffers m₂ p₂ ns₃ ads₃)
   carried_accepted {t} {m₂} {p₂} {ns₂} {ads₂} {ns₃} {ads₃} {r₂} {r} e room spots second answered = by o.answer refl
@@ -146,7 +102,7 @@ module _ {o : Ran Verdict} {m p ns ads m₁ p₁ : List ℕ} {r₁ : WalkEnd} (f
       by : (v : Verdict) → o.answer ≡ v → Carried o (buffers m p ns ads) r (buffers m₂ p₂ ns₃ ads₃)
       by (refused k i z) f = absurd (stopped_finished (sym (ap (λ (v : Verdict). walk_end v o.events) f) ∙ sym first.answer ∙ e))
       by (finished z) f =
-          let w : Finished t ≡ walk_end (finished z) o.events = sym e ∙ first.answer ∙ ap (λ (v : Verdict). walk_end v o.events) f in
+          let w : ◌≡◌ {A = WalkEnd} (Ok t) (walk_end (finished z) o.events) = sym e ∙ first.answer ∙ ap (λ (v : Verdict). walk_end v o.events) f in
           let n : t.named ≡ length z.addresses = ap (λ (q : WalkEnd). (totals_in q).named) w in
           let few : t.named ≤ 32 = (first.bounded.counts t e).0 in
           let bytes : length z.names ≡ 8 * t.named =
@@ -181,8 +137,8 @@ module _ (file : List ℕ) (g : Inputs) (top : g.high ≤ 65535) (P : Progress �
   judged_holds z e = by (opening file) e
     where
       by : (c : Check) → (opened g c (blocks_of file g)).answer ≡ finished z → P z (opened g c (blocks_of file g)).events
-      by Passed f = blocks_hold file g top P first keeps z f
-      by (Failed fault offset) f = absurd (refused_finished f)
+      by (Ok passed) f = blocks_hold file g top P first keeps z f
+      by (Err failed) f = absurd (refused_finished f)
 
 -- with the right buffers a call is a load
 pub call_load : (file : List ℕ) (g : Inputs) (right : Bool) → right ≡ true → call file g right ≡ load file g
@@ -212,8 +168,8 @@ unfolding load
 load_few file g = by (admitting file g) refl
   where
     by : (c : Check) → admitting file g ≡ c → Few (length file) (opened g c (blocks_of file g))
-    by Passed e = blocks_few file g (range_bounds g (admitted file g e).settings).1
-    by (Failed fault offset) e = few_at_once (length file) g fault offset
+    by (Ok passed) e = blocks_few file g (range_bounds g (admitted file g e).settings).1
+    by (Err failed) e = few_at_once (length file) g failed.fault failed.offset
 
 -- ---- whatever the buffers
 
@@ -225,15 +181,14 @@ reported_few n m o h = by o.answer refl
     by (finished z) e = let k = h.counts z e in (omega (arith, k), omega (arith, k))
     by (refused fault offset z) e = (omega arith, omega arith)
 
-at_once_carried : (file : List ℕ) (g : Inputs) {m p ns ads p' : List ℕ} {fault : Fault} {offset : ℕ} {r : Outcome}
-    → admitting file g ≡ Failed fault offset
-    → r ≡ Refused fault offset 0 → p' ≡ blank → Carried (load file g) (buffers m p ns ads) r (buffers m p' ns ads)
+at_once_carried : (file : List ℕ) (g : Inputs) {m p ns ads p' : List ℕ} {d : Failure} {r : Outcome} → admitting file g ≡ Err d
+    → r ≡ refusal d.fault d.offset 0 → p' ≡ blank → Carried (load file g) (buffers m p ns ads) r (buffers m p' ns ads)
 unfolding load
 at_once_carried file g e f clear = rw e (record { outcome = f; memory = refl; map = clear; names = refl; addresses = refl })
 
 module _ (file : List ℕ) (g : Inputs) where
   -- some length is wrong: 1, and nothing is changed
-  pub loaded_wrong : (right : Bool) (b : Buffers) (r : Outcome) → right ≡ false → r ≡ Refused WrongBuffer 0 0 → Loaded file g right b r b
+  pub loaded_wrong : (right : Bool) (b : Buffers) (r : Outcome) → right ≡ false → r ≡ refusal WrongBuffer 0 0 → Loaded file g right b r b
   unfolding call need pick
   loaded_wrong right b r h e =
       record {
@@ -278,27 +233,27 @@ module _ (file : List ℕ) (g : Inputs) where
       })
 
   -- refused before the first block
-  pub loaded_at_once : {right : Bool} {m p ns ads p' : List ℕ} {fault : Fault} {offset : ℕ} {r : Outcome} → right ≡ true
-      → admitting file g ≡ Failed fault offset
-      → r ≡ Refused fault offset 0 → p' ≡ blank → Loaded file g right (buffers m p ns ads) r (buffers m p' ns ads)
+  pub loaded_at_once : {right : Bool} {m p ns ads p' : List ℕ} {d : Failure} {r : Outcome} → right ≡ true
+      → admitting file g ≡ Err d
+      → r ≡ refusal d.fault d.offset 0 → p' ≡ blank → Loaded file g right (buffers m p ns ads) r (buffers m p' ns ads)
   loaded_at_once {m = m} {p = p} {ns = ns} {ads = ads} {p' = p'} {r = r} h e f clear =
       loaded_sized h (loaded_right (buffers m p ns ads) r (buffers m p' ns ads) (at_once_carried file g e f clear))
 
   -- the blocks decide
-  module _ (entered : admitting file g ≡ Passed) where
+  module _ (entered : admitting file g ≡ Ok tt) where
     load_blocks : load file g ≡ blocks_of file g
     unfolding load
     load_blocks = rw entered refl
 
     -- where the first walk stopped, the load is refused there
-    pub blocks_refused : {m p ns ads m₁ p₁ : List ℕ} {r₁ : WalkEnd} → Checked (blocks_of file g) m r₁ m₁ p₁ → {fault : Fault} {offset : ℕ}
-        {r : Outcome} → r₁ ≡ Stopped fault offset → r ≡ Refused fault offset 0
+    pub blocks_refused : {m p ns ads m₁ p₁ : List ℕ} {r₁ : WalkEnd} → Checked (blocks_of file g) m r₁ m₁ p₁ → {d : Failure}
+        {r : Outcome} → r₁ ≡ Err d → r ≡ refusal d.fault d.offset 0
         → Loaded file g true (buffers m p ns ads) r (buffers m₁ p₁ ns ads)
     blocks_refused first e er = rw er (loaded_right _ _ _ (rw load_blocks (carried_refused first e)))
 
     -- where it finished, the second walk carries the file out
     pub blocks_accepted : {m p ns ads m₁ p₁ : List ℕ} {r₁ : WalkEnd} → Checked (blocks_of file g) m r₁ m₁ p₁
-        → {t : Totals} {m₂ p₂ ns₂ ads₂ ns₃ ads₃ : List ℕ} {r₂ : WalkEnd} {r : Outcome} → r₁ ≡ Finished t → length ns ≡ 256 → length ads ≡ 32
+        → {t : Totals} {m₂ p₂ ns₂ ads₂ ns₃ ads₃ : List ℕ} {r₂ : WalkEnd} {r : Outcome} → r₁ ≡ Ok t → length ns ≡ 256 → length ads ≡ 32
         → Walked (blocks_of file g) true (buffers m₁ p₁ ns ads) r₂ (buffers m₂ p₂ ns₂ ads₂) → Reported t (buffers m₂ p₂ ns₂ ads₂) r ns₃ ads₃
         → Loaded file g true (buffers m p ns ads) r (buffers m₂ p₂ ns₃ ads₃)
     blocks_accepted first e room spots second answered = loaded_right _ _ _ (rw load_blocks (carried_accepted first e room spots second answered))

@@ -7,21 +7,16 @@ use Prim.Native.Nat.{ℕ, ◌≤◌}
 use native.Mathlib.Omega.{arith}
 use borrow.Author.Tests.{le-leb}
 use lib.ListN.{length, get_or}
+use Rattle.std.proofs.Common.{Option, None, Ok, Err}
 use Rattle.answer.proofs.Outcomes.{is_refused}
 use Rattle.answer.proofs.Checks.{and_true}
 use Rattle.answer.specs.Checks.{need, pick}
-use Rattle.answer.specs.Report.{placed_of, adjusted_of}
+use Rattle.answer.specs.Report.{Outcome, acceptance, placed_of, adjusted_of}
 use Rattle.answer.specs.declared.Fault.TheVariants.{WrongBuffer}
-use Rattle.answer.specs.declared.Outcome.{Outcome}
-use Rattle.answer.specs.declared.Outcome.TheVariants.{Accepted, Refused}
-use Rattle.answer.specs.declared.Start.{Start}
-use Rattle.answer.specs.declared.Start.TheVariants.{Absent}
 use Rattle.events.proofs.Checks.{failed_passed}
 use Rattle.events.proofs.Events.{length_play, length_marks, length_blank, blank_at}
 use Rattle.events.proofs.Lists.{each_map}
-use Rattle.events.specs.Events.{Event, adjust, play, marks, blank, placed_in, adjusted_in, Ran}
-use Rattle.events.specs.declared.Check.{Check}
-use Rattle.events.specs.declared.Check.TheVariants.{Passed, Failed}
+use Rattle.events.specs.Events.{Event, adjust, play, marks, blank, placed_in, adjusted_in, Ran, Check}
 use Rattle.words.specs.Runs.{Bytes}
 use Rattle.passes.proofs.Turning.{refused_finished}
 use Rattle.passes.specs.Buffers.{new_names_length, new_addresses_length, start_in, filled_up, Buffers}
@@ -78,11 +73,11 @@ finished_asked file g x b z e = by (x && sized g b) (admitting file g) refl refl
     by : (t : Bool) (c : Check) → x && sized g b ≡ t → admitting file g ≡ c
         → (need (at_once g) t WrongBuffer 0 (opened g c (blocks_of file g))).answer ≡ finished z
         → Asked file g x b
-    by true Passed h i f =
+    by true (Ok passed) h i f =
         let s = and_true x (sized g b) h in
         let a = admitted file g i in
         record { lengths = s.0; buffers = s.1; settings = a.settings; fits = a.fits }
-    by true (Failed fault offset) h i f = absurd (refused_finished f)
+    by true (Err failed) h i f = absurd (refused_finished f)
     by false c h i f = absurd (refused_finished f)
 
 -- and comes to what the file comes to
@@ -129,16 +124,16 @@ call_leaves file g x b b' r d a z e =
 
 -- the number of new names, the start and low of an outcome
 abbrev named_of : Outcome → ℕ
-named_of (Accepted start placed adjusted named low) = named
-named_of (Refused fault offset side) = 0
+named_of (Ok a) = a.new_names
+named_of (Err r) = 0
 
-abbrev start_of : Outcome → Start
-start_of (Accepted start placed adjusted named low) = start
-start_of (Refused fault offset side) = Absent
+abbrev start_of : Outcome → Option ℕ
+start_of (Ok a) = a.start
+start_of (Err r) = None
 
 abbrev low_of : Outcome → ℕ
-low_of (Accepted start placed adjusted named low) = low
-low_of (Refused fault offset side) = 0
+low_of (Ok a) = a.low
+low_of (Err r) = 0
 
 -- what is reported as accepted was finished
 reported_finished : (m : List ℕ) (v : Verdict) (es : List Event) → is_refused (report m v es) ≡ false → (z : Progress) × (v ≡ finished z)
@@ -148,12 +143,12 @@ reported_finished m (refused fault offset z) es e = absurd (false≢true (sym e)
 -- a call as asked of a file that the rules accept
 accepted_call : (file : List ℕ) (g : Inputs) (x : Bool) (b b' : Buffers) (r : Outcome) (z : Progress) → Loaded file g (x && sized g b) b r b' → Bytes file → Asked file g x b
     → (judged file g).answer ≡ finished z
-    → (start : Start) (placed adjusted named low : ℕ)
-    → r ≡ Accepted start placed adjusted named low
+    → (start : Option ℕ) (placed adjusted named low : ℕ)
+    → r ≡ acceptance start placed adjusted named low
     → AcceptedCall file g x b b' start placed adjusted named low
 accepted_call file g x b b' r z d bytes a f start placed adjusted named low e =
     let l = call_leaves file g x b b' r d a z f in
-    let s : Accepted start placed adjusted named low ≡ report b.memory (finished z) (judged file g).events = sym e ∙ l.outcome in
+    let s : acceptance start placed adjusted named low ≡ report b.memory (finished z) (judged file g).events = sym e ∙ l.outcome in
     let ep : placed ≡ placed_in (judged file g).events = ap placed_of s in
     let ea : adjusted ≡ adjusted_in (judged file g).events = ap adjusted_of s in
     record {
@@ -169,9 +164,9 @@ accepted_call file g x b b' r z d bytes a f start placed adjusted named low e =
     }
 
 -- an accepted call
-call_accepted : (file : List ℕ) (g : Inputs) (x : Bool) (b b' : Buffers) (r : Outcome) → Loaded file g (x && sized g b) b r b' → Bytes file → (start : Start)
+call_accepted : (file : List ℕ) (g : Inputs) (x : Bool) (b b' : Buffers) (r : Outcome) → Loaded file g (x && sized g b) b r b' → Bytes file → (start : Option ℕ)
     (placed adjusted named low : ℕ)
-    → r ≡ Accepted start placed adjusted named low
+    → r ≡ acceptance start placed adjusted named low
     → AcceptedCall file g x b b' start placed adjusted named low
 call_accepted file g x b b' r d bytes start placed adjusted named low e =
     let o = call file g (x && sized g b) in
@@ -184,7 +179,7 @@ call_accepted file g x b b' r d bytes start placed adjusted named low e =
 call_accepts : (file : List ℕ) (g : Inputs) (x : Bool) (b b' : Buffers) (r : Outcome) → Loaded file g (x && sized g b) b r b' → Asked file g x b → (z : Progress)
     (es : List Event)
     → Follows file g z es
-    → r ≡ Accepted (start_in b'.map b'.memory) (placed_in es) (adjusted_in es) (length z.addresses) z.cursor.low
+    → r ≡ acceptance (start_in b'.map b'.memory) (placed_in es) (adjusted_in es) (length z.addresses) z.cursor.low
 call_accepts file g x b b' r d a z es f =
     let j = follows_judged file g (asked_top file g x b a) z es f in
     let l = call_leaves file g x b b' r d a z (ap (λ (o : Ran Verdict). o.answer) j) in

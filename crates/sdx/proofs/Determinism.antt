@@ -5,11 +5,10 @@ use mathlib.Core.List.{List, ◌∷◌, ◌++◌}
 use mathlib.Core.Path.{◌≡◌, refl, sym, ap, ◌∙◌}
 use Prim.Native.Nat.{ℕ}
 use lib.ListN.{length, get_or}
+use Rattle.std.proofs.Common.{Option}
 use Rattle.answer.specs.Checks.{pick}
 use Rattle.answer.specs.declared.Fault.{Fault}
-use Rattle.answer.specs.declared.Outcome.{Outcome}
-use Rattle.answer.specs.declared.Outcome.TheVariants.{Accepted, Refused}
-use Rattle.answer.specs.declared.Start.{Start}
+use Rattle.answer.specs.Report.{Outcome, acceptance, refusal}
 use Rattle.events.specs.Events.{Event, play, marks, blank, placed_in, adjusted_in, Ran}
 use Rattle.words.specs.Runs.{Bytes}
 use Rattle.passes.specs.Buffers.{Buffers}
@@ -69,7 +68,7 @@ module _ (file : List ℕ) (g : Inputs) (x y : Bool) (b₁ b₂ b d : Buffers) (
         let es = (judged file g).events in
         let one = loaded_same b₁.memory b₂.memory w.memory₁ w.memory₂ es w.lawful in
         w.left₁.outcome
-        ∙ ap (λ (s : Start). Accepted s (placed_in es) (adjusted_in es) (length z.addresses) z.cursor.low)
+        ∙ ap (λ (s : Option ℕ). acceptance s (placed_in es) (adjusted_in es) (length z.addresses) z.cursor.low)
         (start_same (marks es blank) (play es b₁.memory) (play es b₂.memory) one)
         ∙ sym w.left₂.outcome
 
@@ -92,7 +91,7 @@ module _ (file : List ℕ) (g : Inputs) (x y : Bool) (b₁ b₂ b d : Buffers) (
 refused_outcome : (file : List ℕ) (g : Inputs) (right : Bool) (b b' : Buffers) (r : Outcome) → Loaded file g right b r b' → right ≡ true
     → (fault : Fault) (offset : ℕ) (z : Progress)
     → (load file g).answer ≡ refused fault offset z
-    → r ≡ Refused fault offset 0
+    → r ≡ refusal fault offset 0
 refused_outcome file g right b b' r d h fault offset z e =
     d.outcome
     ∙ ap (λ (o : Ran Verdict). report b.memory o.answer o.events) (call_load file g right h)

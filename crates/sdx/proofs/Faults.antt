@@ -8,18 +8,18 @@ use native.Mathlib.Omega.{arith}
 use borrow.Author.Tests.{leb-true}
 use lib.Dec.{leb}
 use lib.ListN.{length}
+use Rattle.std.proofs.Common.{Ok, Err}
 use Rattle.answer.proofs.Causes.{causes_of}
 use Rattle.answer.proofs.Checks.{on_need}
 use Rattle.answer.proofs.Faults.{is_early, ByFile, Lies, of_file_located, early_located, by_file_lies}
 use Rattle.answer.specs.Causes.{Causes}
-use Rattle.answer.specs.Checks.{need}
+use Rattle.answer.specs.Checks.{failure, need}
+use Rattle.answer.specs.declared.Failure.{Failure}
 use Rattle.answer.specs.Report.{Located}
 use Rattle.answer.specs.declared.Fault.{Fault}
 use Rattle.events.proofs.Faults.{CheckFaults, Checks, fails}
-use Rattle.events.specs.Events.{Event, Ran}
+use Rattle.events.specs.Events.{Event, Ran, Check}
 use Rattle.events.specs.Sizes.{file_limit}
-use Rattle.events.specs.declared.Check.{Check}
-use Rattle.events.specs.declared.Check.TheVariants.{Passed, Failed}
 use Rattle.passes.proofs.Faults.{Verdicts, blocks_faults}
 use Rattle.passes.specs.Walk.{Inputs, Verdict, finished, refused, blocks_of}
 use Rattle.sdx.proofs.Calling.{judged, admitted, range_bounds}
@@ -29,15 +29,15 @@ use Rattle.sdx.specs.Call.{in_range, at_once, opening, opened, admitting, load, 
 opening_faults : (file : List ℕ) → Checks (length file) (opening file)
 unfolding opening
 opening_faults file =
-    on_need Failed (Checks (length file)) _ _ _ _ (fails refl (omega arith))
-    (λ _. on_need Failed (Checks (length file)) _ _ _ _ (fails refl (omega arith))
+    on_need failure (Checks (length file)) _ _ _ _ (fails refl (omega arith))
+    (λ _. on_need failure (Checks (length file)) _ _ _ _ (fails refl (omega arith))
     (λ _. record { faults = tt }))
 
 -- and then the blocks
 opened_faults : (len : ℕ) (g : Inputs) (c : Check) (rest : Ran Verdict) → CheckFaults len c → Verdicts len rest.answer
     → Verdicts len (opened g c rest).answer
-opened_faults len g Passed rest h i = i
-opened_faults len g (Failed fault offset) rest h i = record { faults = h }
+opened_faults len g (Ok passed) rest h i = i
+opened_faults len g (Err e) rest h i = record { faults = h }
 
 judged_faults : (file : List ℕ) (g : Inputs) → g.high ≤ 65535 → Verdicts (length file) (judged file g).answer
 unfolding judged
@@ -52,21 +52,21 @@ report_faults memory (refused fault offset z) es h = record { decided = h.faults
 
 -- a check passed, or failed so, at an offset up to n
 abbrev CheckLies : ℕ → ℕ → Check → Type 0
-CheckLies len n Passed = Unit {0}
-CheckLies len n (Failed fault offset) = Located len fault offset × (offset ≤ n)
+CheckLies len n (Ok passed) = Unit {0}
+CheckLies len n (Err e) = Located len e.fault e.offset × (e.offset ≤ n)
 
 -- (the same as a record)
 record Admits (len n : ℕ) (c : Check) : Type 0 where
   lies : CheckLies len n c
 
 -- 2 and 3, at 0
-early : (len n : ℕ) (fault : Fault) → is_early fault ≡ true → Admits len n (Failed fault 0)
+early : (len n : ℕ) (fault : Fault) → is_early fault ≡ true → Admits len n (failure fault 0)
 early len n fault e = record { lies = (early_located len fault e, omega arith) }
 
 -- the opening of a file that is not too long
 late : (file : List ℕ) (c : Check) → CheckFaults (length file) c → length file ≤ 65536 → Admits (length file) 65536 c
-late file Passed h l = record { lies = tt }
-late file (Failed fault offset) h l =
+late file (Ok passed) h l = record { lies = tt }
+late file (Err e) h l =
     let p = of_file_located h in
     record { lies = (p, omega (arith, p.within)) }
 
@@ -75,14 +75,14 @@ admitting_lies : (file : List ℕ) (g : Inputs) → Admits (length file) 65536 (
 unfolding admitting
 admitting_lies file g =
     let P = Admits (length file) 65536 in
-    on_need Failed P _ _ _ _ (early _ _ _ refl)
-    (λ _. on_need Failed P _ _ _ _ (early _ _ _ refl)
+    on_need failure P _ _ _ _ (early _ _ _ refl)
+    (λ _. on_need failure P _ _ _ _ (early _ _ _ refl)
     (λ i. late file (opening file) (opening_faults file).faults (leb-true _ _ i)))
 
 -- so what is refused before the first block has an offset with room in four bytes
-pub admit_fits : (file : List ℕ) (g : Inputs) {fault : Fault} {offset : ℕ} → admitting file g ≡ Failed fault offset → offset ≤ 65536
-admit_fits file g {fault} {offset} e =
-    let h : CheckLies (length file) 65536 (Failed fault offset) = rw e at (admitting_lies file g).lies in
+pub admit_fits : (file : List ℕ) (g : Inputs) {d : Failure} → admitting file g ≡ Err d → d.offset ≤ 65536
+admit_fits file g {d} e =
+    let h : CheckLies (length file) 65536 (Err d) = rw e at (admitting_lies file g).lies in
     h.1
 
 -- what is reported of a load into a memory
@@ -97,10 +97,10 @@ call_lies file g right memory =
     (λ _. by (admitting file g) refl (admitting_lies file g).lies)
   where
     by : (c : Check) → admitting file g ≡ c → CheckLies (length file) 65536 c → Reports (length file) memory (opened g c (blocks_of file g))
-    by Passed e h =
+    by (Ok passed) e h =
         let top = (range_bounds g (admitted file g e).settings).1 in
         by_file_lies _ (report_faults memory _ (blocks_of file g).events (blocks_faults file g top))
-    by (Failed fault offset) e h = record { lies = h.0 }
+    by (Err failed) e h = record { lies = h.0 }
 
 -- ---- why a call is refused with 1, 2 or 3
 

@@ -3,15 +3,17 @@
 -- Assumes nothing.
 use mathlib.Core.Bool.{true, false, false≢true}
 use mathlib.Core.List.{List, [], ◌∷◌, ◌++◌}
-use mathlib.Core.Path.{◌≡◌, refl, sym, ap, ◌∙◌}
+use mathlib.Core.Path.{◌≡◌, refl, sym, ap, ◌∙◌, subst}
 use Prim.Native.Nat.{ℕ, ◌/◌, ◌≤◌, ◌<◌}
 use native.Mathlib.Omega.{arith}
 use lib.ListN.{length, get_or, set, length-append, get_or-append}
 use lib.Seq.{get_or-set_same, get_or-set_other}
+use Rattle.std.proofs.Common.{Option, Some, None, is_some, is_none}
+use Rattle.std.proofs.lemmas.Result.{IfOk-at_ok}
 use Rattle.blocks.specs.Blocks.{amount_of}
 use Rattle.blocks.specs.Bounds.{Fits}
 use Rattle.blocks.specs.declared.Block.{Block}
-use Rattle.blocks.specs.declared.Block.TheVariants.{Plain, Relocatable, Update, NewName, Faulty}
+use Rattle.blocks.specs.declared.Block.TheVariants.{Plain, Relocatable, Update, NewName}
 use Rattle.blocks.specs.declared.Cursor.{Cursor}
 use Rattle.blocks.specs.declared.Source.{Source}
 use Rattle.blocks.specs.declared.Source.TheVariants.{Number, LentName, OwnName}
@@ -23,12 +25,12 @@ use Rattle.events.proofs.Lists.{each_map}
 use Rattle.events.specs.Events.{Event, place, reserve, marks, blank, Ran}
 use Rattle.events.specs.Lists.{Each}
 use Rattle.events.specs.Walk.{leads}
-use Rattle.items.specs.Items.{empty_slot, slot_at}
+use Rattle.items.specs.Items.{slot_at, address_of}
 use Rattle.items.specs.declared.Slot.{Slot}
 use Rattle.passes.proofs.Turning.{turn_led, block_fits}
-use Rattle.passes.specs.Walk.{stepped, Inputs, Progress, finished, block_at, applied_at, turn, begun}
+use Rattle.passes.specs.Walk.{stepped, Inputs, Progress, finished, applied_at, turn, begun}
 use Rattle.updates.proofs.Bounds.{body_each}
-use Rattle.updates.proofs.Turning.{Adjusts, broken_done}
+use Rattle.updates.proofs.Turning.{Adjusts}
 use Rattle.updates.specs.Bodies.{Stop, done}
 use Rattle.words.proofs.Runs.{length_part}
 use Rattle.words.specs.Runs.{Bytes, part}
@@ -41,28 +43,26 @@ use Rattle.sdx.specs.Demand2.{AdjustsBy, ByRule, events_of, names_of, addresses_
 
 -- a slot once taken never changes, and addresses come behind those before them
 record Grown (y z : Progress) : Type 0 where
-  slots : (n : ℕ) → (slot_at y.cursor.table n).taken ≡ true → slot_at z.cursor.table n ≡ slot_at y.cursor.table n
+  slots : (n : ℕ) → is_some (slot_at y.cursor.table n) ≡ true → slot_at z.cursor.table n ≡ slot_at y.cursor.table n
   longer : length y.addresses ≤ length z.addresses
   addresses : (i : ℕ) → i < length y.addresses → get_or z.addresses i 0 ≡ get_or y.addresses i 0
 
 -- what the rule of a block asks of the table and of the names is there
 abbrev Known : Progress → Block → Type 0
 Known z (Plain address from size) = Unit {0}
-Known z (Relocatable reserves number offset from size) = (slot_at z.cursor.table number).taken ≡ true
-Known z (Update (Number number) from) = (slot_at z.cursor.table number).taken ≡ true
+Known z (Relocatable reserves number offset from size) = is_some (slot_at z.cursor.table number) ≡ true
+Known z (Update (Number number) from) = is_some (slot_at z.cursor.table number) ≡ true
 Known z (Update (LentName i) from) = Unit {0}
 Known z (Update (OwnName i) from) = i < length z.addresses
 Known z (NewName from address) = Unit {0}
-Known z (Faulty fault offset) = Unit {0}
 
 module _ (y z : Progress) (grown : Grown y z) where
   -- a slot that is taken stays taken, and keeps its address
-  slot_taken : (n : ℕ) → (slot_at y.cursor.table n).taken ≡ true → (slot_at z.cursor.table n).taken ≡ true
-  slot_taken n h = ap (λ (s : Slot). s.taken) (grown.slots n h) ∙ h
+  slot_taken : (n : ℕ) → is_some (slot_at y.cursor.table n) ≡ true → is_some (slot_at z.cursor.table n) ≡ true
+  slot_taken n h = ap (λ (s : Option Slot). is_some s) (grown.slots n h) ∙ h
 
-  slot_address : (n : ℕ) → (slot_at y.cursor.table n).taken ≡ true
-      → (slot_at y.cursor.table n).address ≡ (slot_at z.cursor.table n).address
-  slot_address n h = ap (λ (s : Slot). s.address) (sym (grown.slots n h))
+  slot_address : (n : ℕ) → is_some (slot_at y.cursor.table n) ≡ true → address_of (slot_at y.cursor.table n) ≡ address_of (slot_at z.cursor.table n)
+  slot_address n h = ap address_of (sym (grown.slots n h))
 
   -- what is known stays so
   known_grown : (b : Block) → Known y b → Known z b
@@ -72,7 +72,6 @@ module _ (y z : Progress) (grown : Grown y z) where
   known_grown (Update (LentName i) from) h = tt
   known_grown (Update (OwnName i) from) h = omega (arith, h, grown.longer)
   known_grown (NewName from address) h = tt
-  known_grown (Faulty fault offset) h = tt
 
   -- so a source's amount stays
   amount_grown : (lent : List ℕ) (source : Source) (from : ℕ) → Known y (Update source from)
@@ -89,28 +88,30 @@ module _ (y z : Progress) (grown : Grown y z) where
       h ∙ ap (λ (a : ℕ). place a (part file from size) ∷ []) (slot_address number k)
   rule_grown file g (Update source from) es k h = rw (← amount_grown g.addresses source from k) h
   rule_grown file g (NewName from address) es k h = h
-  rule_grown file g (Faulty fault offset) es k h = h
 
 -- ---- one block more
 
 -- the slot of a relocatable block
 abbrev slot_for : Cursor → ℕ → ℕ → Slot
-slot_for c offset size = record { taken = true; address = c.low; offset = offset; size = size }
+slot_for c offset size = record { address = c.low; offset = offset; size = size }
 
 -- a slot that is set while it is not taken leaves those that are
-set_slots : (table : List Slot) (number : ℕ) (s : Slot) → (slot_at table number).taken ≡ false → (n : ℕ) → (slot_at table n).taken ≡ true
-    → slot_at (set table number s) n ≡ slot_at table n
+not_both : (o : Option Slot) → is_none o ≡ true → is_some o ≡ true → ⊥
+not_both None f h = false≢true h
+not_both (Some s) f h = false≢true f
+
+set_slots : (table : List (Option Slot)) (number : ℕ) (s : Slot) → is_none (slot_at table number) ≡ true → (n : ℕ) → is_some (slot_at table n) ≡ true
+    → slot_at (set table number (Some s)) n ≡ slot_at table n
 set_slots table number s f n h =
-    get_or-set_other table number n s empty_slot (λ e. false≢true (sym f ∙ ap (λ (k : ℕ). (slot_at table k).taken) (sym e) ∙ h))
+    get_or-set_other table number n (Some s) None (λ e. not_both (slot_at table n) (ap (λ (k : ℕ). is_none (slot_at table k)) e ∙ f) h)
 
 -- so does every block
-advanced_slots : (c : Cursor) (b : Block) (next : ℕ) → Granted c b → (n : ℕ) → (slot_at c.table n).taken ≡ true
+advanced_slots : (c : Cursor) (b : Block) (next : ℕ) → Granted c b → (n : ℕ) → is_some (slot_at c.table n) ≡ true
     → slot_at (advanced c b next).table n ≡ slot_at c.table n
 advanced_slots c (Plain address from size) next p n h = refl
 advanced_slots c (Relocatable reserves number offset from size) next p n h = set_slots c.table number (slot_for c offset size) p.passes n h
 advanced_slots c (Update source from) next p n h = refl
 advanced_slots c (NewName from address) next p n h = refl
-advanced_slots c (Faulty fault offset) next p n h = refl
 
 -- progress grows with every block
 stepped_grown : (file : List ℕ) (y : Progress) (b : Block) (es : List Event) (next : ℕ) → Granted y.cursor b → Grown y (stepped file y b es next)
@@ -149,36 +150,34 @@ module _ (file : List ℕ) (g : Inputs) (y : Progress) (lent : ℕ) (tabled : Ta
 
     -- its slot, where it is a relocatable one
     own_slot : (number offset size : ℕ) → number < 8
-        → slot_at (set y.cursor.table number (slot_for y.cursor offset size)) number ≡ slot_for y.cursor offset size
+        → slot_at (set y.cursor.table number (Some (slot_for y.cursor offset size))) number ≡ Some (slot_for y.cursor offset size)
     own_slot number offset size h =
-        get_or-set_same y.cursor.table number (slot_for y.cursor offset size) empty_slot (omega (arith, tabled.slots, h))
+        get_or-set_same y.cursor.table number (Some (slot_for y.cursor offset size)) None (omega (arith, tabled.slots, h))
 
     -- what its rule asks is known after it
     stepped_known : (b : Block) → Fits (length file) y.cursor lent (length y.names / 8) b → Granted y.cursor b
         → Known (then b) b
     stepped_known (Plain address from size) f p = tt
-    stepped_known (Relocatable reserves number offset from size) f p = ap (λ (s : Slot). s.taken) (own_slot number offset size f.lies.3)
+    stepped_known (Relocatable reserves number offset from size) f p = ap (λ (s : Option Slot). is_some s) (own_slot number offset size f.lies.3)
     stepped_known (Update source from) f p =
         known_grown y (then (Update source from)) (stepped_grown file y (Update source from) _ next p) (Update source from)
         (source_known y source from _ _ lent f p counted)
     stepped_known (NewName from address) f p = tt
-    stepped_known (Faulty fault offset) f p = tt
 
     -- its events are the rule's
     stepped_rule : (b : Block) → Fits (length file) y.cursor lent (length y.names / 8) b → Granted y.cursor b
         → (did b map).answer ≡ done next → ByRule file g (then b) b (did b map).events
     stepped_rule (Plain address from size) f p e = refl
     stepped_rule (Relocatable true number offset from size) f p e =
-        ap (λ (s : Slot). reserve s.address size ∷ []) (sym (own_slot number offset size f.lies.3))
+        ap (λ (s : Option Slot). reserve (address_of s) size ∷ []) (sym (own_slot number offset size f.lies.3))
     stepped_rule (Relocatable false number offset from size) f p e =
-        ap (λ (s : Slot). place s.address (part file from size) ∷ []) (sym (own_slot number offset size f.lies.3))
+        ap (λ (s : Option Slot). place (address_of s) (part file from size) ∷ []) (sym (own_slot number offset size f.lies.3))
     stepped_rule (Update source from) f p e =
         let amount = amount_of y.cursor.table g.addresses y.addresses source in
         let es = (did (Update source from) map).events in
         rule_grown y (then (Update source from)) (stepped_grown file y (Update source from) es next p) file g (Update source from) es
         (source_known y source from _ _ lent f p counted) (each_map (adjusts_by amount) es (body_each file y.cursor.table amount from map))
     stepped_rule (NewName from address) f p e = refl
-    stepped_rule (Faulty fault offset) f p e = absurd (broken_done e)
 
 -- the events of a block are lawful
 applied_lawful : (file lent own : List ℕ) (c : Cursor) (b : Block) (map : List ℕ) (n k : ℕ) → length map ≡ 65536
@@ -191,7 +190,6 @@ applied_lawful file lent own c (Relocatable false number offset from size) map n
     (omega (arith, length_part file from size f.lies.1, f.lies.2), tt)
 applied_lawful file lent own c (Update source from) map n k l f p = body_lawful file c.table (amount_of c.table lent own source) from map l
 applied_lawful file lent own c (NewName from address) map n k l f p = tt
-applied_lawful file lent own c (Faulty fault offset) map n k l f p = tt
 
 -- ---- what every block keeps
 
@@ -276,8 +274,9 @@ module _ (file : List ℕ) (g : Inputs) (top : g.high ≤ 65535) (bytes : Bytes 
   unfolding applied_at
   keeps_on y z es h e =
       let l = turn_led file g y (marks es blank) z e in
-      let p = read_granted file g.high g.names y.names y.cursor bytes in
-      rw (l.events, ← l.leads_to) (stepped_keeps file g y (block_at file g y) es l.next (block_fits file g top y) p l.done_at h)
+      let p = IfOk-at_ok (Granted y.cursor) l.read_as (read_granted file g.high g.names y.names y.cursor bytes) in
+      let kept = stepped_keeps file g y l.found es l.next (block_fits file g top y l.read_as) p l.done_at h in
+      rw l.events (subst (λ (w : Progress). Keeps file g w (es ++ (applied_at file g y l.found (marks es blank)).events)) l.leads_to kept)
 
   -- so it holds of every file that is accepted
   pub judged_keeps : (z : Progress) → (judged file g).answer ≡ finished z → Keeps file g z (judged file g).events

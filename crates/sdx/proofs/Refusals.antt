@@ -4,13 +4,13 @@ use mathlib.Core.Bool.{Bool, true, false, false≢true, ◌&&◌}
 use mathlib.Core.List.{List}
 use mathlib.Core.Path.{◌≡◌, refl, sym, ap, ◌∙◌}
 use Prim.Native.Nat.{ℕ}
+use Rattle.std.proofs.Common.{Ok, Err}
 use Rattle.answer.proofs.Faults.{located_as}
 use Rattle.answer.proofs.Outcomes.{is_refused, fault_in}
 use Rattle.answer.specs.Checks.{pick}
+use Rattle.answer.specs.Report.{Outcome, refusal}
 use Rattle.answer.specs.declared.Fault.{Fault}
 use Rattle.answer.specs.declared.Fault.TheVariants.{WrongBuffer}
-use Rattle.answer.specs.declared.Outcome.{Outcome}
-use Rattle.answer.specs.declared.Outcome.TheVariants.{Refused}
 use Rattle.events.specs.Events.{Event, blank, Ran}
 use Rattle.passes.specs.Buffers.{Buffers}
 use Rattle.passes.specs.Walk.{Inputs, Progress, Verdict, finished, refused}
@@ -33,15 +33,15 @@ refused_untouched (refused fault offset z) es m ns ads e = record { memory = ref
 
 -- a call with the right buffers is not refused with 1, one with others is
 module _ (file : List ℕ) (g : Inputs) (right : Bool) (b b' : Buffers) (r : Outcome) (d : Loaded file g right b r b') (fault : Fault) (offset side : ℕ)
-    (e : r ≡ Refused fault offset side) where
+    (e : r ≡ refusal fault offset side) where
   -- it is what the definition reports
-  reported : (t : Bool) → right ≡ t → report b.memory (call file g t).answer (call file g t).events ≡ Refused fault offset side
+  reported : (t : Bool) → right ≡ t → report b.memory (call file g t).answer (call file g t).events ≡ refusal fault offset side
   reported t h = ap (λ (s : Bool). report b.memory (call file g s).answer (call file g s).events) (sym h) ∙ sym d.outcome ∙ e
 
   right_late : right ≡ true → ¬ (fault ≡ WrongBuffer)
   right_late h f =
       false≢true
-      (sym ((call_causes file g true b.memory).wrong_buffer_only offset side (reported true h ∙ ap (λ (k : Fault). Refused k offset side) f)))
+      (sym ((call_causes file g true b.memory).wrong_buffer_only offset side (reported true h ∙ ap (λ (k : Fault). refusal k offset side) f)))
 
   wrong_first : right ≡ false → fault ≡ WrongBuffer
   wrong_first h = ap fault_in (sym (reported false h) ∙ (call_causes file g false b.memory).wrong_buffer refl)
@@ -64,14 +64,23 @@ module _ (file : List ℕ) (g : Inputs) (right : Bool) (b b' : Buffers) (r : Out
   map_late true h f = map_is true h ∙ untouched.map
   map_late false h f = absurd (f (wrong_first h))
 
+-- the offset and the side of a refusal
+abbrev offset_in : Outcome → ℕ
+offset_in (Ok a) = 0
+offset_in (Err r) = r.offset
+
+abbrev side_in : Outcome → ℕ
+side_in (Ok a) = 0
+side_in (Err r) = r.side
+
 -- an outcome that is a refusal is of a verdict that is one
-reported_refused : (m : List ℕ) (v : Verdict) (es : List Event) (fault : Fault) (offset side : ℕ) → report m v es ≡ Refused fault offset side
+reported_refused : (m : List ℕ) (v : Verdict) (es : List Event) (fault : Fault) (offset side : ℕ) → report m v es ≡ refusal fault offset side
     → ((y : Progress) × (v ≡ refused fault offset y)) × (side ≡ 0)
 reported_refused m (finished z) es fault offset side e = absurd (false≢true (ap is_refused e))
 reported_refused m (refused f i y) es fault offset side e =
-    let k : f ≡ fault = cc in
-    let l : i ≡ offset = cc in
-    let s : 0 ≡ side = cc in
+    let k : f ≡ fault = ap fault_in e in
+    let l : i ≡ offset = ap offset_in e in
+    let s : 0 ≡ side = ap side_in e in
     ((y, ap (λ (d : Fault). refused d i y) k ∙ ap (λ (n : ℕ). refused fault n y) l), sym s)
 
 -- every call, where the lengths are right or not

@@ -8,23 +8,23 @@ use native.Mathlib.Omega.{arith}
 use borrow.Author.Tests.{leb-true, leb-false, le-leb, lt-leb}
 use lib.Dec.{leb}
 use lib.ListN.{length}
-use Rattle.answer.specs.Checks.{need}
+use Rattle.std.proofs.Common.{Result, Ok, Err}
+use Rattle.answer.specs.Checks.{failure, need}
+use Rattle.answer.specs.declared.Failure.{Failure}
 use Rattle.answer.specs.declared.Fault.{Fault}
 use Rattle.answer.specs.declared.Fault.TheVariants.{SettingOutOfRange, FileTooLong, CutShort}
 use Rattle.blocks.specs.Blocks.{amount_of}
 use Rattle.blocks.specs.declared.Block.{Block}
-use Rattle.blocks.specs.declared.Block.TheVariants.{Plain, Relocatable, Update, NewName, Faulty}
+use Rattle.blocks.specs.declared.Block.TheVariants.{Plain, Relocatable, Update, NewName}
 use Rattle.effects.proofs.Ending.{applied_ends}
 use Rattle.effects.specs.Effects.{applied}
 use Rattle.events.proofs.Traces.{trace_ends, walk_traced}
 use Rattle.events.proofs.Walks.{EndsAt}
-use Rattle.events.specs.Events.{Event, marks, blank, Ran}
+use Rattle.events.specs.Events.{Event, marks, blank, Ran, Check}
 use Rattle.events.specs.Trace.{Trace}
 use Rattle.events.specs.Walk.{Turn, ends, leads, bytes_left}
-use Rattle.events.specs.declared.Check.{Check}
-use Rattle.events.specs.declared.Check.TheVariants.{Passed, Failed}
-use Rattle.passes.proofs.Turning.{turn_end, turn_block, turn_led, turn_finished, turn_refused, block_fits, turn_falls, refused_finished}
-use Rattle.passes.specs.Walk.{Inputs, Progress, Verdict, finished, refused, judge, block_at, applied_at, turn, blocks_from, begun, blocks_of}
+use Rattle.passes.proofs.Turning.{Broke, turn_end, turn_block, turn_led, turn_finished, turn_refused, block_fits, turn_falls, refused_finished}
+use Rattle.passes.specs.Walk.{Inputs, Progress, Verdict, finished, refused, judge, block_at, applied_at, carried, turn, blocks_from, begun, blocks_of}
 use Rattle.updates.proofs.Rules.{by_rules as body_by_rules}
 use Rattle.updates.proofs.Turning.{broken_done}
 use Rattle.updates.specs.Bodies.{Stop, broken, done}
@@ -49,7 +49,6 @@ module _ (file : List ℕ) (g : Inputs) (y : Progress) (map : List ℕ) where
   does_applied (Update source from) end fs h =
       (body_by_rules file y.cursor.table (amount_of y.cursor.table g.addresses y.addresses source) from map).follows end fs h
   does_applied (NewName from address) end fs h = h
-  does_applied (Faulty fault offset) end fs h = absurd h
 
   applied_does : (found : Block) (end : ℕ) → (comes found).answer ≡ done end → Does file g y map found end (comes found).events
   applied_does (Plain address from size) end e = done_is (comes (Plain address from size)) e
@@ -57,43 +56,56 @@ module _ (file : List ℕ) (g : Inputs) (y : Progress) (map : List ℕ) where
   applied_does (Update source from) end e =
       (body_by_rules file y.cursor.table (amount_of y.cursor.table g.addresses y.addresses source) from map).follows_only end e
   applied_does (NewName from address) end e = done_is (comes (NewName from address)) e
-  applied_does (Faulty fault offset) end e = absurd (broken_done e)
 
-  breaks_applied : (found : Block) (fault : Fault) (at : ℕ) → Breaks file g y map found fault at → (comes found).answer ≡ broken fault at
+  breaks_applied : (found : Block) (fault : Fault) (at : ℕ) → Breaks file g y map (Ok found) fault at → (comes found).answer ≡ broken fault at
   breaks_applied (Plain address from size) fault at h = absurd h
   breaks_applied (Relocatable reserves number offset from size) fault at h = absurd h
   breaks_applied (Update source from) fault at h =
       (body_by_rules file y.cursor.table (amount_of y.cursor.table g.addresses y.addresses source) from map).fails fault at h
   breaks_applied (NewName from address) fault at h = absurd h
-  breaks_applied (Faulty found offset) fault at h = let e = h.0 in let i = h.1 in cc
 
-  applied_breaks : (found : Block) (fault : Fault) (at : ℕ) → (comes found).answer ≡ broken fault at → Breaks file g y map found fault at
+  -- so it ends a walk, as what is no block does
+  breaks_ends : (r : Result Block Failure) (fault : Fault) (at : ℕ) → Breaks file g y map r fault at
+      → (carried file g y r map).answer ≡ ends (refused fault at y)
+  unfolding applied_at
+  breaks_ends (Ok found) fault at h = ap (judge file y found (comes found).events) (breaks_applied found fault at h)
+  breaks_ends (Err e) fault at h =
+      ap (λ (f : Fault). ends (refused f e.offset y)) (sym h.0) ∙ ap (λ (n : ℕ). ends (refused fault n y)) (sym h.1)
+
+  applied_breaks : (found : Block) (fault : Fault) (at : ℕ) → (comes found).answer ≡ broken fault at → Breaks file g y map (Ok found) fault at
   applied_breaks (Plain address from size) fault at e = absurd (broken_done (sym e))
   applied_breaks (Relocatable true number offset from size) fault at e = absurd (broken_done (sym e))
   applied_breaks (Relocatable false number offset from size) fault at e = absurd (broken_done (sym e))
   applied_breaks (Update source from) fault at e =
       (body_by_rules file y.cursor.table (amount_of y.cursor.table g.addresses y.addresses source) from map).fails_only fault at e
   applied_breaks (NewName from address) fault at e = absurd (broken_done (sym e))
-  applied_breaks (Faulty found offset) fault at e = (cc, cc)
+
+  broke_breaks : (r : Result Block Failure) (fault : Fault) (at : ℕ) → Broke file g y map fault at r → Breaks file g y map r fault at
+  unfolding applied_at
+  broke_breaks (Ok found) fault at h = applied_breaks found fault at h
+  broke_breaks (Err e) fault at h = (sym h.0, sym h.1)
 
 -- ---- the steps are the turns
 
 module _ (file : List ℕ) (g : Inputs) (top : g.high ≤ 65535) where
   -- a block that is done is not at the file's end
-  done_more : (y : Progress) (map : List ℕ) (end : ℕ) → (applied_at file g y map).answer ≡ done end → y.cursor.at ≡ length file → ⊥
+  done_more : (y : Progress) {found : Block} → block_at file g y ≡ Ok found → (map : List ℕ) (end : ℕ)
+      → (applied_at file g y found map).answer ≡ done end
+      → y.cursor.at ≡ length file
+      → ⊥
   unfolding applied_at
-  done_more y map end e at =
-      let x = applied_ends file g.addresses y.addresses y.cursor (block_at file g y) map _ _ (block_fits file g top y) end e in
+  done_more y {found} is map end e at =
+      let x = applied_ends file g.addresses y.addresses y.cursor found map _ _ (block_fits file g top y is) end e in
       omega (arith, x.further, x.inside, at)
 
   step_turn : (y z : Progress) (es fs : List Event) → NextBlock file g y es z fs → turn file g y (marks es blank) ≡ record { answer = leads z; events = fs }
   unfolding applied_at
   step_turn y z es fs x =
       let p = marks es blank in
-      let found = block_at file g y in
-      let e : applied_at file g y p ≡ record { answer = done x.end; events = fs } = does_applied file g y p found x.end fs x.does in
-      turn_block file g y p (done_more y p x.end (ap (λ (o : Ran Stop). o.answer) e))
-      ∙ ap (λ (o : Ran Stop). record { answer = judge file y found o.events o.answer; events = o.events }) e
+      let e : applied_at file g y x.found p ≡ record { answer = done x.end; events = fs } = does_applied file g y p x.found x.end fs x.does in
+      turn_block file g y p (done_more y x.is p x.end (ap (λ (o : Ran Stop). o.answer) e))
+      ∙ ap (λ (r : Result Block Failure). carried file g y r p) x.is
+      ∙ ap (λ (o : Ran Stop). record { answer = judge file y x.found o.events o.answer; events = o.events }) e
       ∙ ap (λ (w : Progress). record { answer = leads w; events = fs }) (sym x.leads_to)
 
   turn_step : (y z : Progress) (es : List Event) → (turn file g y (marks es blank)).answer ≡ leads z
@@ -102,7 +114,13 @@ module _ (file : List ℕ) (g : Inputs) (top : g.high ≤ 65535) where
   turn_step y z es e =
       let l = turn_led file g y (marks es blank) z e in
       rw l.events
-      (record { end = l.next; does = applied_does file g y (marks es blank) (block_at file g y) l.next l.done_at; leads_to = sym l.leads_to })
+      (record {
+        found = l.found;
+        is = l.read_as;
+        end = l.next;
+        does = applied_does file g y (marks es blank) l.found l.next l.done_at;
+        leads_to = sym l.leads_to;
+      })
 
   blocks_traced : EndsAt (turn file g) (Trace (NextBlock file g) (begun g)) blank (blocks_of file g)
   unfolding blocks_from
@@ -121,7 +139,7 @@ module _ (file : List ℕ) (g : Inputs) (top : g.high ≤ 65535) where
   -- ---- the file
 
   -- behind an opening that passes the blocks decide
-  judged_blocks : opening file ≡ Passed → judged file g ≡ blocks_of file g
+  judged_blocks : opening file ≡ Ok tt → judged file g ≡ blocks_of file g
   unfolding judged
   judged_blocks o = ap (λ (c : Check). opened g c (blocks_of file g)) o
 
@@ -138,41 +156,41 @@ module _ (file : List ℕ) (g : Inputs) (top : g.high ≤ 65535) where
   followed z e = by (opening file) refl e
     where
       by : (c : Check) → opening file ≡ c → (opened g c (blocks_of file g)).answer ≡ finished z → Follows file g z (opened g c (blocks_of file g)).events
-      by (Failed fault offset) o f = absurd (refused_finished f)
-      by Passed o f =
+      by (Err failed) o f = absurd (refused_finished f)
+      by (Ok passed) o f =
           let x = blocks_traced in
           let t = turn_finished file g x.state (marks x.before blank) z (x.answer ∙ ap ends f) in
           let es : (blocks_of file g).events ≡ x.before = x.events ∙ ap (λ (fs : List Event). x.before ++ fs) t.events ∙ append-nil x.before in
           rw (es, ← t.state) (record { opens = o; blocks = x.held; ends = t.at_end })
 
   pub fails_judged : (fault : Fault) (at : ℕ) (y : Progress) → Fails file g fault at y → (judged file g).answer ≡ refused fault at y
-  unfolding judged applied_at
+  unfolding judged
   fails_judged fault at y (in_opening o) = ap (λ (c : Check). (opened g c (blocks_of file g)).answer) o
   fails_judged fault at y (in_block {es = es} o t more b) =
       let p = marks es blank in
-      let found = block_at file g y in
-      let e : (applied_at file g y p).answer ≡ broken fault at = breaks_applied file g y p found fault at b in
       ap (λ (q : Ran Verdict). q.answer)
       (judged_blocks o
       ∙ trace_blocks y es (refused fault at y) t
       (ap (λ (q : Ran (Turn Progress Verdict)). q.answer) (turn_block file g y p more)
-      ∙ ap (judge file y found (applied_at file g y p).events) e))
+      ∙ breaks_ends file g y p (block_at file g y) fault at b))
 
   pub failed : (fault : Fault) (at : ℕ) (y : Progress) → (judged file g).answer ≡ refused fault at y → Fails file g fault at y
-  unfolding judged applied_at
+  unfolding judged
   failed fault at y e = by (opening file) refl e
     where
       by : (c : Check) → opening file ≡ c → (opened g c (blocks_of file g)).answer ≡ refused fault at y → Fails file g fault at y
-      by (Failed f i) o e =
-          let k : Failed f i ≡ Failed fault at = cc in
+      by (Err d) o e =
+          let k : d.fault ≡ fault = cc in
+          let i : d.offset ≡ at = cc in
           let l : begun g ≡ y = cc in
-          subst (Fails file g fault at) l (in_opening (o ∙ k))
-      by Passed o e =
+          subst (Fails file g fault at) l
+          (in_opening (o ∙ ap (λ (f : Fault). failure f d.offset) k ∙ ap (λ (n : ℕ). failure fault n) i))
+      by (Ok passed) o e =
           let x = blocks_traced in
           let p = marks x.before blank in
           let t = turn_refused file g x.state p fault at y (x.answer ∙ ap ends e) in
           subst (Fails file g fault at) t.state
-          (in_block o x.held t.more (applied_breaks file g x.state p (block_at file g x.state) fault at t.broke))
+          (in_block o x.held t.more (broke_breaks file g x.state p (block_at file g x.state) fault at t.broke))
 
 -- ---- a load
 
@@ -190,8 +208,8 @@ module _ (file : List ℕ) (g : Inputs) where
   load_accepted z e = by (admitting file g) refl e
     where
       by : (c : Check) → admitting file g ≡ c → (opened g c (blocks_of file g)).answer ≡ finished z → Accepts file g z (opened g c (blocks_of file g)).events
-      by (Failed fault offset) o f = absurd (refused_finished f)
-      by Passed o f =
+      by (Err failed) o f = absurd (refused_finished f)
+      by (Ok passed) o f =
           let a = admitted file g o in
           let top = (range_bounds g a.settings).1 in
           let j = judged_blocks file g top a.opens in
@@ -221,7 +239,7 @@ module _ (file : List ℕ) (g : Inputs) where
           (subst (λ (n : ℕ). Refuses file g fault n (begun g)) i (subst (λ (d : Fault). Refuses file g d 0 (begun g)) k h))
 
       by : (c d : Bool) → in_range g ≡ c → leb (length file) 65536 ≡ d
-          → (opened g (need Failed c SettingOutOfRange 0 (need Failed d FileTooLong 0 (opening file))) (blocks_of file g)).answer ≡ refused fault at y
+          → (opened g (need failure c SettingOutOfRange 0 (need failure d FileTooLong 0 (opening file))) (blocks_of file g)).answer ≡ refused fault at y
           → Refuses file g fault at y
       by true true h k e = by_file h (leb-true _ _ k) (failed file g (range_bounds g h).1 fault at y e)
       by true false h k e = at_once (too_long h (leb-false _ _ k)) e

@@ -6,9 +6,9 @@ use mathlib.Core.Path.{◌≡◌, refl, sym, ap, ap₂, ◌∙◌}
 use Prim.Native.Nat.{ℕ, ◌+◌, ◌-◌, ◌*◌, ◌≤◌}
 use native.Mathlib.Omega.{arith}
 use lib.ListN.{length, get_or}
+use Rattle.std.proofs.Common.{Some, None}
 use Rattle.answer.proofs.Checks.{and_true}
 use Rattle.answer.specs.Checks.{pick}
-use Rattle.answer.specs.declared.Start.TheVariants.{Absent, At}
 use Rattle.events.proofs.Events.{play_append, length_play_one, length_play, length_mark_one, length_marks, length_blank, blank_at}
 use Rattle.events.specs.Events.{Event, place, reserve, adjust, play_one, play, mark_one, marks, blank}
 use Rattle.updates.specs.Bodies.{is_loaded, word_loaded}
@@ -158,6 +158,6 @@ pub start_same : (p m n : List ℕ) → Agree p m n → start_in p m ≡ start_i
 unfolding start_in pick
 start_same p m n g = by (word_loaded p start_place) refl
   where
-    by : (t : Bool) → word_loaded p start_place ≡ t → pick t (At (value 2 m start_place)) Absent ≡ pick t (At (value 2 n start_place)) Absent
-    by true e = ap At (word_same p m n start_place g e)
+    by : (t : Bool) → word_loaded p start_place ≡ t → pick t (Some (value 2 m start_place)) None ≡ pick t (Some (value 2 n start_place)) None
+    by true e = ap (λ (a : ℕ). Some a) (word_same p m n start_place g e)
     by false e = refl

@@ -1,18 +1,14 @@
 -- A call of the loader, whatever comes in: "1, 2, 3 come in that order, then the file from its front".
 -- Offsets: "0 for 1 to 4"; document 02, wish 6, "for 5 the file's length".
 -- Assumes nothing.
-use Rattle.std.specs.Prelude.{Bool, ◌&&◌, List, [], ◌≡◌, ℕ, ◌*◌, ◌≤◌, leb, eqb, length}
-use Rattle.answer.specs.Checks.{need, pick}
-use Rattle.answer.specs.Report.{placed_of, adjusted_of}
+use Rattle.std.specs.Prelude.{Bool, ◌&&◌, List, [], ◌≡◌, ℕ, ◌*◌, ◌≤◌, leb, eqb, length, Ok, Err}
+use Rattle.answer.specs.Checks.{failure, need, pick}
+use Rattle.answer.specs.Report.{Outcome, acceptance, refusal, placed_of, adjusted_of}
 use Rattle.answer.specs.declared.Fault.{Fault}
 use Rattle.answer.specs.declared.Fault.TheVariants.{WrongBuffer, SettingOutOfRange, FileTooLong, CutShort, WrongOpening}
-use Rattle.answer.specs.declared.Outcome.{Outcome}
-use Rattle.answer.specs.declared.Outcome.TheVariants.{Accepted, Refused}
 use Rattle.blocks.specs.Blocks.{first_marker}
-use Rattle.events.specs.Events.{Event, play, marks, blank, placed_in, adjusted_in, Ran}
+use Rattle.events.specs.Events.{Event, play, marks, blank, placed_in, adjusted_in, Ran, Check}
 use Rattle.events.specs.Sizes.{memory_size, file_limit}
-use Rattle.events.specs.declared.Check.{Check}
-use Rattle.events.specs.declared.Check.TheVariants.{Passed, Failed}
 use Rattle.names.specs.Names.{name_size}
 use Rattle.passes.specs.Buffers.{Buffers, new_names_length, new_addresses_length, filled_up, start_in}
 use Rattle.passes.specs.Walk.{Inputs, Verdict, finished, refused, begun, blocks_of}
@@ -44,20 +40,20 @@ at_once g fault offset = record { answer = refused fault offset (begun g); event
 -- "One leftover byte, or an empty file, is 5. The first word must be FFFA to FFFF, else 4."
 unfoldable pub opening : List ℕ → Check
 opening file =
-    need Failed (leb 2 (length file)) CutShort (length file)
-    (need Failed (leb first_marker (value 2 file 0)) WrongOpening 0
-    Passed)
+    need failure (leb 2 (length file)) CutShort (length file)
+    (need failure (leb first_marker (value 2 file 0)) WrongOpening 0
+    (Ok tt))
 
 -- where the checks before the first block have passed, the rest decides
 abbrev pub opened : Inputs → Check → Ran Verdict → Ran Verdict
-opened g Passed rest = rest
-opened g (Failed fault offset) rest = at_once g fault offset
+opened g (Ok passed) rest = rest
+opened g (Err e) rest = at_once g e.fault e.offset
 
 -- what a load with the right buffers checks before the first block: 2, then 3, then the opening
 unfoldable pub admitting : List ℕ → Inputs → Check
 admitting file g =
-    need Failed (in_range g) SettingOutOfRange 0
-    (need Failed (leb (length file) file_limit) FileTooLong 0
+    need failure (in_range g) SettingOutOfRange 0
+    (need failure (leb (length file) file_limit) FileTooLong 0
     (opening file))
 
 -- a load with the right buffers
@@ -72,8 +68,8 @@ call file g right = need (at_once g) right WrongBuffer 0 (load file g)
 -- its offset
 abbrev pub report : List ℕ → Verdict → List Event → Outcome
 report memory (finished z) es =
-    Accepted (start_in (marks es blank) (play es memory)) (placed_in es) (adjusted_in es) (length z.addresses) z.cursor.low
-report memory (refused fault offset z) es = Refused fault offset 0
+    acceptance (start_in (marks es blank) (play es memory)) (placed_in es) (adjusted_in es) (length z.addresses) z.cursor.low
+report memory (refused fault offset z) es = refusal fault offset 0
 
 -- memory after a load: an acceptance plays its events, "A refusal leaves program memory untouched"
 abbrev pub memory_after : Verdict → List Event → List ℕ → List ℕ

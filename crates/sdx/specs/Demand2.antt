@@ -2,18 +2,16 @@
 -- (Rules.antt). Proved in proofs/Demand2.antt: `demand2` of the definition, of every file, all settings and every memory; `call_demand2 : Claim` of
 -- every call that keeps the loader's contract.
 -- Assumes nothing.
-use Rattle.std.specs.Prelude.{Bool, true, false, ◌&&◌, List, [], ◌∷◌, ◌++◌, ◌≡◌, ℕ, ◌+◌, ◌*◌, ◌≤◌, ◌<◌, length, get_or}
-use Rattle.answer.specs.declared.Outcome.{Outcome}
-use Rattle.answer.specs.declared.Outcome.TheVariants.{Accepted}
-use Rattle.answer.specs.declared.Start.{Start}
+use Rattle.std.specs.Prelude.{Bool, true, false, ◌&&◌, List, [], ◌∷◌, ◌++◌, ◌≡◌, ℕ, ◌+◌, ◌*◌, ◌≤◌, ◌<◌, length, get_or, Option}
+use Rattle.answer.specs.Report.{Outcome, acceptance}
 use Rattle.blocks.specs.Blocks.{amount_of}
 use Rattle.blocks.specs.declared.Block.{Block}
-use Rattle.blocks.specs.declared.Block.TheVariants.{Plain, Relocatable, Update, NewName, Faulty}
+use Rattle.blocks.specs.declared.Block.TheVariants.{Plain, Relocatable, Update, NewName}
 use Rattle.effects.specs.Effects.{Effect, name_in, address_in}
 use Rattle.events.specs.Events.{Event, place, reserve, adjust, placed_mark, reserved_mark, adjusted_mark, placed_in, adjusted_in}
 use Rattle.events.specs.Lists.{Each}
 use Rattle.events.specs.Sizes.{memory_size, file_limit}
-use Rattle.items.specs.Items.{slot_at}
+use Rattle.items.specs.Items.{slot_at, address_of}
 use Rattle.passes.specs.Buffers.{Buffers, new_names_length, new_addresses_length, filled_up, start_in}
 use Rattle.passes.specs.Walk.{Inputs, Progress}
 use Rattle.words.specs.Numbers.{value, digits, on}
@@ -88,12 +86,11 @@ pub record AdjustsBy (amount : ℕ) (e : Event) : Type 0 where
 -- adjusts a word by the rules' amount; which words it lists, `Follows` says, by its items)
 abbrev pub ByRule : List ℕ → Inputs → Progress → Block → List Event → Type 0
 ByRule file g z (Plain address from size) es = es ≡ place address (part file from size) ∷ []
-ByRule file g z (Relocatable true number offset from size) es = es ≡ reserve (slot_at z.cursor.table number).address size ∷ []
+ByRule file g z (Relocatable true number offset from size) es = es ≡ reserve (address_of (slot_at z.cursor.table number)) size ∷ []
 ByRule file g z (Relocatable false number offset from size) es =
-    es ≡ place (slot_at z.cursor.table number).address (part file from size) ∷ []
+    es ≡ place (address_of (slot_at z.cursor.table number)) (part file from size) ∷ []
 ByRule file g z (Update source from) es = Each (AdjustsBy (amount_of z.cursor.table g.addresses z.addresses source)) es
 ByRule file g z (NewName from address) es = es ≡ []
-ByRule file g z (Faulty fault offset) es = ⊥
 
 -- what all blocks did, in file order (the latest effect stands first)
 unfoldable pub events_of : List Effect → List Event
@@ -147,7 +144,7 @@ pub record Asked (file : List ℕ) (g : Inputs) (others : Bool) (b : Buffers) : 
   pub fits : length file ≤ file_limit
 
 -- A call that was accepted: it was as asked, the file follows the rules to its end, and this is what it left and reported.
-pub record AcceptedCall (file : List ℕ) (g : Inputs) (others : Bool) (b b' : Buffers) (start : Start) (placed adjusted named low : ℕ) : Type 0 where
+pub record AcceptedCall (file : List ℕ) (g : Inputs) (others : Bool) (b b' : Buffers) (start : Option ℕ) (placed adjusted named low : ℕ) : Type 0 where
   pub asked : Asked file g others b
   pub end : Progress
   pub events : List Event
@@ -164,12 +161,12 @@ pub record AcceptedCall (file : List ℕ) (g : Inputs) (others : Bool) (b b' : B
 -- call that found the buffers b, answered r and left b'
 pub record Exactly (file : List ℕ) (g : Inputs) (others : Bool) (b : Buffers) (r : Outcome) (b' : Buffers) : Type 0 where
   -- only if: an acceptance is of a call as asked and of a file that follows the rules, and leaves what demand 2 says
-  pub only : (start : Start) (placed adjusted named low : ℕ) → r ≡ Accepted start placed adjusted named low
+  pub only : (start : Option ℕ) (placed adjusted named low : ℕ) → r ≡ acceptance start placed adjusted named low
       → AcceptedCall file g others b b' start placed adjusted named low
   -- if: a call as asked accepts every file that follows the rules, with the start that map and memory show, the counts of its events, the number
   -- of its new names and low
   pub all : Asked file g others b → (z : Progress) (es : List Event) → Follows file g z es
-      → r ≡ Accepted (start_in b'.map b'.memory) (placed_in es) (adjusted_in es) (length z.addresses) z.cursor.low
+      → r ≡ acceptance (start_in b'.map b'.memory) (placed_in es) (adjusted_in es) (length z.addresses) z.cursor.low
 
 -- The claim: of every file, whatever the inputs and the buffers, and of every call that keeps the loader's contract.
 abbrev pub Claim : Type 0

@@ -1,7 +1,7 @@
 -- One file, one program: of every two calls that keep the loader's contract. Proved in proofs/Determinism.antt (`same_program : SameClaim`).
 -- Assumes nothing.
 use Rattle.std.specs.Prelude.{Bool, true, ◌&&◌, List, ◌≡◌, ℕ, get_or}
-use Rattle.answer.specs.declared.Outcome.{Outcome}
+use Rattle.answer.specs.Report.{Outcome}
 use Rattle.events.specs.Events.{Event}
 use Rattle.words.specs.Runs.{Bytes}
 use Rattle.passes.specs.Buffers.{Buffers}

@@ -3,9 +3,9 @@
 -- Assumes nothing.
 use Rattle.std.specs.Prelude.{Bool, ◌&&◌, List, ◌≡◌, ℕ, leb, length}
 use Rattle.answer.specs.Causes.{RefusedExactly}
+use Rattle.answer.specs.Report.{Outcome}
 use Rattle.answer.specs.declared.Fault.{Fault}
 use Rattle.answer.specs.declared.Fault.TheVariants.{WrongBuffer}
-use Rattle.answer.specs.declared.Outcome.{Outcome}
 use Rattle.events.specs.Events.{blank}
 use Rattle.events.specs.Sizes.{file_limit}
 use Rattle.passes.specs.Buffers.{Buffers}

@@ -2,17 +2,18 @@
 -- `passes`, `applied` of `effects`), a body by its items (specs/Rules.antt of `updates`). No walk is in it; that the loader's walk comes to this,
 -- both ways, is the claim at the end, proved in proofs/Rules.antt (`by_rules : RulesClaim`).
 -- Assumes nothing.
-use Rattle.std.specs.Prelude.{true, false, List, ◌≡◌, ℕ, ◌≤◌, ◌<◌, length}
+use Rattle.std.specs.Prelude.{true, false, List, ◌≡◌, ℕ, ◌≤◌, ◌<◌, length, Result, Ok, Err}
+use Rattle.answer.specs.Checks.{failure}
+use Rattle.answer.specs.declared.Failure.{Failure}
 use Rattle.answer.specs.declared.Fault.{Fault}
 use Rattle.answer.specs.declared.Fault.TheVariants.{SettingOutOfRange, FileTooLong}
 use Rattle.blocks.specs.Blocks.{amount_of}
 use Rattle.blocks.specs.declared.Block.{Block}
-use Rattle.blocks.specs.declared.Block.TheVariants.{Plain, Relocatable, Update, NewName, Faulty}
+use Rattle.blocks.specs.declared.Block.TheVariants.{Plain, Relocatable, Update, NewName}
 use Rattle.effects.specs.Effects.{applied}
 use Rattle.events.specs.Events.{Event, marks, blank}
 use Rattle.events.specs.Sizes.{file_limit}
 use Rattle.events.specs.Trace.{Trace}
-use Rattle.events.specs.declared.Check.TheVariants.{Passed, Failed}
 use Rattle.passes.specs.Walk.{Inputs, Progress, finished, refused, stepped, block_at, begun}
 use Rattle.updates.specs.Bodies.{done}
 use Rattle.updates.specs.Rules.{FollowsBody, FailsBody}
@@ -32,29 +33,30 @@ Does file g y map (Relocatable reserves number offset from size) end fs = AtOnce
 Does file g y map (Update source from) end fs =
     FollowsBody file y.cursor.table (amount_of y.cursor.table g.addresses y.addresses source) from map end fs
 Does file g y map (NewName from address) end fs = AtOnce file g y map (NewName from address) end fs
-Does file g y map (Faulty fault offset) end fs = ⊥
 
 -- a block breaks a rule first with this fault, at this offset: as it is read, or in its body
-abbrev pub Breaks : List ℕ → Inputs → Progress → List ℕ → Block → Fault → ℕ → Type 0
-Breaks file g y map (Plain address from size) fault at = ⊥
-Breaks file g y map (Relocatable reserves number offset from size) fault at = ⊥
-Breaks file g y map (Update source from) fault at =
+abbrev pub Breaks : List ℕ → Inputs → Progress → List ℕ → Result Block Failure → Fault → ℕ → Type 0
+Breaks file g y map (Ok (Plain address from size)) fault at = ⊥
+Breaks file g y map (Ok (Relocatable reserves number offset from size)) fault at = ⊥
+Breaks file g y map (Ok (Update source from)) fault at =
     FailsBody file y.cursor.table (amount_of y.cursor.table g.addresses y.addresses source) from map fault at
-Breaks file g y map (NewName from address) fault at = ⊥
-Breaks file g y map (Faulty found offset) fault at = (fault ≡ found) × (at ≡ offset)
+Breaks file g y map (Ok (NewName from address)) fault at = ⊥
+Breaks file g y map (Err e) fault at = (fault ≡ e.fault) × (at ≡ e.offset)
 
 -- The block at which a load stands at y, over the map as the events es left it, leads on to z by the events fs.
 pub record NextBlock (file : List ℕ) (g : Inputs) (y : Progress) (es : List Event) (z : Progress) (fs : List Event) : Type 0 where
+  pub found : Block
+  pub is : block_at file g y ≡ Ok found
   pub end : ℕ
-  pub does : Does file g y (marks es blank) (block_at file g y) end fs
-  pub leads_to : z ≡ stepped file y (block_at file g y) fs end
+  pub does : Does file g y (marks es blank) found end fs
+  pub leads_to : z ≡ stepped file y found fs end
 
 -- ---- the file
 
 -- A file follows the rules with these inputs, to z by the events es.
 pub record Follows (file : List ℕ) (g : Inputs) (z : Progress) (es : List Event) : Type 0 where
   -- "The first word must be FFFA to FFFF"
-  pub opens : opening file ≡ Passed
+  pub opens : opening file ≡ Ok tt
   -- "A file is blocks until its end": each is read where the one before it ended, with the table and the names as those before it left them
   pub blocks : Trace (NextBlock file g) (begun g) z es
   pub ends : z.cursor.at ≡ length file
@@ -62,8 +64,8 @@ pub record Follows (file : List ℕ) (g : Inputs) (z : Progress) (es : List Even
 -- A file breaks a rule first with this fault, at this offset: in its opening, or before its end in the block at which a load stands at y, after
 -- others that passed.
 pub data Fails (file : List ℕ) (g : Inputs) : Fault → ℕ → Progress → Type 0 where
-  in_opening : {fault : Fault} {at : ℕ} → opening file ≡ Failed fault at → Fails file g fault at (begun g)
-  in_block : {fault : Fault} {at : ℕ} {y : Progress} {es : List Event} → opening file ≡ Passed → Trace (NextBlock file g) (begun g) y es
+  in_opening : {fault : Fault} {at : ℕ} → opening file ≡ failure fault at → Fails file g fault at (begun g)
+  in_block : {fault : Fault} {at : ℕ} {y : Progress} {es : List Event} → opening file ≡ Ok tt → Trace (NextBlock file g) (begun g) y es
       → ¬ (y.cursor.at ≡ length file)
       → Breaks file g y (marks es blank) (block_at file g y) fault at
       → Fails file g fault at y

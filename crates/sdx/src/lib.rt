@@ -1,16 +1,14 @@
 // The SDX loader: the buffers, the settings, the file's length and its opening checked, and then its blocks loaded between low and high.
 #![tactic(auto)]
 
-ghost use Rattle.std.specs.Prelude.{true, [], ◌≡◌, ◌*◌, ◌≤◌, length};
+ghost use Rattle.std.specs.Prelude.{true, [], ◌≡◌, ◌*◌, ◌≤◌, length, Ok};
 ghost use Rattle.events.specs.Events.{blank};
-ghost use Rattle.events.specs.declared.Check.TheVariants.{Passed};
 ghost use Rattle.passes.specs.Walk.{inputs};
 ghost use Rattle.passes.specs.Buffers.{buffers};
 ghost use Rattle.sdx.specs.Call.{in_range, sized, opening as opening_of, admitting, Loaded};
 
-use answer::{Fault, Outcome};
+use answer::{Failure, Fault, Outcome};
 use events::Check;
-use passes::WalkEnd;
 
 // The most names that are lent.
 pub const KNOWN: usize = 256;
@@ -39,9 +37,9 @@ pub fn load(
     ) {
         return answer::refused(Fault::WrongBuffer, 0);
     }
-    words::fill(map, 0);
-    if let Check::Failed(fault, offset) = admit(file, low, high) {
-        return answer::refused(fault, offset);
+    map.fill(0);
+    if let Err(failure) = admit(file, low, high) {
+        return answer::refused(failure.fault, failure.offset);
     }
     load_blocks(
         file,
@@ -67,22 +65,12 @@ fn is_sized(
 ) -> bool
     ensures { result ≡ sized (inputs known_names.now known_addresses.now 0 0) (buffers memory.now map.now new_names.now new_addresses.now) }
 {
-    if memory.len() != events::MEMORY {
-        return false;
-    }
-    if map.len() != events::MEMORY {
-        return false;
-    }
-    if new_names.len() != passes::NAMES {
-        return false;
-    }
-    if new_addresses.len() != passes::ADDRESSES {
-        return false;
-    }
-    if KNOWN < known_addresses.len() {
-        return false;
-    }
-    known_names.len() == names::NAME * known_addresses.len()
+    memory.len() == events::MEMORY
+        && map.len() == events::MEMORY
+        && new_names.len() == passes::NAMES
+        && new_addresses.len() == passes::ADDRESSES
+        && known_addresses.len() <= KNOWN
+        && known_names.len() == names::NAME * known_addresses.len()
 }
 
 // Checks what comes before the first block: the settings, the file's length, its opening.
@@ -91,10 +79,16 @@ fn admit(file: &[u8], low: u32, high: u32) -> Check
     ensures { result ≡ admitting file.now (inputs [] [] low high) }
 {
     if !in_range(low, high) {
-        return Check::Failed(Fault::SettingOutOfRange, 0);
+        return Err(Failure {
+            fault: Fault::SettingOutOfRange,
+            offset: 0,
+        });
     }
     if events::FILE < file.len() {
-        return Check::Failed(Fault::FileTooLong, 0);
+        return Err(Failure {
+            fault: Fault::FileTooLong,
+            offset: 0,
+        });
     }
     opening(file)
 }
@@ -103,10 +97,7 @@ fn admit(file: &[u8], low: u32, high: u32) -> Check
 fn in_range(low: u32, high: u32) -> bool
     ensures { result ≡ in_range (inputs [] [] low high) }
 {
-    if high < low {
-        return false;
-    }
-    high <= 65535
+    low <= high && high <= 65535
 }
 
 // Whether the file opens with a marker.
@@ -115,13 +106,19 @@ fn opening(file: &[u8]) -> Check
     ensures { result ≡ opening_of file.now }
 {
     if file.len() < 2 {
-        return Check::Failed(Fault::CutShort, file.len());
+        return Err(Failure {
+            fault: Fault::CutShort,
+            offset: file.len(),
+        });
     }
     let word = words::word_at(file, 0);
     if word < blocks::FIRST_MARKER {
-        return Check::Failed(Fault::WrongOpening, 0);
+        return Err(Failure {
+            fault: Fault::WrongOpening,
+            offset: 0,
+        });
     }
-    Check::Passed
+    Ok(())
 }
 
 // Loads the blocks of a file, over a clear map: checks them first, and carries them out only where nothing is refused.
@@ -136,13 +133,13 @@ fn load_blocks(
     new_names: &mut [u8],
     new_addresses: &mut [u16],
 ) -> Outcome
-    requires { (length file.now ≤ 65536) × (length known_names.now ≡ 8 * length known_addresses.now) × (length memory.old ≡ 65536) × (length map.old ≡ 65536) × (length new_names.old ≡ 256) × (length new_addresses.old ≡ 32) × (map.old ≡ blank) × (admitting file.now (inputs known_names.now known_addresses.now low high) ≡ Passed) }
+    requires { (length file.now ≤ 65536) × (length known_names.now ≡ 8 * length known_addresses.now) × (length memory.old ≡ 65536) × (length map.old ≡ 65536) × (length new_names.old ≡ 256) × (length new_addresses.old ≡ 32) × (map.old ≡ blank) × (admitting file.now (inputs known_names.now known_addresses.now low high) ≡ Ok tt) }
     ensures { Loaded file.now (inputs known_names.now known_addresses.now low high) true (buffers memory.old map.old new_names.old new_addresses.old) result (buffers memory.new map.new new_names.new new_addresses.new) }
 {
     let checked = passes::check(file, low, high, known_names, known_addresses, memory, map);
     match checked {
-        WalkEnd::Stopped(fault, offset) => answer::refused(fault, offset),
-        WalkEnd::Finished(totals) => {
+        Err(failure) => answer::refused(failure.fault, failure.offset),
+        Ok(totals) => {
             let again = passes::walk(
                 file,
                 low,

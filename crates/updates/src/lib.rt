@@ -81,8 +81,7 @@ fn apply(
     ensures { Did Check (applied at amount item map.old) write memory.old map.old result memory.new map.new }
 {
     match item {
-        Item::End(next) => Ok(()),
-        Item::Move { counter, next } => Ok(()),
+        Item::End(_) | Item::Move { .. } => Ok(()),
         Item::Adjust { counter, next } => {
             adjust(counter as usize, at, amount, write, memory, map)
         }
@@ -137,11 +136,11 @@ fn advance(cursor: Cursor, item: Item) -> Cursor
     ensures { result ≡ advanced cursor item }
 {
     match item {
-        Item::End(next) => cursor,
+        Item::End(_) => cursor,
         Item::Move { counter, next } => Cursor {
             at: next,
             counter: Some(counter),
-            adjusted: cursor.adjusted,
+            ..cursor
         },
         Item::Adjust { counter, next } => Cursor {
             at: next,

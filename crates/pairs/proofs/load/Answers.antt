@@ -13,7 +13,3 @@ returns-then-size c = loads_many c.refused-then-size.ensures c.if-size-ne0.false
 
 pub returns-then-new_addresses : goal.returns-then-new_addresses
 returns-then-new_addresses c = loads_other c.refused-then-new_addresses.ensures c.if-new_addresses.true
-
-pub load_words-requires : goal.load_words-requires
-load_words-requires c =
-    (eq-eqb _ _ c.if-size-ne0.false, omega arith, c.if-new_addresses.false)

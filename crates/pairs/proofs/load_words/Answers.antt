@@ -1,6 +1,6 @@
 -- `pairs::load_words` meets its contract: the words of the pairs are what the loader gets, and what it writes goes back as pairs.
 -- Assumes nothing.
-use mathlib.Core.Path.{refl, sym}
+use mathlib.Core.Path.{refl, sym, ◌∙◌}
 use native.Mathlib.Omega.{arith}
 use lib.Seq.{length-take-le}
 use Rattle.passes.specs.Buffers.{buffers}
@@ -8,23 +8,20 @@ use Rattle.passes.specs.Walk.{inputs}
 use Rattle.pairs.proofs.Pairs.{known_front, loads_accepted, loads_refused}
 use Rattle.pairs.proofs.load_words.Goals as goal
 
-pub slice_bounds-load-end : goal.slice_bounds-load-end
-slice_bounds-load-end c = sym (length-take-le _ _ (omega arith))
-
-pub returns-in-Refused : goal.returns-in-Refused
-returns-in-Refused c =
+pub returns-else-is_ok : goal.returns-else-is_ok
+returns-else-is_ok c =
     let a = c.args in
     let k = c.decode_words in
     loads_refused a.file.now (inputs c.args.known_names.now c.args.known_addresses.now a.low a.high)
     (buffers a.memory.now a.map.now a.new_names.now a.new_addresses.now) _ _ _ _ c.requires.0 c.requires.2
     (known_front c.args.known_addresses.now k.new.words _ k.ensures (omega (arith, c.requires.1))) c.load-outcome.ensures
-    _ _ _ c.in-Refused.is refl
+    (sym c.is_ok.ensures.value ∙ c.if-is_ok.false) refl
 
-pub returns : goal.returns
-returns c =
+pub returns-then-is_ok : goal.returns-then-is_ok
+returns-then-is_ok c =
     let a = c.args in
     let k = c.decode_words in
     loads_accepted a.file.now (inputs c.args.known_names.now c.args.known_addresses.now a.low a.high)
     (buffers a.memory.now a.map.now a.new_names.now a.new_addresses.now) _ _ _ _ c.requires.0 c.requires.2
     (known_front c.args.known_addresses.now k.new.words _ k.ensures (omega (arith, c.requires.1))) c.load-outcome.ensures
-    _ _ _ _ _ c.in_default.is c.encode_words.ensures.0 c.encode_words.ensures.1
+    (sym c.is_ok.ensures.value ∙ c.if-is_ok.true) c.encode_words.ensures.0 c.encode_words.ensures.1

@@ -8,4 +8,4 @@ use Rattle.passes.proofs.check.Goals as goal
 pub returns : goal.returns
 returns c =
     let w = c.walk-walked in
-    checked_as w.ensures (cleared _ _ (c.walk-walked.auto.map ∙ c.requires.3) c.fill.ensures)
+    checked_as w.ensures (cleared _ _ (c.walk-walked.auto.map ∙ c.requires.3) (c.fill.ensures.after (λ y e. e)))

@@ -1,9 +1,10 @@
 -- `passes::walk` meets its contract: the definition's walk has come to the cursor, with the buffers as what it did left them (`Going`).
 -- Assumes nothing.
-use mathlib.Core.Path.{refl, ◌∙◌}
+use mathlib.Core.Path.{refl, sym, ◌∙◌}
 use Prim.Native.Nat.{◌≤◌}
 use native.Mathlib.Omega.{arith}
-use Rattle.passes.proofs.Going.{going_first, going_done, found_fits, name_fits, room_fits, going_stops, going_falls, going_counts, going_on}
+use Rattle.std.proofs.lemmas.Result.{err_from_is_err_and}
+use Rattle.passes.proofs.Going.{going_first, going_done, going_unread, found_fits, name_fits, room_fits, going_stops, going_falls, going_counts, going_on}
 use Rattle.passes.proofs.walk.Goals as goal
 
 pub loop-cursor-init : goal.loop-cursor-init
@@ -22,46 +23,33 @@ returns-then-cursor-file c =
     let l = c.loop-cursor.invariant in
     rw c.total.ensures (going_done l.4 c.if-cursor-file.true)
 
-pub overflow_mul-size : goal.overflow_mul-size
-overflow_mul-size c = let few = c.loop-cursor.invariant.4.counted.few in omega (arith, few)
+-- the fault of what was read, or of the block, is that of the walk
+pub returns-in_err-found : goal.returns-in_err-found
+returns-in_err-found c =
+    let p = err_from_is_err_and c.from_residual.result c.from_residual.ensures.1 in
+    rw (p.1, p.2) (going_unread c.loop-cursor.invariant.4 c.if-cursor-file.false (sym c.in_err-found.was ∙ c.read.ensures.value))
 
-pub slice_bounds-read-end : goal.slice_bounds-read-end
-slice_bounds-read-end c = let l = c.loop-cursor.invariant in omega (arith, l.2, l.4.counted.few)
-
-pub read-found-requires : goal.read-found-requires
-read-found-requires c =
+pub apply-requires : goal.apply-requires
+apply-requires c =
     let l = c.loop-cursor.invariant in
-    (l.4.lent.short, l.4.passed.inside, l.4.tabled.packed)
+    (l.4.lent.short, c.in_ok-found.ensures.in_memory, found_fits l.4 (sym c.in_ok-found.was ∙ c.read.ensures.value), l.0, l.1)
 
-pub slice_bounds-own-end : goal.slice_bounds-own-end
-slice_bounds-own-end c = let l = c.loop-cursor.invariant in omega (arith, l.3, l.4.counted.few)
-
-pub apply-end-requires : goal.apply-end-requires
-apply-end-requires c =
-    let l = c.loop-cursor.invariant in
-    (l.4.lent.short, c.read-found.ensures.in_memory, found_fits l.4 c.read-found.ensures.value, l.0, l.1)
-
-pub returns-in-Broken : goal.returns-in-Broken
-returns-in-Broken c =
-    going_stops c.loop-cursor.invariant.4 c.read-found.ensures.value c.if-cursor-file.false c.apply-end.ensures _ _
-    c.in-Broken.is
+pub returns-in_err-end : goal.returns-in_err-end
+returns-in_err-end c =
+    let p = err_from_is_err_and c.from_residual-in_err-end.result c.from_residual-in_err-end.ensures.1 in
+    rw (p.1, p.2)
+    (going_stops c.loop-cursor.invariant.4 (sym c.in_ok-found.was ∙ c.read.ensures.value) c.if-cursor-file.false c.apply.ensures c.in_err-end.was)
 
 pub store_name-requires : goal.store_name-requires
 store_name-requires c =
     let l = c.loop-cursor.invariant in
-    (name_fits l.4 c.read-found.ensures.value, l.2, l.3)
+    (name_fits l.4 (sym c.in_ok-found.was ∙ c.read.ensures.value), l.2, l.3)
 
 -- both counts with the block's own stay within the file
-pub overflow_add-bytes : goal.overflow_add-bytes
-overflow_add-bytes c =
-    let l = c.loop-cursor.invariant.4 in
-    let k = going_counts l c.read-found.ensures.value c.if-cursor-file.false c.apply-end.ensures _ _ c.in-Done.is in
-    omega (arith, k.0, l.lent.short, c.placed_by-bytes.ensures)
-
 pub overflow_add-fields : goal.overflow_add-fields
 overflow_add-fields c =
     let l = c.loop-cursor.invariant.4 in
-    let k = going_counts l c.read-found.ensures.value c.if-cursor-file.false c.apply-end.ensures _ _ c.in-Done.is in
+    let k = going_counts l (sym c.in_ok-found.was ∙ c.read.ensures.value) c.if-cursor-file.false c.apply.ensures c.in_ok-end.was in
     omega (arith, k.1, l.lent.short)
 
 pub advance-cursor-requires : goal.advance-cursor-requires
@@ -69,22 +57,21 @@ advance-cursor-requires c =
     let x = c.loop-cursor.invariant.4 in
     let count = x.tabled.few in
     let named = x.counted.few in
-    (omega (arith, count), omega (arith, named), room_fits x c.read-found.ensures.value)
+    (omega (arith, count), omega (arith, named), room_fits x (sym c.in_ok-found.was ∙ c.read.ensures.value))
 
 pub loop-cursor-smaller : goal.loop-cursor-smaller
 loop-cursor-smaller c =
     rw c.advance-cursor.ensures
-    (going_falls c.loop-cursor.invariant.4 c.read-found.ensures.value c.if-cursor-file.false c.apply-end.ensures _ _
-    c.in-Done.is)
+    (going_falls c.loop-cursor.invariant.4 (sym c.in_ok-found.was ∙ c.read.ensures.value) c.if-cursor-file.false c.apply.ensures c.in_ok-end.was)
 
 pub loop-cursor-preserved : goal.loop-cursor-preserved
 loop-cursor-preserved c =
     let l = c.loop-cursor.invariant in (
-      c.apply-end.auto.memory ∙ l.0,
-      c.apply-end.auto.map ∙ l.1,
+      c.apply.auto.memory ∙ l.0,
+      c.apply.auto.map ∙ l.1,
       c.store_name.auto.new_names ∙ l.2,
       c.store_name.auto.new_addresses ∙ l.3,
       rw (c.advance-cursor.ensures, c.placed_by-bytes.ensures)
-          (going_on l.4 c.read-found.ensures.value c.if-cursor-file.false c.apply-end.ensures _ _ c.in-Done.is _ _
+          (going_on l.4 (sym c.in_ok-found.was ∙ c.read.ensures.value) c.if-cursor-file.false c.apply.ensures c.in_ok-end.was _ _
           c.store_name.ensures),
     )

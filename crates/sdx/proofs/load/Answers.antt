@@ -4,10 +4,10 @@
 use mathlib.Core.Bool.{true}
 use mathlib.Core.Path.{◌≡◌, sym, ◌∙◌}
 use native.Mathlib.Omega.{arith}
+use Rattle.std.proofs.Common.{Ok}
 use Rattle.events.proofs.Events.{cleared}
 use Rattle.passes.specs.Buffers.{buffers}
 use Rattle.passes.specs.Walk.{inputs}
-use Rattle.events.specs.declared.Check.TheVariants.{Passed}
 use Rattle.sdx.proofs.Calling.{admit_settings, admitted, range_bounds, loaded_wrong, loaded_sized, loaded_at_once, right_sizes}
 use Rattle.sdx.proofs.Faults.{admit_fits}
 use Rattle.sdx.specs.Call.{sized, admitting}
@@ -16,25 +16,25 @@ use Rattle.sdx.proofs.load.Goals as goal
 pub returns-then-not-is_sized : goal.returns-then-not-is_sized
 returns-then-not-is_sized c = loaded_wrong _ _ _ _ _ (sym c.is_sized.ensures ∙ c.if-not-is_sized.true) c.refused.ensures
 
-pub refused-requires-in-Failed : goal.refused-requires-in-Failed
-refused-requires-in-Failed c =
-    let h = admit_fits _ _ (sym c.admit.ensures ∙ c.in-Failed.is) in
+pub refused-requires-in-Err : goal.refused-requires-in-Err
+refused-requires-in-Err c =
+    let h = admit_fits _ _ (sym c.admit.ensures ∙ c.in-Err.is) in
     omega (arith, h)
 
-pub returns-in-Failed : goal.returns-in-Failed
-returns-in-Failed c =
+pub returns-in-Err : goal.returns-in-Err
+returns-in-Err c =
     let a = c.args in
     let g = inputs c.args.known_names.now c.args.known_addresses.now a.low a.high in
     let b = buffers a.memory.now a.map.now a.new_names.now a.new_addresses.now in
     let right : sized g b ≡ true = sym c.is_sized.ensures ∙ c.if-not-is_sized.false in
-    loaded_at_once _ _ right (sym (admit_settings _ _ _ _ _) ∙ sym c.admit.ensures ∙ c.in-Failed.is) c.refused-in-Failed.ensures
-    (cleared _ _ (right_sizes g b right).map c.fill.ensures)
+    loaded_at_once _ _ right (sym (admit_settings _ _ _ _ _) ∙ sym c.admit.ensures ∙ c.in-Err.is) c.refused-in-Err.ensures
+    (cleared _ _ (right_sizes g b right).map (c.fill.ensures.after (λ y e. e)))
 
 pub overflow_cast-low : goal.overflow_cast-low
 overflow_cast-low c =
     let a = c.args in
     let g = inputs c.args.known_names.now c.args.known_addresses.now a.low a.high in
-    let passed : admitting a.file.now g ≡ Passed = sym (admit_settings _ _ _ _ _) ∙ sym c.admit.ensures ∙ c.in_default.is in
+    let passed : admitting a.file.now g ≡ Ok tt = sym (admit_settings _ _ _ _ _) ∙ sym c.admit.ensures ∙ c.in_default.is in
     let h = range_bounds g (admitted _ g passed).settings in
     omega (arith, h.0, h.1)
 
@@ -42,7 +42,7 @@ pub overflow_cast-high : goal.overflow_cast-high
 overflow_cast-high c =
     let a = c.args in
     let g = inputs c.args.known_names.now c.args.known_addresses.now a.low a.high in
-    let passed : admitting a.file.now g ≡ Passed = sym (admit_settings _ _ _ _ _) ∙ sym c.admit.ensures ∙ c.in_default.is in
+    let passed : admitting a.file.now g ≡ Ok tt = sym (admit_settings _ _ _ _ _) ∙ sym c.admit.ensures ∙ c.in_default.is in
     let h = range_bounds g (admitted _ g passed).settings in
     omega (arith, h.1)
 
@@ -52,16 +52,15 @@ load_blocks-requires c =
     let g = inputs c.args.known_names.now c.args.known_addresses.now a.low a.high in
     let b = buffers a.memory.now a.map.now a.new_names.now a.new_addresses.now in
     let right : sized g b ≡ true = sym c.is_sized.ensures ∙ c.if-not-is_sized.false in
-    let passed : admitting a.file.now g ≡ Passed = sym (admit_settings _ _ _ _ _) ∙ sym c.admit.ensures ∙ c.in_default.is in
-    let l = right_sizes g b right in
-    let fill = c.fill in (
+    let passed : admitting a.file.now g ≡ Ok tt = sym (admit_settings _ _ _ _ _) ∙ sym c.admit.ensures ∙ c.in_default.is in
+    let l = right_sizes g b right in (
       (admitted _ g passed).fits,
       l.known,
       l.memory,
-      c.fill.auto.bytes ∙ l.map,
+      c.fill.auto.self ∙ l.map,
       l.names,
       l.addresses,
-      cleared _ _ l.map fill.ensures,
+      cleared _ _ l.map (c.fill.ensures.after (λ y e. e)),
       passed,
     )
 

@@ -30,11 +30,6 @@ pub returns-in-End : goal.returns-in-End
 returns-in-End c =
     going_ends c.loop-item.invariant.2 (sym c.in_ok-item.was ∙ c.read.ensures) c.in_ok-apply.ensures c.in-End.is
 
-pub advance-cursor-requires : goal.advance-cursor-requires
-advance-cursor-requires c =
-    let l = c.loop-item in
-    omega (arith, c.requires.0, l.invariant.2.behind, l.invariant.2.inside)
-
 pub loop-item-smaller : goal.loop-item-smaller
 loop-item-smaller c =
     let l = c.loop-item.invariant in
