@@ -3,7 +3,7 @@
 use mathlib.Core.Bool.{Bool, true, false, ◌&&◌, false≢true}
 use mathlib.Core.List.{List}
 use mathlib.Core.Path.{◌≡◌, refl, sym, ap, ◌∙◌, subst}
-use Prim.Native.Nat.{ℕ, zero, suc, ◌≤◌, ◌<◌}
+use Prim.Native.Nat.{ℕ, ◌≤◌, ◌<◌}
 use native.Mathlib.Omega.{arith}
 use borrow.Author.Tests.{le-leb, lt-leb, leb-true, eq-eqb, ne_eqb}
 use lib.Dec.{leb}
@@ -27,12 +27,6 @@ use Rattle.records.specs.declared.Entry.{Entry}
 use Rattle.acx.specs.Walk.{Verdict, accepted, refused, at_once, records_of, opening, opening_size, judged, report, reported}
 use Rattle.pieces.specs.declared.Bases.{Bases}
 use Rattle.acx.specs.declared.Form.{Form}
-use Rattle.acx.specs.declared.Form.TheVariants.{Device}
-
--- every form but 0 is the device form
-pub form_device : (n : ℕ) → (n ≡ 0 → ⊥) → Device ≡ form_of n
-form_device zero h = absurd (h refl)
-form_device (suc n) h = refl
 
 -- ---- the opening and the records
 

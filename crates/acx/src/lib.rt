@@ -119,11 +119,11 @@ pub fn first_cursor(at: usize) -> Cursor
 }
 
 // The cursor after a record that passed.
+#[tactic(auto, using(fields::proofs::Listing::item_some))]
 pub fn advance(bases: Bases, cursor: Cursor, found: Record) -> Cursor
     requires { (cursor.placed ≤ 65536) × (cursor.adjusted ≤ 65536) × EndsBy 65536 found }
     ensures { result ≡ advanced bases cursor found }
 {
-    let last = cursor.last;
     match found {
         Record::Code {
             kind,
@@ -136,17 +136,14 @@ pub fn advance(bases: Bases, cursor: Cursor, found: Record) -> Cursor
             place: pieces::place_of(bases, kind, address),
             size,
             placed: cursor.placed + size,
-            adjusted: cursor.adjusted,
+            ..cursor
         },
         Record::Fixups { fixup, from, size } => Cursor {
             at: from + size,
-            last,
-            place: cursor.place,
-            size: cursor.size,
-            placed: cursor.placed,
             adjusted: cursor.adjusted + size / fields::item_size(fixup),
+            ..cursor
         },
-        Record::End { entry, next } => cursor,
+        Record::End { .. } => cursor,
     }
 }
 
@@ -174,13 +171,7 @@ fn load_sized(
 pub fn in_range(form: u32, main_base: u32, zero_base: u32) -> bool
     ensures { result ≡ in_range form (bases_at main_base zero_base) }
 {
-    if 1 < form {
-        return false;
-    }
-    if 65535 < main_base {
-        return false;
-    }
-    zero_base <= 255
+    form <= 1 && main_base <= 65535 && zero_base <= 255
 }
 
 // Walks a file over a clear map: its opening, then its records.
@@ -195,14 +186,14 @@ fn walk_file(
     requires { (length file.now ≤ 65536) × (length memory.old ≡ 65536) × (length map.old ≡ 65536) × (map.old ≡ blank) }
     ensures { Did Outcome (reported bases (judged form file.now bases)) write memory.old blank result memory.new map.new }
 {
-    let opened = opening(form, file);
-    if let Err(failure) = opened {
+    if let Err(failure) = opening(form, file) {
         return answer::refused(failure.fault, failure.offset);
     }
     walk(file, opening_size(form), bases, write, memory, map)
 }
 
 // Checks that the file opens as its form says.
+#[tactic(auto, unfolding(crate::specs::Walk::opening, answer::specs::Checks::need))]
 fn opening(form: Form, file: &[u8]) -> Check
     ensures { result ≡ opening_of form file.now }
 {
@@ -241,8 +232,7 @@ fn walk(
 {
     let mut cursor = first_cursor(at);
     loop {
-        let last = cursor.last;
-        let found = match records::read(file, cursor.at, last) {
+        let found = match records::read(file, cursor.at, cursor.last) {
             Ok(found) => found,
             Err(failure) => return answer::refused(failure.fault, failure.offset),
         };
@@ -260,7 +250,7 @@ fn walk(
         if let Err(failure) = check {
             return answer::refused(failure.fault, failure.offset);
         }
-        if let Record::End { entry, next } = found {
+        if let Record::End { entry, .. } = found {
             return accepted(bases, entry, cursor.placed, cursor.adjusted);
         }
         cursor = advance(bases, cursor, found);

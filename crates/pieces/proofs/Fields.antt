@@ -56,8 +56,12 @@ module _ {at₀ step : ℕ} {b : Bases} {a n : ℕ} {write : Bool} {all : List F
   adjusting_none e =
       record { es = []; reached = reached_none write m₀ p₀; same = ap (λ (i : ℕ). adjusting i step b a n all p₀) (sym e) }
 
-  module _ {at : ℕ} {f : Field} {rest rest' : List Field} {m p m' p' : List ℕ} {r : Check} (left : rest ≡ f ∷ rest')
-      (x : Adjusting at₀ step b a n write all m₀ p₀ at rest m p) (d : Did Check (adjusting at 0 b a n (f ∷ []) p) write m p r m' p') where
+  -- (the program has the place of the field's item as a number i)
+  module _ {at i : ℕ} {f : Field} {rest rest' : List Field} {m p m' p' : List ℕ} {r : Check} (left : rest ≡ f ∷ rest')
+      (x : Adjusting at₀ step b a n write all m₀ p₀ at rest m p) (ei : i ≡ at) (di : Did Check (adjusting i 0 b a n (f ∷ []) p) write m p r m' p') where
+    d : Did Check (adjusting at 0 b a n (f ∷ []) p) write m p r m' p'
+    d = rw ei at di
+
     -- what the field did
     abbrev did : Ran Check
     did = adjusting at 0 b a n (f ∷ []) p

@@ -65,15 +65,14 @@ pub fn apply(
 }
 
 // What is put on a field.
+#[tactic(auto, unfolding(crate::specs::Pieces::amount_of))]
 pub fn amount(bases: Bases, field: Field) -> u16
     requires { field.lsb < 256 }
     ensures { result ≡ amount_of bases field }
 {
-    let fixup = field.fixup;
-    match fixup {
-        Fixup::LowByte => bases.main,
+    match field.fixup {
+        Fixup::LowByte | Fixup::Word => bases.main,
         Fixup::ZeroPageByte => bases.zero,
-        Fixup::Word => bases.main,
         Fixup::HighByte => ((field.lsb + bases.main as usize) / 256) as u16,
     }
 }
@@ -97,8 +96,7 @@ pub fn start(bases: Bases, entry: Entry) -> Option<u16>
     let sum = start_address(bases, entry);
     match entry {
         Entry::Nowhere => None,
-        Entry::Fixed(address) => Some(sum as u16),
-        Entry::Relative(address) => Some(sum as u16),
+        Entry::Fixed(_) | Entry::Relative(_) => Some(sum as u16),
     }
 }
 
@@ -107,9 +105,8 @@ pub fn limit(kind: Kind) -> usize
     ensures { (result ≡ limit_of kind) × (result ≤ 65536) }
 {
     match kind {
-        Kind::Main => events::MEMORY,
+        Kind::Main | Kind::Absolute => events::MEMORY,
         Kind::ZeroPage => ZERO_PAGE,
-        Kind::Absolute => events::MEMORY,
     }
 }
 
@@ -133,6 +130,7 @@ fn place_code(
 
 // Marks `size` code bytes at `place` in the map, whose address stands at `at`, if they end within their limit and no address there is placed
 // already. Of code only the length is looked at.
+#[tactic(auto, using(crate::proofs::Checks::placing_high, crate::proofs::Checks::placing_taken, crate::proofs::Checks::placing_marked, events::proofs::Events::length_run))]
 pub fn mark_code(at: usize, place: usize, size: usize, limit: usize, map: &mut [u8]) -> Check
     requires { (place ≤ 131070) × (size ≤ 65536) × (limit ≤ 65536) × (length map.old ≡ 65536) }
     ensures { Noted Check (placing at place limit (replicate size 0) map.old) map.old result map.new }
@@ -156,6 +154,7 @@ pub fn mark_code(at: usize, place: usize, size: usize, limit: usize, map: &mut [
 }
 
 // Writes code at `place` in memory, where `write` is true.
+#[tactic(auto, using(events::proofs::Events::copied))]
 fn write_code(code: &[u8], place: usize, write: bool, memory: &mut [u8])
     requires { place + length code.now ≤ length memory.old }
     ensures { memory.new ≡ play_if write (placement place code.now ∷ []) memory.old }
@@ -182,11 +181,18 @@ fn adjust_fields(
     ensures { Did Check (adjusting from (item_size fixup) bases place size (fields_of fixup items.now) map.old) write memory.old map.old result memory.new map.new }
 {
     let step = fields::item_size(fixup);
-    let mut i = 0;
-    while i + step <= items.len() {
-        let field = fields::field_at(items, i, fixup);
-        adjust_field(field, from + i, bases, place, size, write, memory, map)?;
-        i += step;
+    for (i, item) in items.chunks_exact(step).enumerate() {
+        let field = fields::field_at(item, 0, fixup);
+        adjust_field(
+            field,
+            from + i * step,
+            bases,
+            place,
+            size,
+            write,
+            memory,
+            map,
+        )?;
     }
     Ok(())
 }
@@ -213,12 +219,12 @@ fn adjust_field(
 
 // Marks a field of the `size` code bytes at `place` in the map, if it lies inside and no byte of it was adjusted before. The item that lists it
 // stands at `at`. No base is looked at.
+#[tactic(auto, using(crate::proofs::Checks::adjusting_outside, crate::proofs::Checks::adjusting_twice, crate::proofs::Checks::adjusting_marked))]
 pub fn mark_field(field: Field, at: usize, place: usize, size: usize, map: &mut [u8]) -> Check
     requires { (field.index < 256) × (place + size ≤ 65536) × (length map.old ≡ 65536) }
     ensures { (bases : Bases) → Noted Check (adjusting at 0 bases place size (field ∷ []) map.old) map.old result map.new }
 {
-    let fixup = field.fixup;
-    let width = fields::width(fixup);
+    let width = fields::width(field.fixup);
     if size < field.index + width {
         return Err(Failure {
             fault: Fault::FieldNotLoaded,
@@ -239,6 +245,7 @@ pub fn mark_field(field: Field, at: usize, place: usize, size: usize, map: &mut 
 }
 
 // Adjusts a field of the `size` code bytes at `place` in memory, where `write` is true.
+#[tactic(auto, using(crate::proofs::Checks::added))]
 fn write_field(
     field: Field,
     bases: Bases,
@@ -251,8 +258,7 @@ fn write_field(
     ensures { memory.new ≡ play_if write (adjustment bases place field ∷ []) memory.old }
 {
     if write {
-        let fixup = field.fixup;
-        let width = fields::width(fixup);
+        let width = fields::width(field.fixup);
         let end = place + size;
         words::add(
             &mut memory[place..end],

@@ -10,20 +10,20 @@ use Rattle.acx.proofs.walk_file.Goals as goal
 
 pub refused-requires : goal.refused-requires
 refused-requires c =
-    let h = check_within (opening_faults _ _) (sym c.opening-opened.ensures ∙ c.in-Err.is) in
+    let h = check_within (opening_faults _ _) (sym c.opening.ensures ∙ c.in-Err.is) in
     omega (arith, h, c.requires.0)
 
 pub returns-in-Err : goal.returns-in-Err
 returns-in-Err c =
-    file_refused _ _ _ _ _ _ c.opening-opened.ensures _ _ _ _ c.in-Err.is c.refused.ensures
+    file_refused _ _ _ _ _ _ c.opening.ensures _ _ _ _ c.in-Err.is c.refused.ensures
     c.requires.3
 
 pub walk-requires : goal.walk-requires
 walk-requires c =
-    let fits = opening_fits _ _ (sym c.opening-opened.ensures ∙ c.in_default.is) in
+    let fits = opening_fits _ _ (sym c.opening.ensures ∙ c.in_default.is) in
     (c.requires.0, rw c.opening_size.ensures fits, c.requires.1, c.requires.2, c.requires.3)
 
 pub returns : goal.returns
 returns c =
-    file_walked _ _ _ _ _ _ c.opening-opened.ensures _ _ _ _ c.in_default.is
+    file_walked _ _ _ _ _ _ c.opening.ensures _ _ _ _ c.in_default.is
     c.opening_size.ensures c.walk.ensures
