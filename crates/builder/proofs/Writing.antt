@@ -6,7 +6,7 @@ use Prim.Native.Nat.{ℕ, ◌+◌, ◌-◌, ◌*◌, ◌/◌, ◌≤◌}
 use native.Mathlib.Numerals.{add-one, add-two, add-three, add-four, add_five}
 use native.Mathlib.Omega.{arith}
 use borrow.Rule.Slice.PartMut.{mid_of}
-use lib.ListN.{length, get_or, length-append, set, replicate}
+use lib.ListN.{length, length-append, set, replicate}
 use Rattle.std.proofs.Common.{Option}
 use Rattle.entries.proofs.ReadBack.{length_fixup_bytes, length_code_bytes, length_entry}
 use Rattle.entries.specs.Bytes.{version, fixup_bytes, code_bytes, end_bytes, with_length, code_entries, index_bytes}
@@ -21,12 +21,12 @@ use Rattle.pieces.specs.Pieces.{Outline}
 use Rattle.records.specs.declared.Entry.{Entry}
 use Rattle.records.specs.declared.Kind.{Kind}
 use Rattle.records.specs.declared.Record.{Record}
-use Rattle.records.specs.declared.Record.TheVariants.{Code, Fixups, End}
+use Rattle.records.specs.declared.Record.TheVariants.{Code, Fixups}
 use Rattle.words.proofs.Lent.{lent_is}
-use Rattle.words.proofs.Runs.{length_part, length_put, put_append, put_in_put}
+use Rattle.words.proofs.Runs.{length_put, put_append, put_in_put}
 use Rattle.words.specs.Numbers.{digits, big_digits, big_store}
 use Rattle.words.specs.Runs.{part, put}
-use Rattle.builder.specs.Parts.{bare, kind_of, brings, front_after, closed, room_with, Sound}
+use Rattle.builder.specs.Parts.{bare, kind_of, closed, room_with}
 use Rattle.builder.specs.declared.Front.{Front}
 
 -- what the room holds before the end record: the version, and the entries of the outlines so far
@@ -198,28 +198,6 @@ module _ {kind : Kind} {all : List Field} {at : ℕ} {l : List ℕ} where
 
 -- ---- a record written by the program
 
-module _ (file : List ℕ) (at : ℕ) (f : Front) (r : Record) (s : Sound file at f r) where
-  -- code has its length byte, fixups lie in the file and have an entry
-  pub sound_code : {kind : Kind} {address from n : ℕ} → r ≡ Code kind address from n → (at + 2 ≤ length file) × (get_or file (at + 1) 0 ≡ n + 2)
-  sound_code e = rw e at s
-
-  pub sound_fixups : {fixup : Fixup} {from n : ℕ} → r ≡ Fixups fixup from n → (from + n ≤ length file) × (f.entry + 2 ≤ f.used)
-  sound_fixups e = rw e at s
-
--- so many bytes are lent of them
-lent_long : (file : List ℕ) (from n : ℕ) → from + n ≤ length file → length (mid_of from (from + n - from) file) ≡ n
-lent_long file from n h = ap length (lent_is from n file) ∙ length_part file from n h
-
--- for whose fixups there is room
-pub fixups_lent : (file : List ℕ) (used : ℕ) (r : Record) (fixup : Fixup) (from n : ℕ) → r ≡ Fixups fixup from n → from + n ≤ length file
-    → length file ≤ 65536
-    → used + brings r ≤ 65536
-    → (length (mid_of from (from + n - from) file) ≤ 65536) × (used + 3 * (length (mid_of from (from + n - from) file) / item_size fixup) ≤ 65536)
-fixups_lent file used r fixup from n e h l k =
-    let m = lent_long file from n h in
-    let j : used + 3 * (n / item_size fixup) ≤ 65536 = rw e at k in
-    (omega (arith, m), rw m j)
-
 module _ (file : List ℕ) (last : Option Kind) (f : Front) (room : List ℕ) {r : Record} where
   -- code
   pub writes_code : {kind : Kind} {address from n m : ℕ} {room' : List ℕ} → r ≡ Code kind address from n → m ≡ n + 2
@@ -239,20 +217,3 @@ module _ (file : List ℕ) (last : Option Kind) (f : Front) (room : List ℕ) {r
       rw e
       (w ∙ ap (λ (l : List ℕ). closed kind fixup l f room) (lent_is from n file)
       ∙ ap (λ (k : Kind). closed k fixup (part file from n) f room) h)
-
-  -- nothing
-  pub writes_end : {entry : Entry} {next : ℕ} → r ≡ End entry next → room ≡ room_with file last f room r
-  unfolding room_with
-  writes_end e = rw e refl
-
--- ---- how far the room is filled
-
--- code begins an entry
-pub front_code : (f : Front) {r : Record} {kind : Kind} {address from k n : ℕ} → r ≡ Code kind address from k → n ≡ brings r
-    → record { entry = f.used; used = f.used + n } ≡ front_after f r
-front_code f e h = rw (h, e) refl
-
--- fixups go on with it
-pub front_fixups : (f : Front) {r : Record} {fixup : Fixup} {from k n : ℕ} → r ≡ Fixups fixup from k → n ≡ brings r
-    → record { entry = f.entry; used = f.used + n } ≡ front_after f r
-front_fixups f e h = rw (h, e) refl

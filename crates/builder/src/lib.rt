@@ -179,6 +179,7 @@ fn next_front(front: Front, found: Record) -> Front
 }
 
 // Writes what the record at `at` of the file brings, behind the last code record: fixups stand only behind one, whose kind they take.
+#[tactic(auto, using(crate::proofs::Writing::writes_code), unfolding(crate::specs::Parts::room_with))]
 fn write_record(
     file: &[u8],
     at: usize,
@@ -213,6 +214,7 @@ fn write_record(
 }
 
 // Writes the entry of a code record without fixups.
+#[tactic(auto, using(crate::proofs::Writing::code_stored))]
 fn write_code(kind: Kind, address: u16, size: u8, at: usize, index: &mut [u8])
     requires { (at + 6 ≤ length index.old) × (length index.old ≡ 65536) }
     ensures { index.new ≡ put index.old at (with_length (code_bytes (bare kind address size))) }
@@ -224,6 +226,7 @@ fn write_code(kind: Kind, address: u16, size: u8, at: usize, index: &mut [u8])
 }
 
 // Adds the fixups that the items of a record list to the last entry: their bytes behind it, and its length anew.
+#[tactic(auto, using(crate::proofs::Writing::closes, fields::proofs::Listing::item_some))]
 fn write_fixups(items: &[u8], kind: Kind, fixup: Fixup, front: Front, index: &mut [u8])
     requires { (length items.now ≤ 65536) × (front.entry + 2 ≤ front.used) × (front.used + 3 * (length items.now / item_size fixup) ≤ 65536) × (length index.old ≡ 65536) }
     ensures { index.new ≡ closed kind fixup items.now front index.old }
@@ -239,18 +242,15 @@ fn write_items(items: &[u8], kind: Kind, fixup: Fixup, at: usize, index: &mut [u
     requires { (length items.now ≤ 65536) × (at + 3 * (length items.now / item_size fixup) ≤ length index.old) × (length index.old ≡ 65536) }
     ensures { index.new ≡ put index.old at (fixup_bytes kind (fields_of fixup items.now)) }
 {
-    let step = fields::item_size(fixup);
-    let mut i = 0;
     let mut used = at;
-    while i + step <= items.len() {
-        let field = fields::field_at(items, i, fixup);
-        write_field(kind, field, used, index);
+    for item in items.chunks_exact(fields::item_size(fixup)) {
+        write_field(kind, fields::field_at(item, 0, fixup), used, index);
         used += 3;
-        i += step;
     }
 }
 
 // Writes one fixup: its kind, its index and its LSB.
+#[tactic(auto, using(crate::proofs::Writing::field_stored))]
 fn write_field(kind: Kind, field: Field, at: usize, index: &mut [u8])
     requires { (field.index < 256) × (field.lsb < 256) × (at + 3 ≤ length index.old) × (length index.old ≡ 65536) }
     ensures { index.new ≡ put index.old at (fixup_bytes kind (field ∷ [])) }
@@ -262,6 +262,7 @@ fn write_field(kind: Kind, field: Field, at: usize, index: &mut [u8])
 }
 
 // Writes the entry of the end record.
+#[tactic(auto, using(crate::proofs::Writing::end_stored))]
 fn write_end(entry: Entry, at: usize, index: &mut [u8])
     requires { (at + 6 ≤ length index.old) × (length index.old ≡ 65536) }
     ensures { index.new ≡ put index.old at (with_length (end_bytes entry)) }

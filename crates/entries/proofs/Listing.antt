@@ -1,67 +1,41 @@
--- The fixups of an entry, one after the other: three bytes, and the bytes after them; and the field that each lists.
+-- The fixups of an entry, taken from the front: the first three bytes, the bytes after them, and what they list.
 -- Assumes nothing.
-use mathlib.Core.List.{List, [], ◌∷◌}
-use mathlib.Core.Path.{◌≡◌, refl, ap, ◌∙◌}
-use Prim.Native.Nat.{ℕ, suc, ◌+◌, ◌%◌, ◌≤◌, ◌<◌}
+use mathlib.Core.List.{List, [], ◌∷◌, ◌++◌}
+use mathlib.Core.Path.{◌≡◌, refl, sym, ap, ◌∙◌}
+use Prim.Native.Nat.{ℕ, ◌+◌, ◌<◌}
 use native.Mathlib.Omega.{arith}
-use lib.ListN.{length, get_or, drop, length-drop, drop_of_length-le}
-use lib.Seq.{drop-cons}
-use Rattle.std.proofs.Common.{Option, Some, None}
+use lib.ListN.{length, get_or, drop, length-drop}
+use Rattle.std.proofs.Common.{Option}
 use Rattle.fields.specs.declared.Field.{Field}
 use Rattle.records.specs.Records.{type_of}
 use Rattle.records.specs.declared.Kind.{Kind}
 use Rattle.entries.specs.Entries.{listed, joined, fields_to}
 
--- where three bytes are left, they are a fixup
-pub fixup_next : (items : List ℕ) (i : ℕ) → i + 3 ≤ length items
-    → drop i items ≡ get_or items i 0 ∷ get_or items (i + 1) 0 ∷ get_or items (i + 2) 0 ∷ drop (i + 3) items
-fixup_next items i h =
-    let one : i + 1 ≡ suc i = omega arith in
-    let two : i + 2 ≡ suc (suc i) = omega arith in
-    let three : i + 3 ≡ suc (suc (suc i)) = omega arith in
-    rw (
-      one,
-      two,
-      three,
-      drop-cons items i 0 (omega arith),
-      drop-cons items (suc i) 0 (omega arith),
-      drop-cons items (suc (suc i)) 0 (omega arith),
-    ) refl
+-- three bytes are a fixup, before those after it
+pub fixup_next : (items item rest : List ℕ) → items ≡ item ++ rest → length item ≡ 3
+    → items ≡ get_or item 0 0 ∷ get_or item 1 0 ∷ get_or item 2 0 ∷ rest
+fixup_next items [] rest s n = absurd (omega (arith, n))
+fixup_next items (t ∷ []) rest s n = absurd (omega (arith, n))
+fixup_next items (t ∷ i ∷ []) rest s n = absurd (omega (arith, n))
+fixup_next items (t ∷ i ∷ lsb ∷ []) rest s n = s
+fixup_next items (t ∷ i ∷ lsb ∷ x ∷ xs) rest s n = absurd (omega (arith, n))
 
--- where not, none is left
-pub fixups_end : (items : List ℕ) (i : ℕ) → length items % 3 ≡ 0 → i % 3 ≡ 0 → i ≤ length items → length items < i + 3 → drop i items ≡ []
-fixups_end items i e f l h =
-    let g : length items ≤ i = omega arith in
-    drop_of_length-le items {i = i} g
+-- what it lists comes before what those after it do
+pub first_listed : (kind : Kind) (items item rest : List ℕ) {l : Option Field} → items ≡ item ++ rest → length item ≡ 3
+    → l ≡ listed kind (type_of (get_or item 0 0)) (get_or item 1 0) (get_or item 2 0)
+    → fields_to kind items ≡ joined l (fields_to kind rest)
+unfolding fields_to
+first_listed kind items item rest s n e =
+    ap (fields_to kind) (fixup_next items item rest s n) ∙ ap (λ (o : Option Field). joined o (fields_to kind rest)) (sym e)
 
 -- fewer than three bytes list nothing
-few : (kind : Kind) (items : List ℕ) → length items < 3 → fields_to kind items ≡ []
+pub none_listed : (kind : Kind) (items : List ℕ) → length items < 3 → fields_to kind items ≡ []
 unfolding fields_to
-few kind [] h = refl
-few kind (t ∷ []) h = refl
-few kind (t ∷ index ∷ []) h = refl
-few kind (t ∷ index ∷ lsb ∷ items) h = absurd (omega arith)
+none_listed kind [] h = refl
+none_listed kind (t ∷ []) h = refl
+none_listed kind (t ∷ index ∷ []) h = refl
+none_listed kind (t ∷ index ∷ lsb ∷ items) h = absurd (omega arith)
 
-module _ (kind : Kind) (items : List ℕ) (i : ℕ) where
-  -- what a whole fixup lists comes before what those after it do
-  listed_first : {l : Option Field} → i + 3 ≤ length items → l ≡ listed kind (type_of (get_or items i 0)) (get_or items (i + 1) 0) (get_or items (i + 2) 0)
-      → fields_to kind (drop i items) ≡ joined l (fields_to kind (drop (i + 3) items))
-  unfolding fields_to
-  listed_first h e = rw e (ap (fields_to kind) (fixup_next items i h))
-
-  -- a field is the next one
-  pub next_listed : {l : Option Field} {f : Field} → i + 3 ≤ length items
-      → l ≡ listed kind (type_of (get_or items i 0)) (get_or items (i + 1) 0) (get_or items (i + 2) 0)
-      → l ≡ Some f
-      → fields_to kind (drop i items) ≡ f ∷ fields_to kind (drop (i + 3) items)
-  next_listed h e s = listed_first h e ∙ ap (λ (l : Option Field). joined l (fields_to kind (drop (i + 3) items))) s
-
-  -- at a bad kind no field is left
-  pub bad_listed : {l : Option Field} → i + 3 ≤ length items → l ≡ listed kind (type_of (get_or items i 0)) (get_or items (i + 1) 0) (get_or items (i + 2) 0)
-      → l ≡ None
-      → fields_to kind (drop i items) ≡ []
-  bad_listed h e s = listed_first h e ∙ ap (λ (l : Option Field). joined l (fields_to kind (drop (i + 3) items))) s
-
-  -- nor where no whole fixup is
-  pub last_listed : length items < i + 3 → fields_to kind (drop i items) ≡ []
-  last_listed h = few kind (drop i items) (rw length-drop (omega arith))
+-- the same of those from a byte on
+pub last_listed : (kind : Kind) (items : List ℕ) (i : ℕ) → length items < i + 3 → fields_to kind (drop i items) ≡ []
+last_listed kind items i h = none_listed kind (drop i items) (rw length-drop (omega arith))

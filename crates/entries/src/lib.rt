@@ -45,8 +45,7 @@ pub fn read(index: &[u8], at: usize) -> Result<IndexEntry, Fault>
     if length < 1 {
         return Err(Fault::LengthNotAllowed);
     }
-    let record_type = records::type_of(index[at + 2]);
-    match record_type {
+    match records::type_of(index[at + 2]) {
         RecordType::Code(kind) => read_code(index, at, length, kind),
         RecordType::End => read_end(index, at, length),
         RecordType::Fixups(_, _) | RecordType::Unknown => Err(Fault::NotKnown),
@@ -59,13 +58,10 @@ fn read_code(index: &[u8], at: usize, count: usize, kind: Kind) -> Result<IndexE
     requires { (at + 2 + count ≤ length index.now) × (length index.now ≤ 65536) }
     ensures { result ≡ read_code index.now at count kind }
 {
-    if count < 4 {
+    if count < 4 || count % 3 != 1 {
         return Err(Fault::LengthNotAllowed);
     }
-    if count % 3 != 1 {
-        return Err(Fault::LengthNotAllowed);
-    }
-    let size = words::wide(index[at + 5]);
+    let size = index[at + 5] as usize;
     if 253 < size {
         return Err(Fault::LengthNotAllowed);
     }
@@ -104,22 +100,17 @@ pub fn listed_at(items: &[u8], at: usize, kind: Kind) -> Option<Field>
     requires { at + 3 ≤ length items.now }
     ensures { (result ≡ listed kind (type_of (get_or items.now at 0)) (get_or items.now (at + 1) 0) (get_or items.now (at + 2) 0)) × InBytes result }
 {
-    let record_type = records::type_of(items[at]);
-    let index = words::wide(items[at + 1]);
-    let lsb = words::wide(items[at + 2]);
-    match record_type {
-        RecordType::Fixups(of, fixup) => {
-            if !records::suits(of, Some(kind)) {
-                return None;
-            }
-            Some(Field {
-                fixup,
-                index,
-                lsb: lsb_for(fixup, lsb),
-            })
-        }
-        RecordType::Code(_) | RecordType::End | RecordType::Unknown => None,
+    let RecordType::Fixups(of, fixup) = records::type_of(items[at]) else {
+        return None;
+    };
+    if !records::suits(of, Some(kind)) {
+        return None;
     }
+    Some(Field {
+        fixup,
+        index: items[at + 1] as usize,
+        lsb: lsb_for(fixup, items[at + 2] as usize),
+    })
 }
 
 // The LSB that a fixup uses, else zero.

@@ -2,7 +2,7 @@
 -- Assumes nothing.
 use mathlib.Core.List.{List}
 use mathlib.Core.Path.{◌≡◌, refl, sym, ap, ◌∙◌}
-use Prim.Native.Nat.{ℕ, ◌+◌, ◌-◌, ◌%◌, ◌≤◌}
+use Prim.Native.Nat.{ℕ, ◌+◌, ◌-◌, ◌≤◌}
 use native.Mathlib.Omega.{arith}
 use borrow.Rule.Slice.PartMut.{mid_of}
 use lib.ListN.{length, replicate}
@@ -21,7 +21,6 @@ use Rattle.pieces.specs.declared.Bases.{Bases}
 use Rattle.records.specs.declared.Entry.{Entry}
 use Rattle.records.specs.declared.Kind.{Kind}
 use Rattle.words.proofs.Lent.{lent_is}
-use Rattle.words.proofs.Runs.{length_part}
 use Rattle.events.specs.Walk.{and_then}
 use Rattle.index.specs.Walk.{fixing, coding, applied}
 
@@ -72,13 +71,6 @@ module _ (at : ℕ) (b : Bases) (kind : Kind) (address n : ℕ) (items : List �
   coding_fixed e f = rw (← ep, ← el) (noted_then (λ q. fixing at b kind place n items q) d e f)
 
 -- ---- an entry of each kind
-
--- the fixups that are lent are as long as the entry says
-pub items_fit : (index : List ℕ) (from n : ℕ) → from + n ≤ length index → n % 3 ≡ 0 → length index ≤ 65536
-    → (length (mid_of from (from + n - from) index) ≤ 65536) × (length (mid_of from (from + n - from) index) % 3 ≡ 0)
-items_fit index from n h m l =
-    let e : length (mid_of from (from + n - from) index) ≡ n = ap length (lent_is from n index) ∙ length_part index from n h in
-    (omega arith, ap (λ (k : ℕ). k % 3) e ∙ m)
 
 module _ (index : List ℕ) (at : ℕ) (b : Bases) (found : IndexEntry) (p : List ℕ) where
   pub applied_code : {kind : Kind} {address n from count : ℕ} {r : Check} {p' : List ℕ} → found ≡ Code kind address n from count

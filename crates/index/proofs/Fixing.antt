@@ -2,19 +2,19 @@
 -- Assumes nothing.
 use mathlib.Core.Bool.{Bool, true, false, not}
 use mathlib.Core.List.{List, [], ◌∷◌, ◌++◌, append_assoc, append-nil}
-use mathlib.Core.Path.{◌≡◌, refl, sym, ap, ◌∙◌}
-use Prim.Native.Nat.{ℕ, suc, ◌+◌, ◌*◌, ◌≤◌}
+use mathlib.Core.Path.{◌≡◌, refl, sym, ap, ◌∙◌, subst}
+use Prim.Native.Nat.{ℕ, suc, ◌+◌, ◌*◌, ◌%◌, ◌<◌}
 use native.Mathlib.Omega.{arith}
 use borrow.Author.Tests.{eqb-true, eqb-false, eq-eqb, ne_eqb}
 use lib.Dec.{leb, eqb}
-use lib.ListN.{length, get_or, drop, drop_of_length-le}
+use lib.ListN.{length, get_or, length-append}
 use Rattle.std.proofs.Common.{Option, Some, None, Ok, Err}
 use Rattle.answer.specs.Checks.{need, failure}
 use Rattle.answer.specs.declared.Fault.{Fault}
 use Rattle.answer.specs.declared.Fault.TheVariants.{FieldNotLoaded, AdjustedTwice, FixupUnsuited}
 use Rattle.entries.proofs.Listing.{fixup_next}
 use Rattle.entries.specs.Entries.{listed, joined, fields_to, all_suit}
-use Rattle.events.proofs.Events.{marks_append}
+use Rattle.events.proofs.Events.{marks_append, noted_none}
 use Rattle.events.specs.Events.{Event, adjusted_mark, mark_one, marks, Ran, failed, passed, Noted, Check}
 use Rattle.events.specs.Walk.{after, and_then}
 use Rattle.fields.specs.declared.Field.{Field}
@@ -105,86 +105,126 @@ fixups_none : (at : ℕ) (b : Bases) (kind : Kind) (a n : ℕ) (p : List ℕ) �
 unfolding fixing fields_to all_suit adjusting need
 fixups_none at b kind a n p = refl
 
+-- ---- an item
+
+-- a part of the work, and then nothing, is that part
+and_nothing : (p : List ℕ) (r : Check) (es : List Event) → and_then p r es (λ _. passed []) ≡ record { answer = r; events = es }
+and_nothing p (Ok done) es = ap (λ (fs : List Event). record { answer = Ok tt; events = fs }) (append-nil es)
+and_nothing p (Err f) es = refl
+
+and_then_as : (p : List ℕ) (r : Check) (es : List Event) (f g : List ℕ → Ran Check) → ((q : List ℕ) → f q ≡ g q) → and_then p r es f ≡ and_then p r es g
+and_then_as p (Ok done) es f g h = ap (after es) (h (marks es p))
+and_then_as p (Err e) es f g h = refl
+
+module _ (at : ℕ) (b : Bases) (kind : Kind) (a n t i l : ℕ) (p : List ℕ) where
+  -- one that lists a field does what the field does
+  one_field : (f : Field) → listed kind (type_of t) i l ≡ Some f → fixing at b kind a n (t ∷ i ∷ l ∷ []) p ≡ adjusting at 0 b a n (f ∷ []) p
+  one_field f e =
+      fixup_first at b kind a n t i l [] p f e
+      ∙ and_then_as p _ _ _ _ (fixups_none at b kind a n)
+      ∙ and_nothing p (adjusting at 0 b a n (f ∷ []) p).answer (adjusting at 0 b a n (f ∷ []) p).events
+
+  -- and it comes before those after it
+  fixing_first : (rest : List ℕ) → fixing at b kind a n (t ∷ i ∷ l ∷ rest) p
+      ≡ and_then p (fixing at b kind a n (t ∷ i ∷ l ∷ []) p).answer (fixing at b kind a n (t ∷ i ∷ l ∷ []) p).events (λ q. fixing at b kind a n rest q)
+  fixing_first rest = by (listed kind (type_of t) i l) refl
+    where
+      by : (o : Option Field) → listed kind (type_of t) i l ≡ o
+          → fixing at b kind a n (t ∷ i ∷ l ∷ rest) p
+          ≡ and_then p (fixing at b kind a n (t ∷ i ∷ l ∷ []) p).answer (fixing at b kind a n (t ∷ i ∷ l ∷ []) p).events (λ q. fixing at b kind a n rest q)
+      by (Some f) e =
+          fixup_first at b kind a n t i l rest p f e
+          ∙ ap (λ (x : Ran Check). and_then p x.answer x.events (λ q. fixing at b kind a n rest q)) (sym (one_field f e))
+      by None e =
+          fixup_unsuited at b kind a n t i l rest p e
+          ∙ ap (λ (x : Ran Check). and_then p x.answer x.events (λ q. fixing at b kind a n rest q)) (sym (fixup_unsuited at b kind a n t i l [] p e))
+
+-- an item is its three bytes
+item_is : (item : List ℕ) → length item ≡ 3 → item ≡ get_or item 0 0 ∷ get_or item 1 0 ∷ get_or item 2 0 ∷ []
+item_is item three = fixup_next item item [] (sym (append-nil item)) three
+
+module _ (at : ℕ) (b : Bases) (kind : Kind) (a n : ℕ) (item p : List ℕ) (three : length item ≡ 3) {o : Option Field}
+    (is : o ≡ listed kind (type_of (get_or item 0 0)) (get_or item 1 0) (get_or item 2 0)) where
+  -- a bad kind is its fault
+  pub item_unsuited : o ≡ None → Noted Check (fixing at b kind a n item p) p (failure FixupUnsuited at) p
+  item_unsuited e =
+      subst (λ (x : Ran Check). Noted Check x p (failure FixupUnsuited at) p)
+      (sym (ap (λ (l : List ℕ). fixing at b kind a n l p) (item_is item three) ∙ fixup_unsuited at b kind a n _ _ _ [] p (sym is ∙ e)))
+      (noted_none _ p)
+
+  -- or its field is marked
+  pub item_marked : {f : Field} {r : Check} {p' : List ℕ} → o ≡ Some f → Noted Check (adjusting at 0 b a n (f ∷ []) p) p r p'
+      → Noted Check (fixing at b kind a n item p) p r p'
+  item_marked {f} {r} {p'} e d =
+      subst (λ (x : Ran Check). Noted Check x p r p')
+      (sym (ap (λ (l : List ℕ). fixing at b kind a n l p) (item_is item three) ∙ one_field at b kind a n _ _ _ p f (sym is ∙ e))) d
+
 -- ---- the loop
 
--- what is no field is none
-pub listed_none : (l : Option Field) → ((f : Field) → l ≡ Some f → ⊥) → l ≡ None
-listed_none None h = refl
-listed_none (Some f) h = absurd (h f refl)
+-- behind an item whole ones are left
+pub fixups_left : (items item rest : List ℕ) → items ≡ item ++ rest → length item ≡ 3 → length items % 3 ≡ 0 → length rest % 3 ≡ 0
+fixups_left items item rest s three e =
+    let l : length items ≡ length item + length rest = ap length s ∙ length-append item rest in
+    omega (arith, l, three, e)
 
--- where the loop stands: it began with the items all and the map p₀, and has come to their byte i with the map p
-pub record Fixing (at : ℕ) (b : Bases) (kind : Kind) (a n : ℕ) (all p₀ : List ℕ) (i : ℕ) (p : List ℕ) : Type 0 where
+-- where it stands: it began with the items all and the map p₀, and has come to the items rest with the map p
+pub record Fixing (at : ℕ) (b : Bases) (kind : Kind) (a n : ℕ) (all p₀ rest p : List ℕ) : Type 0 where
   pub es : List Event
   pub map : p ≡ marks es p₀
-  pub same : fixing at b kind a n all p₀ ≡ after es (fixing at b kind a n (drop i all) p)
+  pub same : fixing at b kind a n all p₀ ≡ after es (fixing at b kind a n rest p)
 
 module _ {at : ℕ} {b : Bases} {kind : Kind} {a n : ℕ} {all p₀ : List ℕ} where
-  -- before the first fixup
-  pub fixing_none : Fixing at b kind a n all p₀ 0 p₀
+  -- before the first item
+  pub fixing_none : Fixing at b kind a n all p₀ all p₀
   unfolding marks
   fixing_none = record { es = []; map = refl; same = refl }
 
-  module _ {i : ℕ} {p : List ℕ} (room : i + 3 ≤ length all) (x : Fixing at b kind a n all p₀ i p) where
-    -- what stands there
-    abbrev here : Option Field
-    here = listed kind (type_of (get_or all i 0)) (get_or all (i + 1) 0) (get_or all (i + 2) 0)
+  module _ {items : List ℕ} (item rest : List ℕ) {p : List ℕ} {r : Check} {p' : List ℕ} (s : items ≡ item ++ rest) (three : length item ≡ 3)
+      (x : Fixing at b kind a n all p₀ items p) (d : Noted Check (fixing at b kind a n item p) p r p') where
+    -- what the next item did, and what those after it do
+    abbrev did : Ran Check
+    did = fixing at b kind a n item p
 
-    -- what the fixups after it do, over a map
     abbrev then : List ℕ → Ran Check
-    then q = fixing at b kind a n (drop (i + 3) all) q
+    then q = fixing at b kind a n rest q
 
-    -- a bad kind ends the loop with its fault
-    pub fixing_unsuited : {l : Option Field} → l ≡ here → l ≡ None → Noted Check (fixing at b kind a n all p₀) p₀ (failure FixupUnsuited at) p
-    fixing_unsuited el e =
-        let z : fixing at b kind a n all p₀ ≡ record { answer = failure FixupUnsuited at; events = x.es } =
+    one : fixing at b kind a n all p₀ ≡ after x.es (and_then p r did.events then)
+    one =
         x.same
-        ∙ ap (λ (r : List ℕ). after x.es (fixing at b kind a n r p)) (fixup_next all i room)
-        ∙ ap (after x.es) (fixup_unsuited at b kind a n _ _ _ (drop (i + 3) all) p (sym el ∙ e))
-        ∙ ap (λ (es : List Event). record { answer = failure FixupUnsuited at; events = es }) (append-nil x.es) in
-        rw z (record { answer = refl; map = x.map })
+        ∙ ap (λ (l : List ℕ). after x.es (fixing at b kind a n l p)) (fixup_next items item rest s three)
+        ∙ ap (after x.es) (fixing_first at b kind a n _ _ _ p rest)
+        ∙ ap (λ (l : List ℕ). after x.es (and_then p (fixing at b kind a n l p).answer (fixing at b kind a n l p).events then)) (sym (item_is item three))
+        ∙ ap (λ (c : Check). after x.es (and_then p c did.events then)) (sym d.answer)
 
-    module _ {l : Option Field} {f : Field} {r : Check} {p' : List ℕ} (el : l ≡ here) (e : l ≡ Some f)
-        (d : Noted Check (adjusting at 0 b a n (f ∷ []) p) p r p') where
-      -- what the field did
-      abbrev did : Ran Check
-      did = adjusting at 0 b a n (f ∷ []) p
+    now : p' ≡ marks (x.es ++ did.events) p₀
+    now = d.map ∙ ap (marks did.events) x.map ∙ sym (marks_append x.es did.events p₀)
 
-      one : fixing at b kind a n all p₀ ≡ after x.es (and_then p r did.events then)
-      one =
-          x.same
-          ∙ ap (λ (k : List ℕ). after x.es (fixing at b kind a n k p)) (fixup_next all i room)
-          ∙ ap (after x.es) (fixup_first at b kind a n _ _ _ (drop (i + 3) all) p f (sym el ∙ e))
-          ∙ ap (λ (c : Check). after x.es (and_then p c did.events then)) (sym d.answer)
+    -- after one that passed the loop stands one further
+    pub fixing_more : r ≡ Ok tt → Fixing at b kind a n all p₀ rest p'
+    fixing_more er =
+        record {
+          es = x.es ++ did.events;
+          map = now;
+          same =
+              one
+              ∙ ap (λ (c : Check). after x.es (and_then p c did.events then)) er
+              ∙ ap (λ (q : List ℕ). after x.es (after did.events (then q))) (sym d.map)
+              ∙ ap (λ (es : List Event). record { answer = (then p').answer; events = es }) (sym (append_assoc x.es did.events (then p').events));
+        }
 
-      now : p' ≡ marks (x.es ++ did.events) p₀
-      now = d.map ∙ ap (marks did.events) x.map ∙ sym (marks_append x.es did.events p₀)
+    -- one that failed ends it with its fault
+    pub fixing_fails : {fault : Fault} {offset : ℕ} → r ≡ failure fault offset → Noted Check (fixing at b kind a n all p₀) p₀ (failure fault offset) p'
+    fixing_fails er =
+        let z = one ∙ ap (λ (c : Check). after x.es (and_then p c did.events then)) er in
+        rw z (record { answer = refl; map = now })
 
-      -- after a fixup that passed the loop stands one further
-      pub fixing_more : {j : ℕ} → j ≡ i + 3 → r ≡ Ok tt → Fixing at b kind a n all p₀ j p'
-      fixing_more ej er =
-          rw ej
-          (record {
-            es = x.es ++ did.events;
-            map = now;
-            same =
-                one
-                ∙ ap (λ (c : Check). after x.es (and_then p c did.events then)) er
-                ∙ ap (λ (q : List ℕ). after x.es (after did.events (then q))) (sym d.map)
-                ∙ ap (λ (es : List Event). record { answer = (then p').answer; events = es }) (sym (append_assoc x.es did.events (then p').events));
-          })
-
-      -- one that failed ends it with its fault
-      pub fixing_fails : {fault : Fault} {offset : ℕ} → r ≡ failure fault offset → Noted Check (fixing at b kind a n all p₀) p₀ (failure fault offset) p'
-      fixing_fails er =
-          let z = one ∙ ap (λ (c : Check). after x.es (and_then p c did.events then)) er in
-          rw z (record { answer = refl; map = now })
-
-  -- where no fixup is left, all have passed
-  pub fixing_end : {i : ℕ} {p : List ℕ} → length all ≤ i → Fixing at b kind a n all p₀ i p → Noted Check (fixing at b kind a n all p₀) p₀ (Ok tt) p
-  fixing_end {i} {p} h x =
+  -- where none is left, all have passed
+  pub fixing_end : {rest p : List ℕ} → length rest % 3 ≡ 0 → length rest < 3 → Fixing at b kind a n all p₀ rest p
+      → Noted Check (fixing at b kind a n all p₀) p₀ (Ok tt) p
+  fixing_end {rest = []} {p} e l x =
       let z : fixing at b kind a n all p₀ ≡ record { answer = Ok tt; events = x.es } =
       x.same
-      ∙ ap (λ (k : List ℕ). after x.es (fixing at b kind a n k p)) (drop_of_length-le all {i = i} h)
       ∙ ap (after x.es) (fixups_none at b kind a n p)
       ∙ ap (λ (es : List Event). record { answer = Ok tt; events = es }) (append-nil x.es) in
       rw z (record { answer = refl; map = x.map })
+  fixing_end {rest = y ∷ ys} e l x = absurd (omega (arith, e, l))

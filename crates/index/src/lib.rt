@@ -32,8 +32,7 @@ pub fn walk_call(index: &[u8], main_base: u32, zero_base: u32, map: &mut [u8]) -
     ensures { Noted Outcome (reported (bases_at main_base zero_base) (indexed (bases_at main_base zero_base) index.now)) blank result map.new }
 {
     words::fill(map, 0);
-    let ranged = acx::in_range(FORMLESS, main_base, zero_base);
-    if !ranged {
+    if !acx::in_range(FORMLESS, main_base, zero_base) {
         return answer::refused(Fault::SettingOutOfRange, 0);
     }
     if events::FILE < index.len() {
@@ -162,14 +161,29 @@ fn mark_fixups(
     requires { (length items.now ≤ 65536) × (length items.now % 3 ≡ 0) × (place + size ≤ 65536) × (length map.old ≡ 65536) }
     ensures { (bases : Bases) → Noted Check (fixing at bases kind place size items.now map.old) map.old result map.new }
 {
-    for i in 0..items.len() / 3 {
-        let Some(field) = entries::listed_at(items, 3 * i, kind) else {
-            return Err(Failure {
-                fault: Fault::FixupUnsuited,
-                offset: at,
-            });
-        };
-        pieces::mark_field(field, at, place, size, map)?;
+    for item in items.chunks_exact(3) {
+        mark_fixup(item, at, kind, place, size, map)?;
     }
     Ok(())
+}
+
+// Marks the field of `size` code bytes of a kind at `place` that an item lists.
+fn mark_fixup(
+    item: &[u8],
+    at: usize,
+    kind: Kind,
+    place: usize,
+    size: usize,
+    map: &mut [u8],
+) -> Check
+    requires { (length item.now ≡ 3) × (place + size ≤ 65536) × (length map.old ≡ 65536) }
+    ensures { (bases : Bases) → Noted Check (fixing at bases kind place size item.now map.old) map.old result map.new }
+{
+    let Some(field) = entries::listed_at(item, 0, kind) else {
+        return Err(Failure {
+            fault: Fault::FixupUnsuited,
+            offset: at,
+        });
+    };
+    pieces::mark_field(field, at, place, size, map)
 }

@@ -12,6 +12,10 @@ returns-then-is_err c =
     built_refused c.walk_call-checked.ensures (sym c.is_err.ensures.value ∙ c.if-is_err.true)
     (cleared _ _ (c.walk_call-checked.auto.map ∙ c.requires.0) c.fill.ensures)
 
+pub returns : goal.returns
+returns c =
+    built_checked c.walk_call-checked.ensures c.build_checked.ensures
+
 pub overflow_cast-bases : goal.overflow_cast-bases
 overflow_cast-bases c =
     omega (arith, (check_accepts _ _ _ c.walk_call-checked.ensures.answer (sym c.is_err.ensures.value ∙ c.if-is_err.false)).1)
@@ -19,12 +23,3 @@ overflow_cast-bases c =
 pub overflow_cast-bases-2 : goal.overflow_cast-bases-2
 overflow_cast-bases-2 c =
     omega (arith, (check_accepts _ _ _ c.walk_call-checked.ensures.answer (sym c.is_err.ensures.value ∙ c.if-is_err.false)).2)
-
-pub build_checked-requires : goal.build_checked-requires
-build_checked-requires c =
-    let w = c.walk_call-checked.ensures in
-    ((check_accepts _ _ _ w.answer (sym c.is_err.ensures.value ∙ c.if-is_err.false)).0, w.answer, w.reached.map, c.walk_call-checked.auto.map ∙ c.requires.0, c.walk_call-checked.auto.memory ∙ c.requires.1)
-
-pub returns : goal.returns
-returns c =
-    built_checked c.walk_call-checked.ensures c.build_checked.ensures

@@ -13,22 +13,6 @@ loop-cursor-init c =
     let w = walkable _ _ _ _ (c.opening_size-at.ensures ∙ ap opening_size c.form_of.ensures) c.requires in
     (w, rw c.first_cursor-cursor.ensures (counting_first w.opens))
 
-pub unwrap-found-requires : goal.unwrap-found-requires
-unwrap-found-requires c =
-    let l = c.loop-cursor.invariant in
-    read_some l.1.tracks c.read.ensures l.0.yes
-
-pub read-requires : goal.read-requires
-read-requires c = c.loop-cursor.invariant.0.fits
-
-pub entry_size-used-requires : goal.entry_size-used-requires
-entry_size-used-requires c = let l = c.loop-cursor.invariant in
-    read_ends_by l.1.tracks (sym c.unwrap-found.ensures ∙ c.read.ensures) l.0.fits
-
-pub overflow_add-used : goal.overflow_add-used
-overflow_add-used c = let l = c.loop-cursor.invariant in
-    omega (arith, l.1.few, l.1.tracks.in_file, l.0.fits, c.entry_size-used.ensures.1)
-
 pub returns-in-End : goal.returns-in-End
 returns-in-End c =
     let l = c.loop-cursor.invariant in (
@@ -53,3 +37,12 @@ loop-cursor-preserved c =
     let l = c.loop-cursor.invariant in
     let o = read_onward l.1.tracks (sym c.unwrap-found.ensures ∙ c.read.ensures) l.0.yes c.in_default.not-End in
     (l.0, rw c.advance-cursor.ensures (counting_on l.1 (sym c.unwrap-found.ensures ∙ c.read.ensures) l.0.yes o c.entry_size-used.ensures.0))
+
+pub unwrap-found-requires : goal.unwrap-found-requires
+unwrap-found-requires c =
+    let l = c.loop-cursor.invariant in
+    read_some l.1.tracks c.read.ensures l.0.yes
+
+pub entry_size-used-requires : goal.entry_size-used-requires
+entry_size-used-requires c = let l = c.loop-cursor.invariant in
+    read_ends_by l.1.tracks (sym c.unwrap-found.ensures ∙ c.read.ensures) l.0.fits

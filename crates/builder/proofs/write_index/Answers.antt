@@ -13,20 +13,6 @@ loop-entry-init c =
     let w = walkable _ _ _ _ (c.opening_size-at.ensures ∙ ap opening_size c.form_of.ensures) c.requires.0 in
     (w, rw c.first_cursor-cursor.ensures (filling_first w.opens c.open_index.ensures))
 
-pub unwrap-found-requires : goal.unwrap-found-requires
-unwrap-found-requires c =
-    let l = c.loop-entry.invariant in
-    read_some l.1.tracks c.read.ensures l.0.yes
-
-pub read-requires : goal.read-requires
-read-requires c = c.loop-entry.invariant.0.fits
-
-pub write_end-requires : goal.write_end-requires
-write_end-requires c =
-    let l = c.loop-entry.invariant in
-    let k = walkable_short l.0 c.requires.1 in
-    (filling_end_room l.1 (sym c.unwrap-found.ensures ∙ c.read.ensures) l.0.yes c.in-End.is k, filling_long l.1)
-
 pub returns-in-End : goal.returns-in-End
 returns-in-End c =
     let l = c.loop-entry.invariant in
@@ -65,3 +51,14 @@ loop-entry-preserved c =
     let l = c.loop-entry.invariant in
     let o = read_onward l.1.tracks (sym c.unwrap-found.ensures ∙ c.read.ensures) l.0.yes c.in_default.not-End in
     (l.0, rw (c.advance-cursor.ensures, c.next_front-front.ensures) (filling_on l.1 (sym c.unwrap-found.ensures ∙ c.read.ensures) l.0.yes o c.write_record.ensures))
+
+pub unwrap-found-requires : goal.unwrap-found-requires
+unwrap-found-requires c =
+    let l = c.loop-entry.invariant in
+    read_some l.1.tracks c.read.ensures l.0.yes
+
+pub write_end-requires : goal.write_end-requires
+write_end-requires c =
+    let l = c.loop-entry.invariant in
+    let k = walkable_short l.0 c.requires.1 in
+    (filling_end_room l.1 (sym c.unwrap-found.ensures ∙ c.read.ensures) l.0.yes c.in-End.is k, filling_long l.1)

@@ -10,12 +10,12 @@ returns-in_err-mark_code c =
     let p = err_from_is_err_and c.from_residual.result c.from_residual.ensures.1 in
     rw (p.1, p.2) (coding_refused _ _ _ _ _ _ c.place_of-place.ensures.0 c.limit.ensures.0 c.mark_code.ensures c.in_err-mark_code.was)
 
-pub mark_fixups-requires : goal.mark_fixups-requires
-mark_fixups-requires c =
-    let room = code_room _ _ _ _ c.mark_code.ensures c.limit.ensures.1 c.in_ok-mark_code.was in
-    (c.requires.1, c.requires.2, room, c.mark_code.auto.map ∙ c.requires.3)
-
 pub returns : goal.returns
 returns c =
     coding_fixed _ _ _ _ _ _ c.place_of-place.ensures.0 c.limit.ensures.0 c.mark_code.ensures c.in_ok-mark_code.was
     (c.mark_fixups.ensures _)
+
+pub mark_fixups-requires : goal.mark_fixups-requires
+mark_fixups-requires c =
+    let room = code_room _ _ _ _ c.mark_code.ensures c.limit.ensures.1 c.in_ok-mark_code.was in
+    (c.requires.1, c.requires.2, room, c.mark_code.auto.map ∙ c.requires.3)

@@ -11,14 +11,6 @@ pub loop-found-init : goal.loop-found-init
 loop-found-init c =
     (c.requires.2, rw c.first_cursor-cursor.ensures (going_first c.requires.3 c.requires.0))
 
-pub read-requires : goal.read-requires
-read-requires c =
-    ((tracks_counts c.loop-found.invariant.1.came).0, c.requires.1)
-
-pub refused-requires : goal.refused-requires
-refused-requires c =
-    omega (arith, c.requires.1, (tracks_counts c.loop-found.invariant.1.came).0)
-
 pub returns-in-Err : goal.returns-in-Err
 returns-in-Err c = going_unread c.loop-found.invariant.1 c.in-Err.ensures c.refused.ensures
 
@@ -26,10 +18,6 @@ pub apply-requires : goal.apply-requires
 apply-requires c =
     let l = c.loop-found.invariant in
     (c.requires.1, going_lies l.1 c.in-Ok.ensures _ (le_refl _), l.0)
-
-pub refused-requires-in-Err-apply : goal.refused-requires-in-Err-apply
-refused-requires-in-Err-apply c =
-    omega (arith, c.requires.1, (tracks_counts c.loop-found.invariant.1.came).0)
 
 pub returns-in-Err-apply : goal.returns-in-Err-apply
 returns-in-Err-apply c =

@@ -1,37 +1,23 @@
 -- `index::walk_call` meets its contract: the map is cleared; then the settings decide, the index's length, and the index.
 -- Assumes nothing.
 use mathlib.Core.Path.{sym, ◌∙◌}
-use native.Mathlib.Omega.{arith}
-use Rattle.acx.proofs.Calling.{range_bounds}
 use Rattle.events.proofs.Events.{cleared}
-use Rattle.pieces.specs.Pieces.{bases_at}
 use Rattle.index.proofs.Calling.{call_range, call_long, call_walked}
-use Rattle.index.specs.Walk.{formless}
 use Rattle.index.proofs.walk_call.Goals as goal
 
-pub returns-then-not-ranged : goal.returns-then-not-ranged
-returns-then-not-ranged c =
-    call_range _ _ (sym c.in_range-ranged.ensures ∙ c.if-not-ranged.true) c.refused.ensures (cleared _ _ c.requires c.fill.ensures)
+pub returns-then-not-in_range : goal.returns-then-not-in_range
+returns-then-not-in_range c =
+    call_range _ _ (sym c.in_range.ensures ∙ c.if-not-in_range.true) c.refused.ensures (cleared _ _ c.requires c.fill.ensures)
 
 pub returns-then-index-gt-FILE : goal.returns-then-index-gt-FILE
 returns-then-index-gt-FILE c =
-    call_long _ _ (sym c.in_range-ranged.ensures ∙ c.if-not-ranged.false) c.if-index-gt-FILE.true c.refused-then-index-gt-FILE.ensures
+    call_long _ _ (sym c.in_range.ensures ∙ c.if-not-in_range.false) c.if-index-gt-FILE.true c.refused-then-index-gt-FILE.ensures
     (cleared _ _ c.requires c.fill.ensures)
 
-pub overflow_cast-bases : goal.overflow_cast-bases
-overflow_cast-bases c =
-    let k = range_bounds formless (bases_at c.args.main_base c.args.zero_base) (sym c.in_range-ranged.ensures ∙ c.if-not-ranged.false) in
-    omega (arith, k)
-
-pub overflow_cast-bases-2 : goal.overflow_cast-bases-2
-overflow_cast-bases-2 c =
-    let k = range_bounds formless (bases_at c.args.main_base c.args.zero_base) (sym c.in_range-ranged.ensures ∙ c.if-not-ranged.false) in
-    omega (arith, k)
+pub returns : goal.returns
+returns c =
+    call_walked _ _ (sym c.in_range.ensures ∙ c.if-not-in_range.false) c.if-index-gt-FILE.false c.walk_index.ensures
 
 pub walk_index-requires : goal.walk_index-requires
 walk_index-requires c =
     (c.if-index-gt-FILE.false, c.fill.auto.bytes ∙ c.requires, cleared _ _ c.requires c.fill.ensures)
-
-pub returns : goal.returns
-returns c =
-    call_walked _ _ (sym c.in_range-ranged.ensures ∙ c.if-not-ranged.false) c.if-index-gt-FILE.false c.walk_index.ensures
