@@ -2,9 +2,9 @@
 -- Assumes nothing.
 use mathlib.Core.List.{List, [], ◌∷◌, ◌++◌}
 use mathlib.Core.Path.{◌≡◌, refl, sym, ap, ◌∙◌}
-use Prim.Native.Nat.{ℕ, ◌+◌, ◌<◌}
+use Prim.Native.Nat.{ℕ, ◌<◌}
 use native.Mathlib.Omega.{arith}
-use lib.ListN.{length, get_or, drop, length-drop}
+use lib.ListN.{length, get_or}
 use Rattle.std.proofs.Common.{Option}
 use Rattle.fields.specs.declared.Field.{Field}
 use Rattle.records.specs.Records.{type_of}
@@ -35,7 +35,3 @@ none_listed kind [] h = refl
 none_listed kind (t ∷ []) h = refl
 none_listed kind (t ∷ index ∷ []) h = refl
 none_listed kind (t ∷ index ∷ lsb ∷ items) h = absurd (omega arith)
-
--- the same of those from a byte on
-pub last_listed : (kind : Kind) (items : List ℕ) (i : ℕ) → length items < i + 3 → fields_to kind (drop i items) ≡ []
-last_listed kind items i h = none_listed kind (drop i items) (rw length-drop (omega arith))
