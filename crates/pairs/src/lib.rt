@@ -25,13 +25,7 @@ pub fn load(
     ensures { Loads file.now (inputs known_names.now known_addresses.now low high) Bool.true (buffers memory.old map.old new_names.old new_addresses.old) result (buffers memory.new map.new new_names.new new_addresses.new) }
 {
     let size = known_addresses.len();
-    if size % 2 != 0 {
-        return answer::refused(Fault::WrongBuffer, 0);
-    }
-    if 2 * sdx::KNOWN < size {
-        return answer::refused(Fault::WrongBuffer, 0);
-    }
-    if new_addresses.len() != 2 * passes::ADDRESSES {
+    if size % 2 != 0 || 2 * sdx::KNOWN < size || new_addresses.len() != 2 * passes::ADDRESSES {
         return answer::refused(Fault::WrongBuffer, 0);
     }
     load_words(

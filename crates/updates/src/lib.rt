@@ -100,16 +100,14 @@ fn adjust(
     requires { (address ≤ 65534) × (length memory.old ≡ 65536) × (length map.old ≡ 65536) }
     ensures { Did Check (adjusting at amount address map.old) write memory.old map.old result memory.new map.new }
 {
-    let loaded = word_loaded(map, address);
-    if !loaded {
+    if !word_loaded(map, address) {
         return Err(Failure {
             fault: Fault::FieldNotLoaded,
             offset: at,
         });
     }
     let end = address + 2;
-    let adjusted = words::contains(&map[address..end], events::ADJUSTED);
-    if adjusted {
+    if words::contains(&map[address..end], events::ADJUSTED) {
         return Err(Failure {
             fault: Fault::AdjustedTwice,
             offset: at,

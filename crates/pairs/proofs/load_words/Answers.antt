@@ -2,7 +2,6 @@
 -- Assumes nothing.
 use mathlib.Core.Path.{refl, sym, ◌∙◌}
 use native.Mathlib.Omega.{arith}
-use lib.Seq.{length-take-le}
 use Rattle.passes.specs.Buffers.{buffers}
 use Rattle.passes.specs.Walk.{inputs}
 use Rattle.pairs.proofs.Pairs.{known_front, loads_accepted, loads_refused}

@@ -1,8 +1,6 @@
 -- `sdx::load_blocks` meets its contract: the first walk left memory and the new-name buffers alone; where it stopped, that is the refusal, and where
 -- it did not, the second walk does what it said.
 -- Assumes nothing.
-use mathlib.Core.Path.{◌∙◌}
-use native.Mathlib.Omega.{arith}
 use Rattle.sdx.proofs.Calling.{blocks_refused, blocks_accepted}
 use Rattle.sdx.proofs.load_blocks.Goals as goal
 
