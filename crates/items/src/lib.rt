@@ -29,7 +29,7 @@ pub enum Item {
     Adjust { counter: u16, next: usize },
 }
 
-// The item at `at`.
+// The item at `at`. (That the file is limited bounds what a caller counts of its items.)
 #[tactic(auto, unfolding(crate::specs::Items::read, answer::specs::Checks::need, answer::specs::Checks::pick))]
 pub fn read(
     file: &File,
@@ -37,7 +37,8 @@ pub fn read(
     at: usize,
     counter: Option<u16>,
 ) -> Result<Item, Failure>
-    ensures { result ≡ read_of file.now table at counter }
+    ensures value { result ≡ read_of file.now table at counter }
+    ensures limited { length file.now ≤ 65536 }
 {
     if file.len() <= at {
         return Err(Fault::CutShort.at(file.len()));
