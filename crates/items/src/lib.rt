@@ -29,7 +29,7 @@ pub enum Item {
     Adjust { counter: u16, next: usize },
 }
 
-// The item at `at`. (That the file is limited bounds what a caller counts of its items.)
+// The item at `at`.
 #[tactic(auto, unfolding(crate::specs::Items::read, answer::specs::Checks::need, answer::specs::Checks::pick))]
 pub fn read(
     file: &File,
@@ -37,8 +37,7 @@ pub fn read(
     at: usize,
     counter: Option<u16>,
 ) -> Result<Item, Failure>
-    ensures value { result ≡ read_of file.now table at counter }
-    ensures limited { length file.now ≤ 65536 }
+    ensures { result ≡ read_of file.now table at counter }
 {
     if file.len() <= at {
         return Err(Fault::CutShort.at(file.len()));

@@ -40,6 +40,8 @@ pub fn body(
     requires { at ≤ length file.now }
     ensures { Did Ended (ended (body_of file.now table amount at map.old)) write memory.old map.old result memory.new map.new }
 {
+    // The file is limited, and so is what is counted.
+    let _ = file.len();
     let mut cursor = first_cursor(at);
     loop {
         let item = items::read(file, table, cursor.at, cursor.counter)?;

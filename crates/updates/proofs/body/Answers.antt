@@ -13,29 +13,29 @@ loop-item-init c = rw c.first_cursor-cursor.ensures (going_first c.requires)
 pub returns-in_err-item : goal.returns-in_err-item
 returns-in_err-item c =
     let p = err_from_is_err_and c.from_residual.result c.from_residual.ensures.1 in
-    rw (p.1, p.2) (going_unread c.loop-item.invariant (sym c.in_err-item.was ∙ c.read.ensures.value))
+    rw (p.1, p.2) (going_unread c.loop-item.invariant (sym c.in_err-item.was ∙ c.read.ensures))
 
 pub apply-requires : goal.apply-requires
-apply-requires c = item_fits _ _ _ _ _ (sym c.in_ok-item.was ∙ c.read.ensures.value)
+apply-requires c = item_fits _ _ _ _ _ (sym c.in_ok-item.was ∙ c.read.ensures)
 
 pub returns-in_err-apply : goal.returns-in_err-apply
 returns-in_err-apply c =
     let p = err_from_is_err_and c.from_residual-in_err-apply.result c.from_residual-in_err-apply.ensures.1 in
-    rw (p.1, p.2) (going_fails c.loop-item.invariant (sym c.in_ok-item.was ∙ c.read.ensures.value) c.apply.ensures c.in_err-apply.was)
+    rw (p.1, p.2) (going_fails c.loop-item.invariant (sym c.in_ok-item.was ∙ c.read.ensures) c.apply.ensures c.in_err-apply.was)
 
 pub returns-in-End : goal.returns-in-End
 returns-in-End c =
-    going_ends c.loop-item.invariant (sym c.in_ok-item.was ∙ c.read.ensures.value) c.in_ok-apply.ensures c.in-End.is
+    going_ends c.loop-item.invariant (sym c.in_ok-item.was ∙ c.read.ensures) c.in_ok-apply.ensures c.in-End.is
 
 pub advance-cursor-requires : goal.advance-cursor-requires
 advance-cursor-requires c =
     let l = c.loop-item.invariant in
-    omega (arith, c.read.ensures.limited, l.behind, l.inside)
+    omega (arith, c.len.ensures.limited, l.behind, l.inside)
 
 pub loop-item-smaller : goal.loop-item-smaller
 loop-item-smaller c =
     let l = c.loop-item.invariant in
-    let is = sym c.in_ok-item.was ∙ c.read.ensures.value in
+    let is = sym c.in_ok-item.was ∙ c.read.ensures in
     let on = onward_unless_end _ c.in_default.not-End in
     let a = rw (← c.advance-cursor.ensures) at (going_further l is c.in_ok-apply.ensures on) in
     let g = rw (← c.advance-cursor.ensures) at (going_on l is c.in_ok-apply.ensures on) in
@@ -44,6 +44,6 @@ loop-item-smaller c =
 pub loop-item-preserved : goal.loop-item-preserved
 loop-item-preserved c =
     let l = c.loop-item.invariant in
-    let is = sym c.in_ok-item.was ∙ c.read.ensures.value in
+    let is = sym c.in_ok-item.was ∙ c.read.ensures in
     let on = onward_unless_end _ c.in_default.not-End in
     rw c.advance-cursor.ensures (going_on l is c.in_ok-apply.ensures on)
