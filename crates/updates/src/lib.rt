@@ -8,8 +8,9 @@ ghost use Rattle.updates.specs.Bodies.{is_loaded, word_loaded, adjusting, applie
 ghost use Rattle.updates.specs.Cursor.{first_cursor, advanced};
 
 use answer::{Failure, Fault};
-use events::Check;
+use events::{Buffer, Check};
 use items::{Item, Slot};
+use words::File;
 
 // What a body comes to that ends at its FC: the offset after it, and the number of words adjusted.
 #[derive(Clone, Copy)]
@@ -28,17 +29,19 @@ pub struct Cursor {
 
 // Carries out a body from its first item, which begins at `at`: each word that it lists grows by the amount.
 pub fn body(
-    file: &[u8],
+    file: &File,
     table: [Option<Slot>; 8],
     amount: u16,
     at: usize,
     write: bool,
-    memory: &mut [u8],
-    map: &mut [u8],
+    memory: &mut Buffer,
+    map: &mut Buffer,
 ) -> Result<Done, Failure>
-    requires { (length file.now ≤ 65536) × (at ≤ length file.now) × (length memory.old ≡ 65536) × (length map.old ≡ 65536) }
+    requires { at ≤ length file.now }
     ensures { Did Ended (ended (body_of file.now table amount at map.old)) write memory.old map.old result memory.new map.new }
 {
+    // The file is limited, and so is what is counted.
+    let _ = file.len();
     let mut cursor = first_cursor(at);
     loop {
         let item = items::read(file, table, cursor.at, cursor.counter)?;
@@ -69,19 +72,21 @@ fn is_loaded(mark: u8) -> bool
 }
 
 // Carries out the item at `at`.
+#[tactic(auto, unfolding(events::specs::Events::play, events::specs::Events::marks))]
 fn apply(
     item: Item,
     at: usize,
     amount: u16,
     write: bool,
-    memory: &mut [u8],
-    map: &mut [u8],
+    memory: &mut Buffer,
+    map: &mut Buffer,
 ) -> Check
-    requires { ((counter next : ℕ) → item ≡ Adjust counter next → counter ≤ 65534) × (length memory.old ≡ 65536) × (length map.old ≡ 65536) }
+    requires { (counter next : ℕ) → item ≡ Adjust counter next → counter ≤ 65534 }
     ensures { Did Check (applied at amount item map.old) write memory.old map.old result memory.new map.new }
 {
     match item {
-        Item::End(_) | Item::Move { .. } => Ok(()),
+        Item::End(next) => Ok(()),
+        Item::Move { counter, next } => Ok(()),
         Item::Adjust { counter, next } => {
             adjust(counter as usize, at, amount, write, memory, map)
         }
@@ -89,29 +94,24 @@ fn apply(
 }
 
 // Adjusts the word at an address, if it is loaded (12) and not adjusted since (13). The item that lists it stands at `at`.
+#[tactic(auto, using(words::proofs::Lent::lent_is), unfolding(crate::specs::Bodies::adjusting, answer::specs::Checks::need, events::specs::Events::play, events::specs::Events::marks))]
 fn adjust(
     address: usize,
     at: usize,
     amount: u16,
     write: bool,
-    memory: &mut [u8],
-    map: &mut [u8],
+    memory: &mut Buffer,
+    map: &mut Buffer,
 ) -> Check
-    requires { (address ≤ 65534) × (length memory.old ≡ 65536) × (length map.old ≡ 65536) }
+    requires { address ≤ 65534 }
     ensures { Did Check (adjusting at amount address map.old) write memory.old map.old result memory.new map.new }
 {
     if !word_loaded(map, address) {
-        return Err(Failure {
-            fault: Fault::FieldNotLoaded,
-            offset: at,
-        });
+        return Err(Fault::FieldNotLoaded.at(at));
     }
     let end = address + 2;
     if words::contains(&map[address..end], events::ADJUSTED) {
-        return Err(Failure {
-            fault: Fault::AdjustedTwice,
-            offset: at,
-        });
+        return Err(Fault::AdjustedTwice.at(at));
     }
     events::adjust_word(address, amount, write, memory, map);
     Ok(())
@@ -134,11 +134,11 @@ fn advance(cursor: Cursor, item: Item) -> Cursor
     ensures { result ≡ advanced cursor item }
 {
     match item {
-        Item::End(_) => cursor,
+        Item::End(next) => cursor,
         Item::Move { counter, next } => Cursor {
             at: next,
             counter: Some(counter),
-            ..cursor
+            adjusted: cursor.adjusted,
         },
         Item::Adjust { counter, next } => Cursor {
             at: next,
