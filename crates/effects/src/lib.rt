@@ -50,7 +50,7 @@ pub fn apply(
     ensures { Did Ended (ended (applied file.now lent.now own.now cursor found map.old)) write memory.old map.old result memory.new map.new }
 {
     // The file is limited, and so is the offset behind what is read of it.
-    let _ = file.len();
+    prove!(file.len() <= events::FILE);
     match found {
         Block::Plain {
             address,
@@ -137,7 +137,7 @@ fn place(
     ensures { Did Ended (ended (placing file.now address from size)) write memory.old map.old result memory.new map.new }
 {
     // (as in `apply`)
-    let _ = file.len();
+    prove!(file.len() <= events::FILE);
     events::place(file.part(from, size), address, write, memory, map);
     Ok(Done {
         next: from + size,

@@ -41,7 +41,7 @@ pub fn body(
     ensures { Did Ended (ended (body_of file.now table amount at map.old)) write memory.old map.old result memory.new map.new }
 {
     // The file is limited, and so is what is counted.
-    let _ = file.len();
+    prove!(file.len() <= events::FILE);
     let mut cursor = first_cursor(at);
     loop {
         let item = items::read(file, table, cursor.at, cursor.counter)?;
