@@ -56,9 +56,10 @@ pub fn read(index: &File, at: usize) -> Result<IndexEntry, Fault>
 // Reads a code record whose entry has `count` bytes after its length.
 #[tactic(auto, unfolding(crate::specs::Entries::read_code, answer::specs::Checks::need))]
 fn read_code(index: &File, at: usize, count: usize, kind: Kind) -> Result<IndexEntry, Fault>
-    requires { (at + 2 + count ≤ length index.now) × (at ≤ 65536) }
+    requires { at + 2 + count ≤ length index.now }
     ensures { result ≡ read_code index.now at count kind }
 {
+    prove!(index.len() <= events::FILE);
     if count < 4 || count % 3 != 1 {
         return Err(Fault::LengthNotAllowed);
     }
@@ -78,9 +79,10 @@ fn read_code(index: &File, at: usize, count: usize, kind: Kind) -> Result<IndexE
 // Reads an end record whose entry has `count` bytes after its length.
 #[tactic(auto, unfolding(crate::specs::Entries::read_end, answer::specs::Checks::need))]
 fn read_end(index: &File, at: usize, count: usize) -> Result<IndexEntry, Fault>
-    requires { (at + 2 + count ≤ length index.now) × (at ≤ 65536) }
+    requires { at + 2 + count ≤ length index.now }
     ensures { result ≡ read_end index.now at count }
 {
+    prove!(index.len() <= events::FILE);
     if count != 4 {
         return Err(Fault::LengthNotAllowed);
     }
