@@ -156,9 +156,9 @@ pub record Listing (kind : Kind) (all : List Field) (at : ℕ) (l : List ℕ) (r
 
 module _ {kind : Kind} {all : List Field} {at : ℕ} {l : List ℕ} where
   -- before the first field
-  pub listing_none : Listing kind all at l all at l
+  pub listing_none : {used : ℕ} → used ≡ at → Listing kind all at l all used l
   unfolding fixup_bytes put
-  listing_none = record { done = []; split = refl; written = refl; used_is = omega arith }
+  listing_none e = record { done = []; split = refl; written = refl; used_is = omega (arith, e) }
 
   module _ {rest : List Field} {used : ℕ} {r : List ℕ} (x : Listing kind all at l rest used r) where
     -- the room has its length

@@ -243,10 +243,8 @@ fn write_items(items: &[u8], kind: Kind, fixup: Fixup, at: usize, index: &mut Bu
     requires { at + 3 * (length items.now / item_size fixup) ≤ length index.old }
     ensures { index.new ≡ put index.old at (fixup_bytes kind (fields_of fixup items.now)) }
 {
-    let mut used = at;
-    for item in items.chunks_exact(fields::item_size(fixup)) {
-        write_field(kind, fields::field_at(item, 0, fixup), used, index);
-        used += 3;
+    for (i, item) in items.chunks_exact(fields::item_size(fixup)).enumerate() {
+        write_field(kind, fields::field_at(item, 0, fixup), at + 3 * i, index);
     }
 }
 
