@@ -1,13 +1,14 @@
 // The blocks of an SDX file, read: what the block at a cursor says, or its first fault.
 #![tactic(auto)]
 
-ghost use Rattle.std.specs.Prelude.{◌≡◌, ◌+◌, ◌<◌, ◌≤◌, length, IfOk};
-ghost use Rattle.blocks.specs.Blocks.{read_plain, data_size, read_room, read_relocatable, read_update, read_names, read_address, read_new_name, read as read_of, amount_of};
+ghost use Rattle.std.specs.Prelude.{◌≡◌, ◌≤◌, length, IfOk};
+ghost use Rattle.blocks.specs.Blocks.{read_plain, data_size, read_relocatable, read_update, read_names, read_new_name, read as read_of, amount_of};
 ghost use Rattle.blocks.specs.Bounds.{Packed, Listed, InMemory};
 
 use answer::{Failure, Fault};
 use items::Slot;
 use names::Definition;
+use words::File;
 
 // The most relocatable blocks of a file.
 const BLOCKS: usize = 7;
@@ -45,6 +46,7 @@ pub enum Block {
         from: usize,
         size: usize,
     },
+    // (a flag: it says only whether the bytes are in the file, so an Option in its place would hold nothing)
     Relocatable {
         reserves: bool,
         number: usize,
@@ -65,24 +67,19 @@ pub enum Block {
 // The block at the cursor.
 #[tactic(auto, using(crate::proofs::Reading::in_memory, crate::proofs::Reading::names_in_memory, crate::proofs::Reading::new_name_in_memory, crate::proofs::Reading::update_in_memory, crate::proofs::Reading::relocatable_in_memory), unfolding(crate::specs::Blocks::read, answer::specs::Checks::need, answer::specs::Checks::pick))]
 pub fn read(
-    file: &[u8],
+    file: &File,
     high: u16,
     lent: &[u8],
     own: &[u8],
     cursor: Cursor,
 ) -> Result<Block, Failure>
-    requires { (length file.now ≤ 65536) × (cursor.at ≤ length file.now) × Packed cursor.table }
+    requires { (cursor.at ≤ length file.now) × Packed cursor.table }
     ensures value { result ≡ read_of file.now high lent.now own.now cursor }
     ensures in_memory { IfOk result InMemory }
 {
     let at = cursor.at;
-    if file.len() < at + 2 {
-        return Err(Failure {
-            fault: Fault::CutShort,
-            offset: file.len(),
-        });
-    }
-    let word = words::word_at(file, at);
+    answer::present(file, at, 2)?;
+    let word = file.word(at);
     if word < FIRST_MARKER {
         return read_plain(file, at);
     }
@@ -113,33 +110,21 @@ pub fn amount(source: Source, table: [Option<Slot>; 8], lent: &[u16], own: &[u16
 
 // A plain block, whose start stands at `at`.
 #[tactic(auto, using(crate::proofs::Reading::in_memory), unfolding(crate::specs::Blocks::read_plain, answer::specs::Checks::need))]
-fn read_plain(file: &[u8], at: usize) -> Result<Block, Failure>
-    requires { (length file.now ≤ 65536) × (at ≤ length file.now) }
+fn read_plain(file: &File, at: usize) -> Result<Block, Failure>
+    requires { at ≤ length file.now }
     ensures value { result ≡ read_plain file.now at }
     ensures in_memory { IfOk result InMemory }
 {
+    answer::present(file, at, 4)?;
     let from = at + 4;
-    if file.len() < from {
-        return Err(Failure {
-            fault: Fault::CutShort,
-            offset: file.len(),
-        });
-    }
-    let address = words::word_at(file, at);
-    let last = words::word_at(file, at + 2);
+    let address = file.word(at);
+    let last = file.word(at + 2);
+    // (a test, and no `checked_sub`: `one_byte_block_refused` changes it)
     if last < address {
-        return Err(Failure {
-            fault: Fault::LengthNotAllowed,
-            offset: at + 2,
-        });
+        return Err(Fault::LengthNotAllowed.at(at + 2));
     }
     let size = (last - address) as usize + 1;
-    if file.len() < from + size {
-        return Err(Failure {
-            fault: Fault::CutShort,
-            offset: file.len(),
-        });
-    }
+    answer::present(file, from, size)?;
     Ok(Block::Plain {
         address,
         from,
@@ -148,73 +133,35 @@ fn read_plain(file: &[u8], at: usize) -> Result<Block, Failure>
 }
 
 // FFFE: a relocatable block, with data or only reserving.
-#[tactic(auto, unfolding(crate::specs::Blocks::read_relocatable, answer::specs::Checks::need))]
-fn read_relocatable(file: &[u8], high: u16, cursor: Cursor) -> Result<Block, Failure>
-    requires { (length file.now ≤ 65536) × (cursor.at ≤ length file.now) }
+#[tactic(auto, unfolding(crate::specs::Blocks::read_relocatable, crate::specs::Blocks::read_room, answer::specs::Checks::need, items::specs::Items::slot_at))]
+fn read_relocatable(file: &File, high: u16, cursor: Cursor) -> Result<Block, Failure>
+    requires { cursor.at ≤ length file.now }
     ensures { result ≡ read_relocatable file.now high cursor }
 {
     let at = cursor.at;
-    if file.len() < at + 8 {
-        return Err(Failure {
-            fault: Fault::CutShort,
-            offset: file.len(),
-        });
-    }
-    let number = words::wide(file[at + 2]);
+    answer::present(file, at, 8)?;
+    let number = file.byte(at + 2) as usize;
     if items::LAST_NUMBER < number {
-        return Err(Failure {
-            fault: Fault::NotKnown,
-            offset: at + 2,
-        });
+        return Err(Fault::NotKnown.at(at + 2));
     }
-    let id = file[at + 3];
-    match id {
-        0 => read_room(file, high, cursor, number, false),
-        0x80 => read_room(file, high, cursor, number, true),
-        _ => Err(Failure {
-            fault: Fault::NotKnown,
-            offset: at + 3,
-        }),
-    }
-}
-
-// The room of a relocatable block: a number and a block left, the data in the file, and the place in memory.
-#[tactic(auto, unfolding(crate::specs::Blocks::read_room, answer::specs::Checks::need, items::specs::Items::slot_at))]
-fn read_room(
-    file: &[u8],
-    high: u16,
-    cursor: Cursor,
-    number: usize,
-    reserves: bool,
-) -> Result<Block, Failure>
-    requires { (length file.now ≤ 65536) × (cursor.at + 8 ≤ length file.now) × (number < 8) }
-    ensures { result ≡ read_room file.now high cursor number reserves }
-{
-    let at = cursor.at;
+    let reserves = match file.byte(at + 3) {
+        0 => false,
+        0x80 => true,
+        _ => return Err(Fault::NotKnown.at(at + 3)),
+    };
     if cursor.table[number].is_some() || BLOCKS <= cursor.count {
-        return Err(Failure {
-            fault: Fault::BlockTaken,
-            offset: at + 2,
-        });
+        return Err(Fault::BlockTaken.at(at + 2));
     }
     let from = at + 8;
-    let size = words::word_at(file, at + 6);
-    if file.len() < from + data_size(reserves, size) {
-        return Err(Failure {
-            fault: Fault::CutShort,
-            offset: file.len(),
-        });
-    }
+    let size = file.word(at + 6);
+    answer::present(file, from, data_size(reserves, size))?;
     if (high as usize) < cursor.low as usize + size as usize {
-        return Err(Failure {
-            fault: Fault::DoesNotFit,
-            offset: at + 6,
-        });
+        return Err(Fault::DoesNotFit.at(at + 6));
     }
     Ok(Block::Relocatable {
         reserves,
         number,
-        offset: words::word_at(file, at + 4),
+        offset: file.word(at + 4),
         from,
         size,
     })
@@ -222,58 +169,36 @@ fn read_room(
 
 // FFFD: words that grow by a block's address less its offset.
 #[tactic(auto, unfolding(crate::specs::Blocks::read_update, answer::specs::Checks::need, items::specs::Items::slot_at))]
-fn read_update(file: &[u8], cursor: Cursor) -> Result<Block, Failure>
-    requires { (length file.now ≤ 65536) × (cursor.at ≤ length file.now) }
+fn read_update(file: &File, cursor: Cursor) -> Result<Block, Failure>
+    requires { cursor.at ≤ length file.now }
     ensures { result ≡ read_update file.now cursor }
 {
     let at = cursor.at;
-    let from = at + 5;
-    if file.len() < from {
-        return Err(Failure {
-            fault: Fault::CutShort,
-            offset: file.len(),
-        });
-    }
-    let number = words::wide(file[at + 2]);
+    answer::present(file, at, 5)?;
+    let number = file.byte(at + 2) as usize;
     if items::LAST_NUMBER < number {
-        return Err(Failure {
-            fault: Fault::NotKnown,
-            offset: at + 2,
-        });
+        return Err(Fault::NotKnown.at(at + 2));
     }
     if cursor.table[number].is_none() {
-        return Err(Failure {
-            fault: Fault::BlockMissing,
-            offset: at + 2,
-        });
+        return Err(Fault::BlockMissing.at(at + 2));
     }
     Ok(Block::Update {
         source: Source::Number(number),
-        from,
+        from: at + 5,
     })
 }
 
 // FFFB: words that grow by the address of a name.
-#[tactic(auto, using(words::proofs::Lent::lent_is), unfolding(crate::specs::Blocks::read_names, answer::specs::Checks::need))]
-fn read_names(file: &[u8], lent: &[u8], own: &[u8], cursor: Cursor) -> Result<Block, Failure>
-    requires { (length file.now ≤ 65536) × (cursor.at ≤ length file.now) }
+#[tactic(auto, using(words::proofs::Runs::length_part), unfolding(crate::specs::Blocks::read_names, answer::specs::Checks::need))]
+fn read_names(file: &File, lent: &[u8], own: &[u8], cursor: Cursor) -> Result<Block, Failure>
+    requires { cursor.at ≤ length file.now }
     ensures { result ≡ read_names file.now lent.now own.now cursor }
 {
     let at = cursor.at;
+    answer::present(file, at, 12)?;
     let from = at + 12;
-    if file.len() < from {
-        return Err(Failure {
-            fault: Fault::CutShort,
-            offset: file.len(),
-        });
-    }
-    let start = at + 2;
-    let end = start + names::NAME;
-    match names::look_up(own, lent, &file[start..end]) {
-        None => Err(Failure {
-            fault: Fault::NameUnknown,
-            offset: at + 2,
-        }),
+    match names::look_up(own, lent, file.part(at + 2, names::NAME)) {
+        None => Err(Fault::NameUnknown.at(at + 2)),
         Some(Definition::Own(index)) => Ok(Block::Update {
             source: Source::OwnName(index),
             from,
@@ -286,54 +211,27 @@ fn read_names(file: &[u8], lent: &[u8], own: &[u8], cursor: Cursor) -> Result<Bl
 }
 
 // FFFC: a new name for an address inside a block.
-#[tactic(auto, unfolding(crate::specs::Blocks::read_new_name, answer::specs::Checks::need, items::specs::Items::slot_at))]
-fn read_new_name(file: &[u8], cursor: Cursor) -> Result<Block, Failure>
-    requires { (length file.now ≤ 65536) × (cursor.at ≤ length file.now) × Packed cursor.table }
+#[tactic(auto, unfolding(crate::specs::Blocks::read_new_name, crate::specs::Blocks::read_address, answer::specs::Checks::need, items::specs::Items::slot_at))]
+fn read_new_name(file: &File, cursor: Cursor) -> Result<Block, Failure>
+    requires { (cursor.at ≤ length file.now) × Packed cursor.table }
     ensures { result ≡ read_new_name file.now cursor }
 {
     let at = cursor.at;
-    if file.len() < at + 13 {
-        return Err(Failure {
-            fault: Fault::CutShort,
-            offset: file.len(),
-        });
-    }
-    let number = words::wide(file[at + 2]);
+    answer::present(file, at, 13)?;
+    let number = file.byte(at + 2) as usize;
     if items::LAST_NUMBER < number {
-        return Err(Failure {
-            fault: Fault::NotKnown,
-            offset: at + 2,
-        });
+        return Err(Fault::NotKnown.at(at + 2));
     }
     let Some(slot) = cursor.table[number] else {
-        return Err(Failure {
-            fault: Fault::BlockMissing,
-            offset: at + 2,
-        });
+        return Err(Fault::BlockMissing.at(at + 2));
     };
-    read_address(file, cursor, slot)
-}
-
-// The new name of a block that is there.
-#[tactic(auto, unfolding(crate::specs::Blocks::read_address, answer::specs::Checks::need))]
-fn read_address(file: &[u8], cursor: Cursor, slot: Slot) -> Result<Block, Failure>
-    requires { (length file.now ≤ 65536) × (cursor.at + 13 ≤ length file.now) × (slot.address + slot.size ≤ 65535) }
-    ensures { result ≡ read_address file.now cursor slot }
-{
-    let at = cursor.at;
-    let offset = words::word_at(file, at + 3);
+    let offset = file.word(at + 3);
     let above = offset.checked_sub(slot.offset);
     let Some(inside) = above.filter(|inside| *inside < slot.size) else {
-        return Err(Failure {
-            fault: Fault::NameOutsideBlock,
-            offset: at + 3,
-        });
+        return Err(Fault::NameOutsideBlock.at(at + 3));
     };
     if NEW_NAMES <= cursor.named {
-        return Err(Failure {
-            fault: Fault::TooManyNames,
-            offset: at + 5,
-        });
+        return Err(Fault::TooManyNames.at(at + 5));
     }
     Ok(Block::NewName {
         from: at + 5,

@@ -4,30 +4,21 @@ use mathlib.Core.Bool.{Bool, true, false}
 use mathlib.Core.List.{List, [], ◌∷◌}
 use mathlib.Core.Path.{◌≡◌, refl, ap, ◌∙◌}
 use Prim.Native.Nat.{ℕ, ◌+◌, ◌-◌, ◌*◌, ◌≤◌}
-use borrow.Rule.Slice.PartMut.{mid_of, put_mid}
+use borrow.Rule.Slice.PartMut.{put_mid}
 use lib.ListN.{length, set}
 use Rattle.blocks.specs.declared.Block.{Block}
 use Rattle.blocks.specs.declared.Block.TheVariants.{Plain, Relocatable, Update, NewName}
 use Rattle.blocks.specs.declared.Cursor.{Cursor}
 use Rattle.events.proofs.Events.{did_none}
-use Rattle.events.specs.Events.{place, reserve, play, marks, adjusted_in, Reached, Did}
+use Rattle.events.specs.Events.{reserve, play, marks, adjusted_in, Did}
 use Rattle.updates.specs.Bodies.{Ended, ended_at, ended}
-use Rattle.words.proofs.Lent.{lent_is, back_is}
+use Rattle.words.proofs.Lent.{back_is}
 use Rattle.words.proofs.Runs.{length_part}
 use Rattle.words.specs.Runs.{part, put}
-use Rattle.effects.specs.Effects.{placing, placing_relocatable, applied}
+use Rattle.effects.specs.Effects.{placing_relocatable, applied}
 use Rattle.effects.specs.Parts.{NameStored}
 
 -- ---- one block
-
--- the bytes of the file that lie in a lent part of it are placed
-pub placing_did : (file : List ℕ) (address from size : ℕ) (write : Bool) (m p m' p' : List ℕ)
-    → Reached (place address (mid_of from (from + size - from) file) ∷ []) write m p m' p'
-    → Did Ended (ended (placing file address from size)) write m p (ended_at (from + size) 0) m' p'
-unfolding adjusted_in
-placing_did file address from size write m p m' p' h =
-    let e : mid_of from (from + size - from) file ≡ part file from size = lent_is from size file in
-    record { answer = refl; reached = rw e at h }
 
 -- what is reserved is only marked
 reserved_did : (file : List ℕ) (low from size : ℕ) (write : Bool) (m p p' : List ℕ) → p' ≡ marks (reserve low size ∷ []) p
@@ -61,11 +52,10 @@ stored_none file (NewName from address) named ns ads other = absurd (other from 
 
 -- a new name stands behind those before it, and so does its address
 pub stored_name : (file : List ℕ) (b : Block) (named from address : ℕ) (ns ads w : List ℕ) → b ≡ NewName from address
-    → 8 * named + 8 ≤ length ns → from + 8 ≤ length file → w ≡ mid_of from (from + 8 - from) file
+    → 8 * named + 8 ≤ length ns → from + 8 ≤ length file → w ≡ part file from 8
     → NameStored file b named ns ads (put_mid (8 * named) (8 * named + 8 - 8 * named) ns w) (set ads named address)
 unfolding put
-stored_name file b named from address ns ads w e room inside copied =
-    let is : w ≡ part file from 8 = copied ∙ lent_is from 8 file in
+stored_name file b named from address ns ads w e room inside is =
     let size : length w ≡ 8 = ap length is ∙ length_part file from 8 inside in
     rw e
     (record {

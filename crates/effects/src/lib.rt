@@ -11,8 +11,15 @@ ghost use Rattle.effects.specs.Parts.{NameFits, RoomFits, NameStored};
 
 use answer::Failure;
 use blocks::{Block, Cursor};
+use events::Buffer;
 use items::Slot;
 use updates::Done;
+use words::File;
+
+// The buffers for new names: their bytes, and their addresses.
+pub const NAMES: usize = 256;
+
+pub const ADDRESSES: usize = 32;
 
 // The cursor before the first block.
 pub fn first_cursor(low: u16) -> Cursor
@@ -29,18 +36,20 @@ pub fn first_cursor(low: u16) -> Cursor
 
 // Applies a block: carries it out in the map and, where `write` is true, in memory.
 pub fn apply(
-    file: &[u8],
+    file: &File,
     found: Block,
     cursor: Cursor,
     lent: &[u16],
     own: &[u16],
     write: bool,
-    memory: &mut [u8],
-    map: &mut [u8],
+    memory: &mut Buffer,
+    map: &mut Buffer,
 ) -> Result<Done, Failure>
-    requires { (length file.now ≤ 65536) × InMemory found × Fits (length file.now) cursor (length lent.now) (length own.now) found × (length memory.old ≡ 65536) × (length map.old ≡ 65536) }
+    requires { InMemory found × Fits (length file.now) cursor (length lent.now) (length own.now) found }
     ensures { Did Ended (ended (applied file.now lent.now own.now cursor found map.old)) write memory.old map.old result memory.new map.new }
 {
+    // The file is limited, and so is the offset behind what is read of it.
+    let _ = file.len();
     match found {
         Block::Plain {
             address,
@@ -65,21 +74,21 @@ pub fn apply(
 }
 
 // Stores the name that a block brings, behind those before it.
+#[tactic(auto, using(words::proofs::Runs::length_part))]
 pub fn store_name(
-    file: &[u8],
+    file: &File,
     found: Block,
     named: usize,
-    new_names: &mut [u8],
-    new_addresses: &mut [u16],
+    new_names: &mut [u8; NAMES],
+    new_addresses: &mut [u16; ADDRESSES],
 )
-    requires { NameFits (length file.now) named found × (length new_names.old ≡ 256) × (length new_addresses.old ≡ 32) }
+    requires { NameFits (length file.now) named found }
     ensures { NameStored file.now found named new_names.old new_addresses.old new_names.new new_addresses.new }
 {
     if let Block::NewName { from, address } = found {
-        let end = from + names::NAME;
         let start = names::NAME * named;
         let stop = start + names::NAME;
-        words::copy(&mut new_names[start..stop], &file[from..end]);
+        words::copy(&mut new_names[start..stop], file.part(from, names::NAME));
         new_addresses[named] = address;
     }
 }
@@ -113,35 +122,40 @@ pub fn advance(cursor: Cursor, found: Block, next: usize) -> Cursor
 }
 
 // Places so many bytes of the file at an address.
+#[tactic(auto, using(words::proofs::Runs::length_part), unfolding(events::specs::Events::adjusted_in))]
 fn place(
-    file: &[u8],
+    file: &File,
     from: usize,
     size: usize,
     address: usize,
     write: bool,
-    memory: &mut [u8],
-    map: &mut [u8],
+    memory: &mut Buffer,
+    map: &mut Buffer,
 ) -> Result<Done, Failure>
-    requires { (length file.now ≤ 65536) × (from + size ≤ length file.now) × (address + size ≤ 65536) × (length memory.old ≡ 65536) × (length map.old ≡ 65536) }
+    requires { (from + size ≤ length file.now) × (address + size ≤ 65536) }
     ensures { Did Ended (ended (placing file.now address from size)) write memory.old map.old result memory.new map.new }
 {
-    let next = from + size;
-    events::place(&file[from..next], address, write, memory, map);
-    Ok(Done { next, adjusted: 0 })
+    // (as in `apply`)
+    let _ = file.len();
+    events::place(file.part(from, size), address, write, memory, map);
+    Ok(Done {
+        next: from + size,
+        adjusted: 0,
+    })
 }
 
 // Places the data of a relocatable block at low, or only reserves room for it there.
 fn place_relocatable(
-    file: &[u8],
+    file: &File,
     from: usize,
     size: u16,
     reserves: bool,
     low: u16,
     write: bool,
-    memory: &mut [u8],
-    map: &mut [u8],
+    memory: &mut Buffer,
+    map: &mut Buffer,
 ) -> Result<Done, Failure>
-    requires { (length file.now ≤ 65536) × (from + data_size reserves size ≤ length file.now) × (low + size ≤ 65535) × (length memory.old ≡ 65536) × (length map.old ≡ 65536) }
+    requires { (from + data_size reserves size ≤ length file.now) × (low + size ≤ 65535) }
     ensures { Did Ended (ended (placing_relocatable reserves file.now low from size)) write memory.old map.old result memory.new map.new }
 {
     if reserves {

@@ -5,6 +5,7 @@ ghost use Rattle.std.specs.Prelude.{◌≡◌, ◌≤◌, length};
 ghost use Rattle.items.specs.Items.{adding, setting, setting_to_block, skipping, read as read_of};
 
 use answer::{Failure, Fault};
+use words::File;
 
 // The highest block number.
 pub const LAST_NUMBER: usize = 7;
@@ -31,21 +32,17 @@ pub enum Item {
 // The item at `at`.
 #[tactic(auto, unfolding(crate::specs::Items::read, answer::specs::Checks::need, answer::specs::Checks::pick))]
 pub fn read(
-    file: &[u8],
+    file: &File,
     table: [Option<Slot>; 8],
     at: usize,
     counter: Option<u16>,
 ) -> Result<Item, Failure>
-    requires { length file.now ≤ 65536 }
     ensures { result ≡ read_of file.now table at counter }
 {
     if file.len() <= at {
-        return Err(Failure {
-            fault: Fault::CutShort,
-            offset: file.len(),
-        });
+        return Err(Fault::CutShort.at(file.len()));
     }
-    match file[at] {
+    match file.byte(at) {
         amount @ 0..=251 => add(at, amount, counter),
         252 => Ok(Item::End(at + 1)),
         253 => set(file, at),
@@ -60,10 +57,7 @@ fn add(at: usize, amount: u8, counter: Option<u16>) -> Result<Item, Failure>
     requires { at ≤ 65536 }
     ensures { result ≡ adding at amount counter }
 {
-    let unusable = Failure {
-        fault: Fault::CounterUnusable,
-        offset: at,
-    };
+    let unusable = Fault::CounterUnusable.at(at);
     let sum = counter.ok_or(unusable)?.checked_add(u16::from(amount));
     let to = sum.filter(|to| *to <= 65534).ok_or(unusable)?;
     Ok(Item::Adjust {
@@ -74,56 +68,38 @@ fn add(at: usize, amount: u8, counter: Option<u16>) -> Result<Item, Failure>
 
 // FD: the counter set by a word, and the word there adjusted.
 #[tactic(auto, unfolding(crate::specs::Items::setting, answer::specs::Checks::need))]
-fn set(file: &[u8], at: usize) -> Result<Item, Failure>
-    requires { (at ≤ length file.now) × (length file.now ≤ 65536) }
+fn set(file: &File, at: usize) -> Result<Item, Failure>
+    requires { at ≤ length file.now }
     ensures { result ≡ setting file.now at }
 {
-    let next = at + 3;
-    if file.len() < next {
-        return Err(Failure {
-            fault: Fault::CutShort,
-            offset: file.len(),
-        });
-    }
-    let counter = words::word_at(file, at + 1);
+    answer::present(file, at, 3)?;
+    let counter = file.word(at + 1);
     if 65534 < counter {
-        return Err(Failure {
-            fault: Fault::CounterUnusable,
-            offset: at,
-        });
+        return Err(Fault::CounterUnusable.at(at));
     }
-    Ok(Item::Adjust { counter, next })
+    Ok(Item::Adjust {
+        counter,
+        next: at + 3,
+    })
 }
 
 // FE: the counter set to the address of a block.
 #[tactic(auto, unfolding(crate::specs::Items::setting_to_block, answer::specs::Checks::need))]
-fn set_to_block(file: &[u8], table: [Option<Slot>; 8], at: usize) -> Result<Item, Failure>
-    requires { (at ≤ length file.now) × (length file.now ≤ 65536) }
+fn set_to_block(file: &File, table: [Option<Slot>; 8], at: usize) -> Result<Item, Failure>
+    requires { at ≤ length file.now }
     ensures { result ≡ setting_to_block file.now table at }
 {
-    let next = at + 2;
-    if file.len() < next {
-        return Err(Failure {
-            fault: Fault::CutShort,
-            offset: file.len(),
-        });
-    }
-    let number = words::wide(file[at + 1]);
+    answer::present(file, at, 2)?;
+    let number = file.byte(at + 1) as usize;
     if LAST_NUMBER < number {
-        return Err(Failure {
-            fault: Fault::NotKnown,
-            offset: at,
-        });
+        return Err(Fault::NotKnown.at(at));
     }
     let Some(slot) = table[number] else {
-        return Err(Failure {
-            fault: Fault::BlockMissing,
-            offset: at,
-        });
+        return Err(Fault::BlockMissing.at(at));
     };
     Ok(Item::Move {
         counter: slot.address,
-        next,
+        next: at + 2,
     })
 }
 
@@ -133,10 +109,7 @@ fn skip(at: usize, counter: Option<u16>) -> Result<Item, Failure>
     requires { at ≤ 65536 }
     ensures { result ≡ skipping at counter }
 {
-    let unusable = Failure {
-        fault: Fault::CounterUnusable,
-        offset: at,
-    };
+    let unusable = Fault::CounterUnusable.at(at);
     let to = counter.ok_or(unusable)?.checked_add(SKIP).ok_or(unusable)?;
     Ok(Item::Move {
         counter: to,

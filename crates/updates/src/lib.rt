@@ -8,8 +8,9 @@ ghost use Rattle.updates.specs.Bodies.{is_loaded, word_loaded, adjusting, applie
 ghost use Rattle.updates.specs.Cursor.{first_cursor, advanced};
 
 use answer::{Failure, Fault};
-use events::Check;
+use events::{Buffer, Check};
 use items::{Item, Slot};
+use words::File;
 
 // What a body comes to that ends at its FC: the offset after it, and the number of words adjusted.
 #[derive(Clone, Copy)]
@@ -28,17 +29,19 @@ pub struct Cursor {
 
 // Carries out a body from its first item, which begins at `at`: each word that it lists grows by the amount.
 pub fn body(
-    file: &[u8],
+    file: &File,
     table: [Option<Slot>; 8],
     amount: u16,
     at: usize,
     write: bool,
-    memory: &mut [u8],
-    map: &mut [u8],
+    memory: &mut Buffer,
+    map: &mut Buffer,
 ) -> Result<Done, Failure>
-    requires { (length file.now ≤ 65536) × (at ≤ length file.now) × (length memory.old ≡ 65536) × (length map.old ≡ 65536) }
+    requires { at ≤ length file.now }
     ensures { Did Ended (ended (body_of file.now table amount at map.old)) write memory.old map.old result memory.new map.new }
 {
+    // The file is limited, and so is what is counted.
+    let _ = file.len();
     let mut cursor = first_cursor(at);
     loop {
         let item = items::read(file, table, cursor.at, cursor.counter)?;
@@ -74,10 +77,10 @@ fn apply(
     at: usize,
     amount: u16,
     write: bool,
-    memory: &mut [u8],
-    map: &mut [u8],
+    memory: &mut Buffer,
+    map: &mut Buffer,
 ) -> Check
-    requires { ((counter next : ℕ) → item ≡ Adjust counter next → counter ≤ 65534) × (length memory.old ≡ 65536) × (length map.old ≡ 65536) }
+    requires { (counter next : ℕ) → item ≡ Adjust counter next → counter ≤ 65534 }
     ensures { Did Check (applied at amount item map.old) write memory.old map.old result memory.new map.new }
 {
     match item {
@@ -89,31 +92,24 @@ fn apply(
 }
 
 // Adjusts the word at an address, if it is loaded (12) and not adjusted since (13). The item that lists it stands at `at`.
+#[tactic(auto, using(words::proofs::Lent::lent_is), unfolding(crate::specs::Bodies::adjusting, answer::specs::Checks::need))]
 fn adjust(
     address: usize,
     at: usize,
     amount: u16,
     write: bool,
-    memory: &mut [u8],
-    map: &mut [u8],
+    memory: &mut Buffer,
+    map: &mut Buffer,
 ) -> Check
-    requires { (address ≤ 65534) × (length memory.old ≡ 65536) × (length map.old ≡ 65536) }
+    requires { address ≤ 65534 }
     ensures { Did Check (adjusting at amount address map.old) write memory.old map.old result memory.new map.new }
 {
-    let loaded = word_loaded(map, address);
-    if !loaded {
-        return Err(Failure {
-            fault: Fault::FieldNotLoaded,
-            offset: at,
-        });
+    if !word_loaded(map, address) {
+        return Err(Fault::FieldNotLoaded.at(at));
     }
     let end = address + 2;
-    let adjusted = words::contains(&map[address..end], events::ADJUSTED);
-    if adjusted {
-        return Err(Failure {
-            fault: Fault::AdjustedTwice,
-            offset: at,
-        });
+    if words::contains(&map[address..end], events::ADJUSTED) {
+        return Err(Fault::AdjustedTwice.at(at));
     }
     events::adjust_word(address, amount, write, memory, map);
     Ok(())

@@ -1,19 +1,14 @@
--- `updates::adjust` meets its contract: the map decides as in the definition, the part of it that is looked at is the word's, and the event is
--- carried out.
+-- `updates::adjust` meets its contract: where the map refuses the word, the answer is the fault at the item's offset.
 -- Assumes nothing.
 use mathlib.Core.Path.{sym, ◌∙◌}
-use Rattle.updates.proofs.Adjusting.{adjusting_unloaded, adjusting_twice, adjusting_done}
+use Rattle.updates.proofs.Adjusting.{adjusting_unloaded, adjusting_twice}
 use Rattle.updates.proofs.adjust.Goals as goal
 
-pub returns-then-not-loaded : goal.returns-then-not-loaded
-returns-then-not-loaded c = adjusting_unloaded _ _ _ _ _ _ (sym c.word_loaded-loaded.ensures ∙ c.if-not-loaded.true)
+pub returns-then-not-word_loaded : goal.returns-then-not-word_loaded
+returns-then-not-word_loaded c =
+    rw c.at.ensures (adjusting_unloaded _ _ _ _ _ _ (sym c.word_loaded.ensures ∙ c.if-not-word_loaded.true))
 
-pub returns-then-adjusted : goal.returns-then-adjusted
-returns-then-adjusted c =
-    adjusting_twice _ _ _ _ _ _ (sym c.word_loaded-loaded.ensures ∙ c.if-not-loaded.false)
-    (sym c.contains-adjusted.ensures ∙ c.if-adjusted.true)
-
-pub returns : goal.returns
-returns c =
-    adjusting_done _ _ _ _ _ _ (sym c.word_loaded-loaded.ensures ∙ c.if-not-loaded.false) _ _
-    (sym c.contains-adjusted.ensures ∙ c.if-adjusted.false) c.adjust_word.ensures
+pub returns-then-contains : goal.returns-then-contains
+returns-then-contains c =
+    rw c.at-then-contains.ensures
+    (adjusting_twice _ _ _ _ _ _ (sym c.word_loaded.ensures ∙ c.if-not-word_loaded.false) (sym c.contains.ensures ∙ c.if-contains.true))

@@ -7,44 +7,38 @@ use Rattle.updates.proofs.Going.{item_fits, going_first, going_unread, going_fai
 use Rattle.updates.proofs.body.Goals as goal
 
 pub loop-item-init : goal.loop-item-init
-loop-item-init c =
-    (c.requires.2, c.requires.3, rw c.first_cursor-cursor.ensures (going_first c.requires.1))
+loop-item-init c = rw c.first_cursor-cursor.ensures (going_first c.requires)
 
 -- the fault of what was read, or of the item, is that of the body
 pub returns-in_err-item : goal.returns-in_err-item
 returns-in_err-item c =
     let p = err_from_is_err_and c.from_residual.result c.from_residual.ensures.1 in
-    rw (p.1, p.2) (going_unread c.loop-item.invariant.2 (sym c.in_err-item.was ∙ c.read.ensures))
+    rw (p.1, p.2) (going_unread c.loop-item.invariant (sym c.in_err-item.was ∙ c.read.ensures))
 
 pub apply-requires : goal.apply-requires
-apply-requires c =
-    let l = c.loop-item in
-    (item_fits _ _ _ _ _ (sym c.in_ok-item.was ∙ c.read.ensures), l.invariant.0, l.invariant.1)
+apply-requires c = item_fits _ _ _ _ _ (sym c.in_ok-item.was ∙ c.read.ensures)
 
 pub returns-in_err-apply : goal.returns-in_err-apply
 returns-in_err-apply c =
     let p = err_from_is_err_and c.from_residual-in_err-apply.result c.from_residual-in_err-apply.ensures.1 in
-    rw (p.1, p.2) (going_fails c.loop-item.invariant.2 (sym c.in_ok-item.was ∙ c.read.ensures) c.apply.ensures c.in_err-apply.was)
+    rw (p.1, p.2) (going_fails c.loop-item.invariant (sym c.in_ok-item.was ∙ c.read.ensures) c.apply.ensures c.in_err-apply.was)
 
 pub returns-in-End : goal.returns-in-End
 returns-in-End c =
-    going_ends c.loop-item.invariant.2 (sym c.in_ok-item.was ∙ c.read.ensures) c.in_ok-apply.ensures c.in-End.is
+    going_ends c.loop-item.invariant (sym c.in_ok-item.was ∙ c.read.ensures) c.in_ok-apply.ensures c.in-End.is
 
 pub loop-item-smaller : goal.loop-item-smaller
 loop-item-smaller c =
     let l = c.loop-item.invariant in
     let is = sym c.in_ok-item.was ∙ c.read.ensures in
     let on = onward_unless_end _ c.in_default.not-End in
-    let a = rw (← c.advance-cursor.ensures) at (going_further l.2 is c.in_ok-apply.ensures on) in
-    let g = rw (← c.advance-cursor.ensures) at (going_on l.2 is c.in_ok-apply.ensures on) in
+    let a = rw (← c.advance-cursor.ensures) at (going_further l is c.in_ok-apply.ensures on) in
+    let g = rw (← c.advance-cursor.ensures) at (going_on l is c.in_ok-apply.ensures on) in
     omega (arith, a, g.inside)
 
 pub loop-item-preserved : goal.loop-item-preserved
 loop-item-preserved c =
     let l = c.loop-item.invariant in
     let is = sym c.in_ok-item.was ∙ c.read.ensures in
-    let on = onward_unless_end _ c.in_default.not-End in (
-      c.apply.auto.memory ∙ l.0,
-      c.apply.auto.map ∙ l.1,
-      rw c.advance-cursor.ensures (going_on l.2 is c.in_ok-apply.ensures on),
-    )
+    let on = onward_unless_end _ c.in_default.not-End in
+    rw c.advance-cursor.ensures (going_on l is c.in_ok-apply.ensures on)
