@@ -10,6 +10,9 @@ ghost use Rattle.pairs.specs.Pairs.{paired, Loads};
 
 use answer::{Fault, Outcome};
 
+// The buffer for the pairs of new addresses.
+const PAIRS: usize = 2 * passes::ADDRESSES;
+
 // Loads a file. Refuses with the first fault; memory and the buffers for new names are then as they were.
 pub fn load(
     file: &[u8],
@@ -25,9 +28,15 @@ pub fn load(
     ensures { Loads file.now (inputs known_names.now known_addresses.now low high) Bool.true (buffers memory.old map.old new_names.old new_addresses.old) result (buffers memory.new map.new new_names.new new_addresses.new) }
 {
     let size = known_addresses.len();
-    if size % 2 != 0 || 2 * sdx::KNOWN < size || new_addresses.len() != 2 * passes::ADDRESSES {
+    if size % 2 != 0 {
         return answer::refused(Fault::WrongBuffer, 0);
     }
+    if 2 * sdx::KNOWN < size {
+        return answer::refused(Fault::WrongBuffer, 0);
+    }
+    let Some(new_addresses) = new_addresses.as_mut_array() else {
+        return answer::refused(Fault::WrongBuffer, 0);
+    };
     load_words(
         file,
         low,
@@ -51,9 +60,9 @@ fn load_words(
     memory: &mut [u8],
     map: &mut [u8],
     new_names: &mut [u8],
-    new_addresses: &mut [u8],
+    new_addresses: &mut [u8; PAIRS],
 ) -> Outcome
-    requires { (paired known_addresses.now ≡ Bool.true) × (length known_addresses.now ≤ 512) × (length new_addresses.old ≡ 64) }
+    requires { (paired known_addresses.now ≡ Bool.true) × (length known_addresses.now ≤ 512) }
     ensures { Loads file.now (inputs known_names.now known_addresses.now low high) Bool.true (buffers memory.old map.old new_names.old new_addresses.old) result (buffers memory.new map.new new_names.new new_addresses.new) }
 {
     let mut known = [0u16; sdx::KNOWN];

@@ -10,11 +10,9 @@ ghost use Rattle.passes.specs.Parts.{totals, Walked, Checked, Reported};
 
 use answer::{Acceptance, Failure, Outcome};
 use blocks::Cursor;
-
-// The buffers for new names: their bytes, and their addresses.
-pub const NAMES: usize = 256;
-
-pub const ADDRESSES: usize = 32;
+pub use effects::{ADDRESSES, NAMES};
+use events::Buffer;
+use words::File;
 
 // Where a program's start stands.
 const START: usize = 0x02E0;
@@ -32,16 +30,17 @@ pub struct Totals {
 pub type WalkEnd = Result<Totals, Failure>;
 
 // Goes through all blocks and only checks them, with buffers of its own for new names. The map is clear again after it.
+#[tactic(auto, using(crate::proofs::Finishing::checked_as, events::proofs::Events::cleared))]
 pub fn check(
-    file: &[u8],
+    file: &File,
     low: u16,
     high: u16,
     known_names: &[u8],
     known_addresses: &[u16],
-    memory: &mut [u8],
-    map: &mut [u8],
+    memory: &mut Buffer,
+    map: &mut Buffer,
 ) -> WalkEnd
-    requires { (length file.now ≤ 65536) × (length known_names.now ≡ 8 * length known_addresses.now) × (length memory.old ≡ 65536) × (length map.old ≡ 65536) × (map.old ≡ blank) }
+    requires { (length known_names.now ≡ 8 * length known_addresses.now) × (map.old ≡ blank) }
     ensures { Checked (blocks_of file.now (inputs known_names.now known_addresses.now low high)) memory.old result memory.new map.new }
 {
     let mut names = [0u8; NAMES];
@@ -65,48 +64,50 @@ pub fn check(
 // Goes through all blocks of a file, over a clear map. `write` decides whether memory is written too; new names go to the buffers lent for them, behind
 // those before them.
 pub fn walk(
-    file: &[u8],
+    file: &File,
     low: u16,
     high: u16,
     lent_names: &[u8],
     lent_addresses: &[u16],
     write: bool,
-    memory: &mut [u8],
-    map: &mut [u8],
-    new_names: &mut [u8],
-    new_addresses: &mut [u16],
+    memory: &mut Buffer,
+    map: &mut Buffer,
+    new_names: &mut [u8; NAMES],
+    new_addresses: &mut [u16; ADDRESSES],
 ) -> WalkEnd
-    requires { (length file.now ≤ 65536) × (length lent_names.now ≡ 8 * length lent_addresses.now) × (length memory.old ≡ 65536) × (length map.old ≡ 65536) × (length new_names.old ≡ 256) × (length new_addresses.old ≡ 32) × (map.old ≡ blank) }
+    requires { (length lent_names.now ≡ 8 * length lent_addresses.now) × (map.old ≡ blank) }
     ensures { Walked (blocks_of file.now (inputs lent_names.now lent_addresses.now low high)) write (buffers memory.old map.old new_names.old new_addresses.old) result (buffers memory.new map.new new_names.new new_addresses.new) }
 {
+    let end = file.len();
     let mut cursor = effects::first_cursor(low);
     let mut bytes = 0;
     let mut fields = 0;
     loop {
-        if cursor.at == file.len() {
+        if cursor.at == end {
             return Ok(total(cursor, bytes, fields));
         }
         let named = cursor.named;
         let size = names::NAME * named;
         let found = blocks::read(file, high, lent_names, &new_names[0..size], cursor)?;
         let own = &new_addresses[0..named];
-        let end = effects::apply(file, found, cursor, lent_addresses, own, write, memory, map)?;
+        let done = effects::apply(file, found, cursor, lent_addresses, own, write, memory, map)?;
         effects::store_name(file, found, named, new_names, new_addresses);
         bytes += effects::placed_by(found);
-        fields += end.adjusted;
-        cursor = effects::advance(cursor, found, end.next);
+        fields += done.adjusted;
+        cursor = effects::advance(cursor, found, done.next);
     }
 }
 
 // Reports the acceptance of a file whose blocks are carried out, and clears the rest of the buffers for new names.
+#[tactic(auto, using(crate::proofs::Finishing::reported_as, crate::proofs::Finishing::rest_cleared))]
 pub fn finish(
     totals: Totals,
-    memory: &[u8],
-    map: &[u8],
-    new_names: &mut [u8],
-    new_addresses: &mut [u16],
+    memory: &Buffer,
+    map: &Buffer,
+    new_names: &mut [u8; NAMES],
+    new_addresses: &mut [u16; ADDRESSES],
 ) -> Outcome
-    requires { (totals.named ≤ 32) × (totals.placed ≤ 65536) × (totals.adjusted ≤ 65536) × (length memory.now ≡ 65536) × (length map.now ≡ 65536) × (length new_names.old ≡ 256) × (length new_addresses.old ≡ 32) }
+    requires { (totals.named ≤ 32) × (totals.placed ≤ 65536) × (totals.adjusted ≤ 65536) }
     ensures { Reported totals (buffers memory.now map.now new_names.old new_addresses.old) result new_names.new new_addresses.new }
 {
     let named = totals.named;
@@ -136,8 +137,7 @@ fn total(cursor: Cursor, placed: usize, adjusted: usize) -> Totals
 
 // Where the program starts: the word at its place, if it is loaded.
 #[tactic(auto, unfolding(crate::specs::Buffers::start_in, answer::specs::Checks::pick))]
-fn start(memory: &[u8], map: &[u8]) -> Option<u16>
-    requires { (length memory.now ≡ 65536) × (length map.now ≡ 65536) }
+fn start(memory: &Buffer, map: &Buffer) -> Option<u16>
     ensures { result ≡ start_in map.now memory.now }
 {
     if updates::word_loaded(map, START) {

@@ -5,10 +5,11 @@ use mathlib.Core.List.{List, [], ◌++◌}
 use mathlib.Core.Path.{◌≡◌, refl, sym, ap, ◌∙◌}
 use Prim.Native.Nat.{ℕ, ◌+◌, ◌*◌, ◌≤◌}
 use native.Mathlib.Omega.{arith}
-use borrow.Author.Tests.{leb-true, eqb-true}
+use borrow.Author.Tests.{leb-true, eqb-true, eq-eqb}
 use lib.Dec.{leb, eqb}
 use lib.ListN.{length}
 use Rattle.std.proofs.Common.{Option, None, Ok, Err}
+use Rattle.std.proofs.lemmas.Bool.{false_from_ne_true}
 use Rattle.answer.proofs.Checks.{and_true}
 use Rattle.answer.specs.Checks.{need, pick}
 use Rattle.answer.specs.Report.{Outcome, acceptance, refusal, placed_of, adjusted_of}
@@ -188,7 +189,7 @@ at_once_carried file g e f clear = rw e (record { outcome = f; memory = refl; ma
 
 module _ (file : List ℕ) (g : Inputs) where
   -- some length is wrong: 1, and nothing is changed
-  pub loaded_wrong : (right : Bool) (b : Buffers) (r : Outcome) → right ≡ false → r ≡ refusal WrongBuffer 0 0 → Loaded file g right b r b
+  loaded_wrong : (right : Bool) (b : Buffers) (r : Outcome) → right ≡ false → r ≡ refusal WrongBuffer 0 0 → Loaded file g right b r b
   unfolding call need pick
   loaded_wrong right b r h e =
       record {
@@ -217,12 +218,11 @@ module _ (file : List ℕ) (g : Inputs) where
       }
 
   -- (it clears the map before anything else, so what the map held does not matter)
-  pub loaded_sized : {right : Bool} {m p p₀ ns ads : List ℕ} {r : Outcome} {b' : Buffers} → right ≡ true → Loaded file g true (buffers m p₀ ns ads) r b'
-      → Loaded file g right (buffers m p ns ads) r b'
+  pub loaded_cleared : {m p p₀ ns ads : List ℕ} {r : Outcome} {b' : Buffers} → Loaded file g true (buffers m p₀ ns ads) r b'
+      → Loaded file g true (buffers m p ns ads) r b'
   unfolding pick
-  loaded_sized e d =
-      rw e
-      (record {
+  loaded_cleared d =
+      record {
         outcome = d.outcome;
         memory = d.memory;
         map = d.map;
@@ -230,14 +230,12 @@ module _ (file : List ℕ) (g : Inputs) where
         addresses = d.addresses;
         placed_fits = d.placed_fits;
         adjusted_fits = d.adjusted_fits;
-      })
+      }
 
   -- refused before the first block
-  pub loaded_at_once : {right : Bool} {m p ns ads p' : List ℕ} {d : Failure} {r : Outcome} → right ≡ true
-      → admitting file g ≡ Err d
-      → r ≡ refusal d.fault d.offset 0 → p' ≡ blank → Loaded file g right (buffers m p ns ads) r (buffers m p' ns ads)
-  loaded_at_once {m = m} {p = p} {ns = ns} {ads = ads} {p' = p'} {r = r} h e f clear =
-      loaded_sized h (loaded_right (buffers m p ns ads) r (buffers m p' ns ads) (at_once_carried file g e f clear))
+  pub loaded_at_once : {m p ns ads p' : List ℕ} {d : Failure} {r : Outcome} → admitting file g ≡ Err d
+      → r ≡ refusal d.fault d.offset 0 → p' ≡ blank → Loaded file g true (buffers m p ns ads) r (buffers m p' ns ads)
+  loaded_at_once e f clear = loaded_right _ _ _ (at_once_carried file g e f clear)
 
   -- the blocks decide
   module _ (entered : admitting file g ≡ Ok tt) where
@@ -258,26 +256,46 @@ module _ (file : List ℕ) (g : Inputs) where
         → Loaded file g true (buffers m p ns ads) r (buffers m₂ p₂ ns₃ ads₃)
     blocks_accepted first e room spots second answered = loaded_right _ _ _ (rw load_blocks (carried_accepted first e room spots second answered))
 
+-- ---- the lengths
+
 -- all that is lent has its length
 pub record Sizes (g : Inputs) (b : Buffers) : Type 0 where
   pub memory : length b.memory ≡ 65536
   pub map : length b.map ≡ 65536
   pub names : length b.names ≡ 256
   pub addresses : length b.addresses ≡ 32
-  pub known : length g.names ≡ 8 * length g.addresses
+  pub known : listed g ≡ true
 
--- so it is where the test of the lengths holds
+-- so it is exactly where the test of the lengths holds
 pub right_sizes : (g : Inputs) (b : Buffers) → sized g b ≡ true → Sizes g b
 right_sizes g b e =
     let h = and_true (eqb (length b.memory) 65536) _ e in
     let i = and_true (eqb (length b.map) 65536) _ h.1 in
     let j = and_true (eqb (length b.names) 256) _ i.1 in
     let k = and_true (eqb (length b.addresses) 32) (listed g) j.1 in
-    let l = and_true (leb (length g.addresses) 256) _ k.1 in
     record {
       memory = eqb-true _ _ h.0;
       map = eqb-true _ _ i.0;
       names = eqb-true _ _ j.0;
       addresses = eqb-true _ _ k.0;
-      known = eqb-true _ _ l.1;
+      known = k.1;
     }
+
+module _ {file : List ℕ} {g : Inputs} {m p ns ads : List ℕ} {r : Outcome} where
+  -- some length is wrong: 1, and all is as it was
+  pub wrong_sizes : {m' p' ns' ads' : List ℕ} → (Sizes g (buffers m p ns ads) → ⊥) → r ≡ refusal WrongBuffer 0 0
+      → m' ≡ m → p' ≡ p → ns' ≡ ns → ads' ≡ ads
+      → Loaded file g (sized g (buffers m p ns ads)) (buffers m p ns ads) r (buffers m' p' ns' ads')
+  wrong_sizes h e i j k l =
+      rw (i, j, k, l) (loaded_wrong file g _ _ r (false_from_ne_true _ (λ f. h (right_sizes g (buffers m p ns ads) f))) e)
+
+  -- and where none is, it is a load
+  pub all_sizes : {m₀ p₀ ns₀ ads₀ : List ℕ} {b' : Buffers} → Sizes g (buffers m p ns ads) → Loaded file g true (buffers m₀ p₀ ns₀ ads₀) r b'
+      → m₀ ≡ m → p₀ ≡ p → ns₀ ≡ ns → ads₀ ≡ ads
+      → Loaded file g (sized g (buffers m p ns ads)) (buffers m p ns ads) r b'
+  all_sizes s d i j k l =
+      rw (eq-eqb _ _ s.memory, eq-eqb _ _ s.map, eq-eqb _ _ s.names, eq-eqb _ _ s.addresses, s.known) (rw (i, j, k, l) at d)
+
+-- the known names have their bytes
+pub known_bytes : (g : Inputs) → listed g ≡ true → length g.names ≡ 8 * length g.addresses
+known_bytes g e = eqb-true _ _ (and_true (leb (length g.addresses) 256) _ e).1

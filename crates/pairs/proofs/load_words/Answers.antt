@@ -12,7 +12,7 @@ returns-else-is_ok c =
     let a = c.args in
     let k = c.decode_words in
     loads_refused a.file.now (inputs c.args.known_names.now c.args.known_addresses.now a.low a.high)
-    (buffers a.memory.now a.map.now a.new_names.now a.new_addresses.now) _ _ _ _ c.requires.0 c.requires.2
+    (buffers a.memory.now a.map.now a.new_names.now a.new_addresses.now) _ _ _ _ c.requires.0 (omega arith)
     (known_front c.args.known_addresses.now k.new.words _ k.ensures (omega (arith, c.requires.1))) c.load-outcome.ensures
     (sym c.is_ok.ensures.value ∙ c.if-is_ok.false) refl
 
@@ -21,6 +21,6 @@ returns-then-is_ok c =
     let a = c.args in
     let k = c.decode_words in
     loads_accepted a.file.now (inputs c.args.known_names.now c.args.known_addresses.now a.low a.high)
-    (buffers a.memory.now a.map.now a.new_names.now a.new_addresses.now) _ _ _ _ c.requires.0 c.requires.2
+    (buffers a.memory.now a.map.now a.new_names.now a.new_addresses.now) _ _ _ _ c.requires.0 (omega arith)
     (known_front c.args.known_addresses.now k.new.words _ k.ensures (omega (arith, c.requires.1))) c.load-outcome.ensures
     (sym c.is_ok.ensures.value ∙ c.if-is_ok.true) c.encode_words.ensures.0 c.encode_words.ensures.1

@@ -1,6 +1,5 @@
 -- `passes::walk` meets its contract: the definition's walk has come to the cursor, with the buffers as what it did left them (`Going`).
 -- Assumes nothing.
-use mathlib.Core.Path.{◌≡◌}
 use Prim.Native.Nat.{◌-◌}
 use lib.ListN.{length}
 use Rattle.passes.proofs.Going.{Going}
@@ -10,8 +9,7 @@ use Rattle.passes.proofs.walk.Given as goal
 
 abbrev pub invariant-loop-cursor : goal.invariant-loop-cursor
 invariant-loop-cursor l =
-    (length l.memory ≡ 65536) × (length l.map ≡ 65536) × (length l.new_names ≡ 256) × (length l.new_addresses ≡ 32)
-    × Going l.file (inputs l.lent_names l.lent_addresses l.low l.high) l.write (buffers l.initial.memory l.initial.map l.initial.new_names l.initial.new_addresses) l.cursor l.bytes l.fields
+    Going l.file (inputs l.lent_names l.lent_addresses l.low l.high) l.write (buffers l.initial.memory l.initial.map l.initial.new_names l.initial.new_addresses) l.cursor l.bytes l.fields
     (buffers l.memory l.map l.new_names l.new_addresses)
 
 abbrev pub decreases-loop-cursor : goal.decreases-loop-cursor

@@ -1,69 +1,31 @@
--- `sdx::load` meets its contract: where a length is wrong it touches nothing; where none is, it clears the map, and the checks before the first
--- block and then the blocks decide.
+-- `sdx::load` meets its contract: where a length is wrong it touches nothing.
 -- Assumes nothing.
-use mathlib.Core.Bool.{true}
-use mathlib.Core.Path.{◌≡◌, sym, ◌∙◌}
-use native.Mathlib.Omega.{arith}
-use Rattle.std.proofs.Common.{Ok}
-use Rattle.events.proofs.Events.{cleared}
-use Rattle.passes.specs.Buffers.{buffers}
+use mathlib.Core.Path.{sym, ◌∙◌}
+use Rattle.std.proofs.Common.{rules}
+use Rattle.std.proofs.lemmas.Bool.{true≢false}
 use Rattle.passes.specs.Walk.{inputs}
-use Rattle.sdx.proofs.Calling.{admit_settings, admitted, range_bounds, loaded_wrong, loaded_sized, loaded_at_once, right_sizes}
-use Rattle.sdx.proofs.Faults.{admit_fits}
-use Rattle.sdx.specs.Call.{sized, admitting}
+use Rattle.sdx.proofs.Calling.{wrong_sizes, known_bytes}
 use Rattle.sdx.proofs.load.Goals as goal
 
-pub returns-then-not-is_sized : goal.returns-then-not-is_sized
-returns-then-not-is_sized c = loaded_wrong _ _ _ _ _ (sym c.is_sized.ensures ∙ c.if-not-is_sized.true) c.refused.ensures
+pub returns-then-not-is_listed : goal.returns-then-not-is_listed
+returns-then-not-is_listed c =
+    wrong_sizes (λ s. true≢false (sym s.known ∙ sym c.is_listed.ensures ∙ c.if-not-is_listed.true)) c.refused-wrong.ensures (search rules) (search rules) (search rules) (search rules)
 
-pub refused-requires-in-Err : goal.refused-requires-in-Err
-refused-requires-in-Err c =
-    let h = admit_fits _ _ (sym c.admit.ensures ∙ c.in-Err.is) in
-    omega (arith, h)
+pub returns-in_default : goal.returns-in_default
+returns-in_default c =
+    wrong_sizes (λ s. c.in_default.ensures.cases s.memory) c.refused-wrong.ensures (search rules) (search rules) (search rules) (search rules)
 
-pub returns-in-Err : goal.returns-in-Err
-returns-in-Err c =
-    let a = c.args in
-    let g = inputs c.args.known_names.now c.args.known_addresses.now a.low a.high in
-    let b = buffers a.memory.now a.map.now a.new_names.now a.new_addresses.now in
-    let right : sized g b ≡ true = sym c.is_sized.ensures ∙ c.if-not-is_sized.false in
-    loaded_at_once _ _ right (sym (admit_settings _ _ _ _ _) ∙ sym c.admit.ensures ∙ c.in-Err.is) c.refused-in-Err.ensures
-    (cleared _ _ (right_sizes g b right).map (c.fill.ensures.after (λ y e. e)))
+pub returns-in_default-as_mut_array : goal.returns-in_default-as_mut_array
+returns-in_default-as_mut_array c =
+    wrong_sizes (λ s. c.in_default-as_mut_array.ensures.cases s.map) c.refused-wrong.ensures (search rules) (search rules) (search rules) (search rules)
 
-pub overflow_cast-low : goal.overflow_cast-low
-overflow_cast-low c =
-    let a = c.args in
-    let g = inputs c.args.known_names.now c.args.known_addresses.now a.low a.high in
-    let passed : admitting a.file.now g ≡ Ok tt = sym (admit_settings _ _ _ _ _) ∙ sym c.admit.ensures ∙ c.in_default.is in
-    let h = range_bounds g (admitted _ g passed).settings in
-    omega (arith, h.0, h.1)
+pub returns-in_default-as_mut_array-2 : goal.returns-in_default-as_mut_array-2
+returns-in_default-as_mut_array-2 c =
+    wrong_sizes (λ s. c.in_default-as_mut_array-2.ensures.cases s.names) c.refused-wrong.ensures (search rules) (search rules) (search rules) (search rules)
 
-pub overflow_cast-high : goal.overflow_cast-high
-overflow_cast-high c =
-    let a = c.args in
-    let g = inputs c.args.known_names.now c.args.known_addresses.now a.low a.high in
-    let passed : admitting a.file.now g ≡ Ok tt = sym (admit_settings _ _ _ _ _) ∙ sym c.admit.ensures ∙ c.in_default.is in
-    let h = range_bounds g (admitted _ g passed).settings in
-    omega (arith, h.1)
+pub returns-in_default-as_mut_array-3 : goal.returns-in_default-as_mut_array-3
+returns-in_default-as_mut_array-3 c =
+    wrong_sizes (λ s. c.in_default-as_mut_array-3.ensures.cases s.addresses) c.refused-wrong.ensures (search rules) (search rules) (search rules) (search rules)
 
-pub load_blocks-requires : goal.load_blocks-requires
-load_blocks-requires c =
-    let a = c.args in
-    let g = inputs c.args.known_names.now c.args.known_addresses.now a.low a.high in
-    let b = buffers a.memory.now a.map.now a.new_names.now a.new_addresses.now in
-    let right : sized g b ≡ true = sym c.is_sized.ensures ∙ c.if-not-is_sized.false in
-    let passed : admitting a.file.now g ≡ Ok tt = sym (admit_settings _ _ _ _ _) ∙ sym c.admit.ensures ∙ c.in_default.is in
-    let l = right_sizes g b right in (
-      (admitted _ g passed).fits,
-      l.known,
-      l.memory,
-      c.fill.auto.self ∙ l.map,
-      l.names,
-      l.addresses,
-      cleared _ _ l.map (c.fill.ensures.after (λ y e. e)),
-      passed,
-    )
-
-pub returns : goal.returns
-returns c =
-    loaded_sized _ _ (sym c.is_sized.ensures ∙ c.if-not-is_sized.false) c.load_blocks.ensures
+pub load_sized-requires : goal.load_sized-requires
+load_sized-requires c = known_bytes (inputs _ _ 0 0) (sym c.is_listed.ensures ∙ c.if-not-is_listed.false)
