@@ -8,6 +8,7 @@ use borrow.Rule.Slice.PartMut.{mid_of, put_mid}
 use lib.ListN.{length}
 use Rattle.std.proofs.Common.{Ok, Err}
 use Rattle.acx.proofs.WellPlaced.{fits_memory}
+use Rattle.answer.specs.declared.Fault.{Fault}
 use Rattle.entries.proofs.Reading.{lies_as}
 use Rattle.entries.specs.Entries.{Read, fields_to, read}
 use Rattle.entries.specs.declared.IndexEntry.TheVariants.{Code, End}
@@ -167,21 +168,15 @@ module _ {index : List ℕ} {old new : Bases} {m t₀ : List ℕ} where
     found_there = subst (There index last x.progress) found_is (there index last x.progress x.whole.holds.end x.onto)
 
     -- at the end entry all pieces are gathered
-    gathered_all : x.progress ≡ last → t ≡ transfer old new (pieces_of (ruling_of (the_index index) old new)) m t₀
-    gathered_all e =
+    pub gathering_end : {entry : Entry} {next : ℕ} → found ≡ Ok (End entry next) → t ≡ transfer old new (pieces_of (ruling_of (the_index index) old new)) m t₀
+    gathering_end e =
         x.gathered
-        ∙ ap (λ (s : Progress). transfer old new s.outlines m t₀) e
+        ∙ ap (λ (s : Progress). transfer old new s.outlines m t₀) (subst (There index last x.progress) e found_there)
         ∙ ap (λ (os : List Outline). transfer old new os m t₀) (sym x.whole.holds.outlines)
 
-    -- what is no code is the end entry: none is at fault
-    pub gathering_end : ((kind : Kind) (address n from count : ℕ) → found ≡ Ok (Code kind address n from count) → ⊥)
-        → t ≡ transfer old new (pieces_of (ruling_of (the_index index) old new)) m t₀
-    gathering_end none = by found refl found_there
-      where
-        by : (r : Read) → found ≡ r → There index last x.progress r → t ≡ transfer old new (pieces_of (ruling_of (the_index index) old new)) m t₀
-        by (Ok (Code kind address n from count)) e h = absurd (none kind address n from count e)
-        by (Ok (End entry next)) e h = gathered_all h
-        by (Err fault) e h = absurd h
+    -- no entry is at fault
+    pub gathering_fault : {fault : Fault} → found ≡ Err fault → t ≡ transfer old new (pieces_of (ruling_of (the_index index) old new)) m t₀
+    gathering_fault e = absurd (subst (There index last x.progress) e found_there)
 
     module _ {kind : Kind} {address n from count : ℕ} (e : found ≡ Ok (Code kind address n from count)) where
       onward : Onto index last (stepped index x.progress (Ok (Code kind address n from count)))

@@ -1,15 +1,9 @@
 -- The loops over the fields that a fixup record or an entry lists: one field after the other has its old amount off and its new one on.
 -- Assumes nothing.
-use mathlib.Core.List.{List, [], ◌∷◌, ◌++◌}
+use mathlib.Core.List.{List, [], ◌∷◌}
 use mathlib.Core.Path.{◌≡◌, refl, sym, ap, ◌∙◌}
-use Prim.Native.Nat.{ℕ, ◌+◌, ◌≤◌, ◌<◌}
-use native.Mathlib.Omega.{arith}
-use lib.ListN.{length, get_or}
-use Rattle.std.proofs.Common.{Option}
-use Rattle.entries.proofs.Listing.{last_listed}
-use Rattle.entries.specs.Entries.{listed, joined, fields_to}
-use Rattle.records.specs.Records.{type_of}
-use Rattle.records.specs.declared.Kind.{Kind}
+use Prim.Native.Nat.{ℕ, ◌+◌, ◌≤◌}
+use lib.ListN.{length}
 use Rattle.pieces.specs.Places.{Inside}
 use Rattle.pieces.specs.Pieces.{width, amount_of, edited}
 use Rattle.pieces.specs.declared.Bases.{Bases}
@@ -68,20 +62,3 @@ module _ {old new : Bases} {all : List Field} {bs : List ℕ} where
   pub shifting_end : {rest : List Field} {cs : List ℕ} → rest ≡ [] → Shifting old new all bs rest cs → cs ≡ edited (shift old new) all bs
   unfolding edited
   shifting_end {rest} {cs} e x = sym (x.same ∙ ap (λ (fs : List Field). edited (shift old new) fs cs) e)
-
--- ---- the fixups of an entry, taken from the front
-
--- what the first fixup lists comes before what those after it do
-pub fixup_first : (kind : Kind) (items item rest : List ℕ) {l : Option Field} → items ≡ item ++ rest → length item ≡ 3
-    → l ≡ listed kind (type_of (get_or item 0 0)) (get_or item 1 0) (get_or item 2 0)
-    → fields_to kind items ≡ joined l (fields_to kind rest)
-unfolding fields_to
-fixup_first kind items [] rest s n e = absurd (omega (arith, n))
-fixup_first kind items (t ∷ []) rest s n e = absurd (omega (arith, n))
-fixup_first kind items (t ∷ i ∷ []) rest s n e = absurd (omega (arith, n))
-fixup_first kind items (t ∷ i ∷ lsb ∷ []) rest {l} s n e = ap (fields_to kind) s ∙ ap (λ (o : Option Field). joined o (fields_to kind rest)) (sym e)
-fixup_first kind items (t ∷ i ∷ lsb ∷ x ∷ xs) rest s n e = absurd (omega (arith, n))
-
--- fewer than three bytes list nothing
-pub fixup_none : (kind : Kind) (rest : List ℕ) → length rest < 3 → fields_to kind rest ≡ []
-fixup_none kind rest h = last_listed kind rest 0 h
