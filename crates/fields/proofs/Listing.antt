@@ -21,13 +21,6 @@ item_some ZeroPageByte = omega arith
 item_some Word = omega arith
 item_some HighByte = omega arith
 
--- an item has two bytes at most
-pub item_le : (fixup : Fixup) → item_size fixup ≤ 2
-item_le LowByte = omega arith
-item_le ZeroPageByte = omega arith
-item_le Word = omega arith
-item_le HighByte = omega arith
-
 -- a byte, and the bytes after it
 drop_next : (items : List ℕ) (i : ℕ) → i + 1 ≤ length items → drop i items ≡ get_or items i 0 ∷ drop (i + 1) items
 drop_next items i h =
@@ -97,20 +90,6 @@ fields_none ZeroPageByte items i h = ap (singles ZeroPageByte) (drop_of_length-l
 fields_none Word items i h = ap (singles Word) (drop_of_length-le items {i = i} (omega arith))
 fields_none HighByte items i h = pairs_none (drop i items) (rw length-drop (omega arith))
 
--- the same where the program has the item's size as a number k: a whole item lists the next field
-pub next_field : (fixup : Fixup) (items : List ℕ) (i k : ℕ) (f : Field) → k ≡ item_size fixup → i + k ≤ length items
-    → f ∷ [] ≡ fields_of fixup (part items i (item_size fixup))
-    → fields_of fixup (drop i items) ≡ f ∷ fields_of fixup (drop (i + k) items)
-next_field fixup items i k f ek h ef =
-    let g : i + item_size fixup ≤ length items = rw (← ek) h in
-    rw ek (fields_more fixup items i f g ef)
-
--- where no whole item is left, no field is
-pub last_field : (fixup : Fixup) (items : List ℕ) (i k : ℕ) → k ≡ item_size fixup → length items < i + k → fields_of fixup (drop i items) ≡ []
-last_field fixup items i k ek h =
-    let g : length items < i + item_size fixup = rw (← ek) h in
-    fields_none fixup items i g
-
 -- the same of items that are taken one after another: the first of them lists the next field
 pub item_next : (fixup : Fixup) (items item rest : List ℕ) {f : Field} → items ≡ item ++ rest → length item ≡ item_size fixup
     → f ∷ [] ≡ fields_of fixup (part item 0 (item_size fixup))
@@ -121,13 +100,13 @@ item_next fixup items item rest {f} s l e =
     let whole : part item 0 k ≡ part (item ++ rest) 0 k = rw (← l) (take-length item ∙ sym (take-append_seam item rest)) in
     let n : 0 + k ≡ length item = omega (arith, l) in
     ap (fields_of fixup) s
-    ∙ next_field fixup (item ++ rest) 0 k f refl (omega (arith, l, length-append item rest)) (e ∙ ap (fields_of fixup) whole)
+    ∙ fields_more fixup (item ++ rest) 0 f (omega (arith, l, length-append item rest)) (e ∙ ap (fields_of fixup) whole)
     ∙ ap (λ (i : ℕ). f ∷ fields_of fixup (drop i (item ++ rest))) n
     ∙ ap (λ (xs : List ℕ). f ∷ fields_of fixup xs) (drop-append_seam item rest)
 
 -- and fewer bytes list none
 pub item_none : (fixup : Fixup) (rest : List ℕ) → length rest < item_size fixup → fields_of fixup rest ≡ []
-item_none fixup rest h = last_field fixup rest 0 (item_size fixup) refl (omega (arith, h))
+item_none fixup rest h = fields_none fixup rest 0 (omega (arith, h))
 
 -- an index is a field
 length_singles : (fixup : Fixup) (items : List ℕ) → length (singles fixup items) ≡ length items
