@@ -9,10 +9,11 @@ ghost use Rattle.pieces.specs.Pieces.{place_at, limit_of, amount_of, adjustment}
 ghost use Rattle.pieces.specs.Places.{Inside};
 ghost use Rattle.pieces.specs.AtBases.{placing, adjusting, ending, start_of, EndsBy, applied};
 
-use answer::{Failure, Fault};
-use events::Check;
+use answer::Fault;
+use events::{Buffer, Check};
 use fields::{Field, Fixup};
 use records::{Entry, Kind, Record};
+use words::File;
 
 // Where zero page ends.
 const ZERO_PAGE: usize = 256;
@@ -25,20 +26,22 @@ pub struct Bases {
 }
 
 // Checks the record at `at` of the file at the bases and carries it out, where the last code record before it has `size` bytes at `place`.
+#[tactic(auto, using(words::proofs::Runs::length_part), unfolding(crate::specs::AtBases::applied))]
 pub fn apply(
-    file: &[u8],
+    file: &File,
     at: usize,
     bases: Bases,
     place: usize,
     size: usize,
     found: Record,
     write: bool,
-    memory: &mut [u8],
-    map: &mut [u8],
+    memory: &mut Buffer,
+    map: &mut Buffer,
 ) -> Check
-    requires { (length file.now ≤ 65536) × (at ≤ length file.now) × EndsBy (length file.now) found × (place + size ≤ 65536) × (length memory.old ≡ 65536) × (length map.old ≡ 65536) }
+    requires { (at ≤ length file.now) × EndsBy (length file.now) found × (place + size ≤ 65536) }
     ensures { Did Check (applied file.now at bases place size found map.old) write memory.old map.old result memory.new map.new }
 {
+    let length = file.len();
     match found {
         Record::Code {
             kind,
@@ -46,9 +49,8 @@ pub fn apply(
             from,
             size: count,
         } => {
-            let next = from + count;
+            let code = file.part(from, count);
             let to = place_of(bases, kind, address);
-            let code = &file[from..next];
             place_code(code, at + 2, to, limit(kind), write, memory, map)
         }
         Record::Fixups {
@@ -56,11 +58,10 @@ pub fn apply(
             from,
             size: count,
         } => {
-            let next = from + count;
-            let items = &file[from..next];
+            let items = file.part(from, count);
             adjust_fields(items, from, fixup, bases, place, size, write, memory, map)
         }
-        Record::End { entry, next } => end(at + 2, bases, entry, next, file.len()),
+        Record::End { entry, next } => end(at + 2, bases, entry, next, length),
     }
 }
 
@@ -117,10 +118,10 @@ fn place_code(
     place: usize,
     limit: usize,
     write: bool,
-    memory: &mut [u8],
-    map: &mut [u8],
+    memory: &mut Buffer,
+    map: &mut Buffer,
 ) -> Check
-    requires { (place ≤ 131070) × (length code.now ≤ 65536) × (limit ≤ 65536) × (length memory.old ≡ 65536) × (length map.old ≡ 65536) }
+    requires { (place ≤ 131070) × (length code.now ≤ 65536) × (limit ≤ 65536) }
     ensures { Did Check (placing at place limit code.now map.old) write memory.old map.old result memory.new map.new }
 {
     mark_code(at, place, code.len(), limit, map)?;
@@ -131,23 +132,16 @@ fn place_code(
 // Marks `size` code bytes at `place` in the map, whose address stands at `at`, if they end within their limit and no address there is placed
 // already. Of code only the length is looked at.
 #[tactic(auto, using(crate::proofs::Checks::placing_high, crate::proofs::Checks::placing_taken, crate::proofs::Checks::placing_marked, events::proofs::Events::length_run))]
-pub fn mark_code(at: usize, place: usize, size: usize, limit: usize, map: &mut [u8]) -> Check
-    requires { (place ≤ 131070) × (size ≤ 65536) × (limit ≤ 65536) × (length map.old ≡ 65536) }
+pub fn mark_code(at: usize, place: usize, size: usize, limit: usize, map: &mut Buffer) -> Check
+    requires { (place ≤ 131070) × (size ≤ 65536) × (limit ≤ 65536) }
     ensures { Noted Check (placing at place limit (replicate size 0) map.old) map.old result map.new }
 {
     let end = place + size;
     if limit < end {
-        return Err(Failure {
-            fault: Fault::DoesNotFit,
-            offset: at,
-        });
+        return Err(Fault::DoesNotFit.at(at));
     }
-    let free = words::is_zero(&map[place..end]);
-    if !free {
-        return Err(Failure {
-            fault: Fault::PiecesOverlap,
-            offset: at,
-        });
+    if !words::is_zero(&map[place..end]) {
+        return Err(Fault::PiecesOverlap.at(at));
     }
     words::fill(&mut map[place..end], events::PLACED);
     Ok(())
@@ -174,10 +168,10 @@ fn adjust_fields(
     place: usize,
     size: usize,
     write: bool,
-    memory: &mut [u8],
-    map: &mut [u8],
+    memory: &mut Buffer,
+    map: &mut Buffer,
 ) -> Check
-    requires { (from + length items.now ≤ 65536) × (place + size ≤ 65536) × (length memory.old ≡ 65536) × (length map.old ≡ 65536) }
+    requires { (from + length items.now ≤ 65536) × (place + size ≤ 65536) }
     ensures { Did Check (adjusting from (item_size fixup) bases place size (fields_of fixup items.now) map.old) write memory.old map.old result memory.new map.new }
 {
     let step = fields::item_size(fixup);
@@ -206,10 +200,10 @@ fn adjust_field(
     place: usize,
     size: usize,
     write: bool,
-    memory: &mut [u8],
-    map: &mut [u8],
+    memory: &mut Buffer,
+    map: &mut Buffer,
 ) -> Check
-    requires { (field.index < 256) × (field.lsb < 256) × (place + size ≤ 65536) × (length memory.old ≡ 65536) × (length map.old ≡ 65536) }
+    requires { (field.index < 256) × (field.lsb < 256) × (place + size ≤ 65536) }
     ensures { Did Check (adjusting at 0 bases place size (field ∷ []) map.old) write memory.old map.old result memory.new map.new }
 {
     mark_field(field, at, place, size, map)?;
@@ -220,25 +214,18 @@ fn adjust_field(
 // Marks a field of the `size` code bytes at `place` in the map, if it lies inside and no byte of it was adjusted before. The item that lists it
 // stands at `at`. No base is looked at.
 #[tactic(auto, using(crate::proofs::Checks::adjusting_outside, crate::proofs::Checks::adjusting_twice, crate::proofs::Checks::adjusting_marked))]
-pub fn mark_field(field: Field, at: usize, place: usize, size: usize, map: &mut [u8]) -> Check
-    requires { (field.index < 256) × (place + size ≤ 65536) × (length map.old ≡ 65536) }
+pub fn mark_field(field: Field, at: usize, place: usize, size: usize, map: &mut Buffer) -> Check
+    requires { (field.index < 256) × (place + size ≤ 65536) }
     ensures { (bases : Bases) → Noted Check (adjusting at 0 bases place size (field ∷ []) map.old) map.old result map.new }
 {
     let width = fields::width(field.fixup);
     if size < field.index + width {
-        return Err(Failure {
-            fault: Fault::FieldNotLoaded,
-            offset: at,
-        });
+        return Err(Fault::FieldNotLoaded.at(at));
     }
     let address = place + field.index;
     let past = address + width;
-    let adjusted = words::contains(&map[address..past], events::ADJUSTED);
-    if adjusted {
-        return Err(Failure {
-            fault: Fault::AdjustedTwice,
-            offset: at,
-        });
+    if words::contains(&map[address..past], events::ADJUSTED) {
+        return Err(Fault::AdjustedTwice.at(at));
     }
     words::fill(&mut map[address..past], events::ADJUSTED);
     Ok(())
@@ -276,16 +263,10 @@ pub fn end(at: usize, bases: Bases, entry: Entry, next: usize, length: usize) ->
 {
     let address = start_address(bases, entry);
     if 65535 < address {
-        return Err(Failure {
-            fault: Fault::StartTooHigh,
-            offset: at,
-        });
+        return Err(Fault::StartTooHigh.at(at));
     }
     if next < length {
-        return Err(Failure {
-            fault: Fault::BytesAfterEnd,
-            offset: next,
-        });
+        return Err(Fault::BytesAfterEnd.at(next));
     }
     Ok(())
 }

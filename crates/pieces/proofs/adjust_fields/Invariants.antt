@@ -11,6 +11,4 @@ use Rattle.pieces.proofs.adjust_fields.Given as goal
 abbrev pub invariant-loop-i : goal.invariant-loop-i
 invariant-loop-i l = (l.i-iterator.iter.size ≡ item_size l.fixup)
     × (l.from + l.i-iterator.count * item_size l.fixup + length l.i-iterator.iter.rest.now ≤ 65536)
-    × (length l.memory ≡ 65536)
-    × (length l.map ≡ 65536)
     × Adjusting l.from (item_size l.fixup) l.bases l.place l.size l.write (fields_of l.fixup l.items) l.initial.memory l.initial.map (l.from + l.i-iterator.count * item_size l.fixup) (fields_of l.fixup l.i-iterator.iter.rest.now) l.memory l.map
