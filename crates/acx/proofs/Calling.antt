@@ -215,10 +215,11 @@ module _ {form : ℕ} {b : Bases} {file m p : List ℕ} where
   pub loaded_memory : {r : Outcome} → (length m ≡ 65536 → ⊥) → r ≡ refusal WrongBuffer 0 0 → Loaded form b file (sized m p) m p r m p
   loaded_memory h e = loaded_wrong (rw (ne_eqb _ _ h) refl) e
 
-  pub loaded_map_lem : {r : Outcome} → length m ≡ 65536 → (length p ≡ 65536 → ⊥) → r ≡ refusal WrongBuffer 0 0
-      → Loaded form b file (sized m p) m p r m p
-  loaded_map_lem g h e = loaded_wrong (rw (eq-eqb _ _ g, ne_eqb _ _ h) refl) e
+  pub loaded_map_lem : {r : Outcome} {m' : List ℕ} → length m ≡ 65536 → (length p ≡ 65536 → ⊥) → r ≡ refusal WrongBuffer 0 0 → m' ≡ m
+      → Loaded form b file (sized m p) m p r m' p
+  loaded_map_lem g h e em = rw em (loaded_wrong (rw (eq-eqb _ _ g, ne_eqb _ _ h) refl) e)
 
-  pub loaded_sized : {r : Outcome} {m' p' : List ℕ} → length m ≡ 65536 → length p ≡ 65536 → Loaded form b file true m p r m' p'
+  pub loaded_sized : {r : Outcome} {m₀ p₀ m' p' : List ℕ} → length m ≡ 65536 → length p ≡ 65536
+      → Loaded form b file true m₀ p₀ r m' p' → m₀ ≡ m → p₀ ≡ p
       → Loaded form b file (sized m p) m p r m' p'
-  loaded_sized g h d = rw (eq-eqb _ _ g, eq-eqb _ _ h) d
+  loaded_sized g h d em ep = rw (eq-eqb _ _ g, eq-eqb _ _ h) (rw (em, ep) at d)

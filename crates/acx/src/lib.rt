@@ -12,10 +12,11 @@ ghost use Rattle.acx.specs.Walk.{records_of, opening as opening_of, opening_size
 ghost use Rattle.acx.specs.Cursor.{first_cursor, advanced};
 ghost use Rattle.acx.specs.Call.{form_of, in_range, sized, load as load_of, Loaded};
 
-use answer::{Acceptance, Failure, Fault, Outcome};
-use events::Check;
+use answer::{Acceptance, Fault, Outcome};
+use events::{Buffer, Check};
 use pieces::Bases;
 use records::{Entry, Kind, Record};
+use words::File;
 
 // Disk form has an opening, device form none.
 #[derive(Clone, Copy)]
@@ -36,6 +37,7 @@ pub struct Cursor {
 }
 
 // Loads a file. Refuses with the first fault; memory is then as it was.
+#[tactic(auto, using(crate::proofs::Calling::loaded_sized))]
 pub fn load(
     form: u32,
     file: &[u8],
@@ -46,12 +48,12 @@ pub fn load(
 ) -> Outcome
     ensures { Loaded form (bases_at main_base zero_base) file.now (sized memory.old map.old) memory.old map.old result memory.new map.new }
 {
-    if memory.len() != events::MEMORY {
+    let Some(memory) = memory.as_mut_array() else {
         return answer::refused(Fault::WrongBuffer, 0);
-    }
-    if map.len() != events::MEMORY {
+    };
+    let Some(map) = map.as_mut_array() else {
         return answer::refused(Fault::WrongBuffer, 0);
-    }
+    };
     load_sized(form, file, main_base, zero_base, memory, map)
 }
 
@@ -63,25 +65,23 @@ pub fn walk_call(
     main_base: u32,
     zero_base: u32,
     write: bool,
-    memory: &mut [u8],
-    map: &mut [u8],
+    memory: &mut Buffer,
+    map: &mut Buffer,
 ) -> Outcome
-    requires { (length memory.old ≡ 65536) × (length map.old ≡ 65536) }
     ensures { Did Outcome (reported (bases_at main_base zero_base) (load_of form (bases_at main_base zero_base) file.now)) write memory.old blank result memory.new map.new }
 {
     words::fill(map, 0);
-    let ranged = in_range(form, main_base, zero_base);
-    if !ranged {
+    if !in_range(form, main_base, zero_base) {
         return answer::refused(Fault::SettingOutOfRange, 0);
     }
-    if events::FILE < file.len() {
+    let Some(file) = File::new(file) else {
         return answer::refused(Fault::FileTooLong, 0);
-    }
+    };
     let bases = Bases {
         main: main_base as u16,
         zero: zero_base as u16,
     };
-    walk_file(form_of(form), file, bases, write, memory, map)
+    walk_file(form_of(form), &file, bases, write, memory, map)
 }
 
 // The form of a call.
@@ -153,10 +153,9 @@ fn load_sized(
     file: &[u8],
     main_base: u32,
     zero_base: u32,
-    memory: &mut [u8],
-    map: &mut [u8],
+    memory: &mut Buffer,
+    map: &mut Buffer,
 ) -> Outcome
-    requires { (length memory.old ≡ 65536) × (length map.old ≡ 65536) }
     ensures { Loaded form (bases_at main_base zero_base) file.now true memory.old map.old result memory.new map.new }
 {
     let checked = walk_call(form, file, main_base, zero_base, false, memory, map);
@@ -177,15 +176,16 @@ pub fn in_range(form: u32, main_base: u32, zero_base: u32) -> bool
 // Walks a file over a clear map: its opening, then its records.
 fn walk_file(
     form: Form,
-    file: &[u8],
+    file: &File,
     bases: Bases,
     write: bool,
-    memory: &mut [u8],
-    map: &mut [u8],
+    memory: &mut Buffer,
+    map: &mut Buffer,
 ) -> Outcome
-    requires { (length file.now ≤ 65536) × (length memory.old ≡ 65536) × (length map.old ≡ 65536) × (map.old ≡ blank) }
+    requires { map.old ≡ blank }
     ensures { Did Outcome (reported bases (judged form file.now bases)) write memory.old blank result memory.new map.new }
 {
+    prove!(file.len() <= events::FILE);
     if let Err(failure) = opening(form, file) {
         return answer::refused(failure.fault, failure.offset);
     }
@@ -194,23 +194,14 @@ fn walk_file(
 
 // Checks that the file opens as its form says.
 #[tactic(auto, unfolding(crate::specs::Walk::opening, answer::specs::Checks::need))]
-fn opening(form: Form, file: &[u8]) -> Check
+fn opening(form: Form, file: &File) -> Check
     ensures { result ≡ opening_of form file.now }
 {
     match form {
         Form::Disk => {
-            if file.len() < 2 {
-                return Err(Failure {
-                    fault: Fault::CutShort,
-                    offset: file.len(),
-                });
-            }
-            let word = words::word_at(file, 0);
-            if word != 0xFFF0 {
-                return Err(Failure {
-                    fault: Fault::WrongOpening,
-                    offset: 0,
-                });
+            answer::present(file, 0, 2)?;
+            if file.word(0) != 0xFFF0 {
+                return Err(Fault::WrongOpening.at(0));
             }
             Ok(())
         }
@@ -220,16 +211,17 @@ fn opening(form: Form, file: &[u8]) -> Check
 
 // Walks all records from `at` on, over a clear map.
 fn walk(
-    file: &[u8],
+    file: &File,
     at: usize,
     bases: Bases,
     write: bool,
-    memory: &mut [u8],
-    map: &mut [u8],
+    memory: &mut Buffer,
+    map: &mut Buffer,
 ) -> Outcome
-    requires { (length file.now ≤ 65536) × (at ≤ length file.now) × (length memory.old ≡ 65536) × (length map.old ≡ 65536) × (map.old ≡ blank) }
+    requires { (at ≤ length file.now) × (map.old ≡ blank) }
     ensures { Did Outcome (reported bases (records_of file.now bases at)) write memory.old blank result memory.new map.new }
 {
+    prove!(file.len() <= events::FILE);
     let mut cursor = first_cursor(at);
     loop {
         let found = match records::read(file, cursor.at, cursor.last) {

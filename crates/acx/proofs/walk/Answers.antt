@@ -1,6 +1,5 @@
 -- `acx::walk` meets its contract: the definition's walk has come to the cursor, with the memory and the map of its events (`Going`).
 -- Assumes nothing.
-use mathlib.Core.Path.{◌∙◌}
 use native.Mathlib.Nat.{le_refl}
 use native.Mathlib.Omega.{arith}
 use Rattle.acx.proofs.Cursors.{tracks_inside, tracks_counts, tracks_found, tracks_ends_by}
@@ -9,73 +8,70 @@ use Rattle.acx.proofs.walk.Goals as goal
 
 pub loop-found-init : goal.loop-found-init
 loop-found-init c =
-    (c.requires.2, c.requires.3, rw c.first_cursor-cursor.ensures (going_first c.requires.4 c.requires.1))
+    rw c.first_cursor-cursor.ensures (going_first c.requires.1 c.requires.0)
 
 pub apply-check-requires : goal.apply-check-requires
 apply-check-requires c =
     let l = c.loop-found in
-    let w = l.invariant.2.came in
-    (c.requires.0, (tracks_counts w).0, tracks_ends_by w (tracks_found w c.in-Ok.ensures) _ (le_refl _), tracks_inside w, l.invariant.0, l.invariant.1)
+    let w = l.invariant.came in
+    ((tracks_counts w).0, tracks_ends_by w (tracks_found w c.in-Ok.ensures) _ (le_refl _), tracks_inside w)
 
 pub refused-requires : goal.refused-requires
 refused-requires c =
-    let h = going_unread_offset c.loop-found.invariant.2 c.in-Err.ensures in
-    omega (arith, c.requires, h)
+    let h = going_unread_offset c.loop-found.invariant c.in-Err.ensures in
+    omega (arith, c.len.ensures.limited, h)
 
 pub returns-in-Err : goal.returns-in-Err
-returns-in-Err c = going_unread c.loop-found.invariant.2 c.in-Err.ensures c.refused.ensures
+returns-in-Err c = going_unread c.loop-found.invariant c.in-Err.ensures c.refused.ensures
 
 pub refused-requires-in-Err-check : goal.refused-requires-in-Err-check
 refused-requires-in-Err-check c =
     let l = c.loop-found in
-    let h = going_offset l.invariant.2 c.in-Ok.ensures c.apply-check.ensures c.in-Err-check.is in
-    omega (arith, c.requires, h)
+    let h = going_offset l.invariant c.in-Ok.ensures c.apply-check.ensures c.in-Err-check.is in
+    omega (arith, c.len.ensures.limited, h)
 
 pub returns-in-Err-check : goal.returns-in-Err-check
 returns-in-Err-check c =
     let l = c.loop-found in
-    going_fails l.invariant.2 c.in-Ok.ensures c.apply-check.ensures c.in-Err-check.is c.refused-in-Err-check.ensures
+    going_fails l.invariant c.in-Ok.ensures c.apply-check.ensures c.in-Err-check.is c.refused-in-Err-check.ensures
 
 pub accepted-requires : goal.accepted-requires
 accepted-requires c =
     let l = c.loop-found in
-    let k = tracks_counts l.invariant.2.came in
-    let fits = going_start l.invariant.2 c.in-Ok.ensures c.apply-check.ensures c.in_default.is
+    let k = tracks_counts l.invariant.came in
+    let fits = going_start l.invariant c.in-Ok.ensures c.apply-check.ensures c.in_default.is
     c.in-End.is in
-    (fits, omega (arith, c.requires, k.0, k.1), omega (arith, c.requires, k.0, k.1))
+    (fits, omega (arith, c.len.ensures.limited, k.0, k.1), omega (arith, c.len.ensures.limited, k.0, k.1))
 
 pub returns-in-End : goal.returns-in-End
 returns-in-End c =
     let l = c.loop-found in
     rw c.accepted.ensures
-    (going_ends l.invariant.2 c.in-Ok.ensures c.apply-check.ensures c.in_default.is
+    (going_ends l.invariant c.in-Ok.ensures c.apply-check.ensures c.in_default.is
     c.in-End.is)
 
 pub advance-cursor-requires : goal.advance-cursor-requires
 advance-cursor-requires c =
     let l = c.loop-found in
-    let k = tracks_counts l.invariant.2.came in (
-      omega (arith, c.requires, k.0, k.1),
-      omega (arith, c.requires, k.0, k.1),
-      going_ends_by l.invariant.2 c.in-Ok.ensures
-          c.apply-check.ensures c.requires.0,
+    let k = tracks_counts l.invariant.came in (
+      omega (arith, c.len.ensures.limited, k.0, k.1),
+      omega (arith, c.len.ensures.limited, k.0, k.1),
+      going_ends_by l.invariant c.in-Ok.ensures
+          c.apply-check.ensures (omega (arith, c.len.ensures.limited)),
     )
 
 pub loop-found-smaller : goal.loop-found-smaller
 loop-found-smaller c =
     let l = c.loop-found in
-    let on = going_onward l.invariant.2 c.in-Ok.ensures c.apply-check.ensures c.in_default-found.not-End in
-    let a = rw (← c.advance-cursor.ensures) at (going_further l.invariant.2 c.in-Ok.ensures c.apply-check.ensures on) in
+    let on = going_onward l.invariant c.in-Ok.ensures c.apply-check.ensures c.in_default-found.not-End in
+    let a = rw (← c.advance-cursor.ensures) at (going_further l.invariant c.in-Ok.ensures c.apply-check.ensures on) in
     let g = rw (← c.advance-cursor.ensures) at
-    (going_on l.invariant.2 c.in-Ok.ensures c.apply-check.ensures c.in_default.is on) in
+    (going_on l.invariant c.in-Ok.ensures c.apply-check.ensures c.in_default.is on) in
     omega (arith, a, (tracks_counts g.came).0)
 
 pub loop-found-preserved : goal.loop-found-preserved
 loop-found-preserved c =
     let l = c.loop-found in
-    let on = going_onward l.invariant.2 c.in-Ok.ensures c.apply-check.ensures c.in_default-found.not-End in (
-      c.apply-check.auto.memory ∙ l.invariant.0,
-      c.apply-check.auto.map ∙ l.invariant.1,
-      rw c.advance-cursor.ensures
-          (going_on l.invariant.2 c.in-Ok.ensures c.apply-check.ensures c.in_default.is on),
-    )
+    let on = going_onward l.invariant c.in-Ok.ensures c.apply-check.ensures c.in_default-found.not-End in
+    rw c.advance-cursor.ensures
+    (going_on l.invariant c.in-Ok.ensures c.apply-check.ensures c.in_default.is on)

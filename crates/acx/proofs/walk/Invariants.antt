@@ -1,14 +1,12 @@
 -- `acx::walk` meets its contract: the definition's walk has come to the cursor, with the memory and the map of its events (`Going`).
 -- Assumes nothing.
-use mathlib.Core.Path.{◌≡◌}
 use Prim.Native.Nat.{◌-◌}
 use lib.ListN.{length}
 use Rattle.acx.proofs.Going.{Going}
 use Rattle.acx.proofs.walk.Given as goal
 
 abbrev pub invariant-loop-found : goal.invariant-loop-found
-invariant-loop-found l = (length l.memory ≡ 65536) × (length l.map ≡ 65536)
-    × Going l.file l.bases l.at l.write l.initial.memory l.cursor l.memory l.map
+invariant-loop-found l = Going l.file l.bases l.at l.write l.initial.memory l.cursor l.memory l.map
 
 abbrev pub decreases-loop-found : goal.decreases-loop-found
 decreases-loop-found l = length l.file - l.cursor.at

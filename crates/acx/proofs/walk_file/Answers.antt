@@ -11,17 +11,17 @@ use Rattle.acx.proofs.walk_file.Goals as goal
 pub refused-requires : goal.refused-requires
 refused-requires c =
     let h = check_within (opening_faults _ _) (sym c.opening.ensures ∙ c.in-Err.is) in
-    omega (arith, h, c.requires.0)
+    omega (arith, h, c.len.ensures.limited)
 
 pub returns-in-Err : goal.returns-in-Err
 returns-in-Err c =
     file_refused _ _ _ _ _ _ c.opening.ensures _ _ _ _ c.in-Err.is c.refused.ensures
-    c.requires.3
+    c.requires
 
 pub walk-requires : goal.walk-requires
 walk-requires c =
     let fits = opening_fits _ _ (sym c.opening.ensures ∙ c.in_default.is) in
-    (c.requires.0, rw c.opening_size.ensures fits, c.requires.1, c.requires.2, c.requires.3)
+    (rw c.opening_size.ensures fits, c.requires)
 
 pub returns : goal.returns
 returns c =
