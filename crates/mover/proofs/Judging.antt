@@ -174,31 +174,29 @@ module _ {c : Call} {m : List ℕ} where
       }
 
   -- so do a memory, a map and a scratch of another length
-  pub moved_memory : {r : Outcome} {m' p' s' : List ℕ} → (length m ≡ 65536 → ⊥) → r ≡ refusal WrongBuffer 0 0 → m' ≡ m → p' ≡ c.map → s' ≡ c.scratch
-      → Moved c m r m' p' s'
-  moved_memory h e em ep es = rw (em, ep, es) (moved_wrong (rw (ne_eqb _ _ h) refl) e)
+  pub moved_memory : {r : Outcome} → (length m ≡ 65536 → ⊥) → r ≡ refusal WrongBuffer 0 0 → Moved c m r m c.map c.scratch
+  moved_memory h e = moved_wrong (rw (ne_eqb _ _ h) refl) e
 
-  pub moved_map : {r : Outcome} {m' p' s' : List ℕ} → length m ≡ 65536 → (length c.map ≡ 65536 → ⊥) → r ≡ refusal WrongBuffer 0 0
-      → m' ≡ m → p' ≡ c.map → s' ≡ c.scratch → Moved c m r m' p' s'
-  moved_map g h e em ep es = rw (em, ep, es) (moved_wrong (rw (eq-eqb _ _ g, ne_eqb _ _ h) refl) e)
+  pub moved_map : {r : Outcome} {m' : List ℕ} → length m ≡ 65536 → (length c.map ≡ 65536 → ⊥) → r ≡ refusal WrongBuffer 0 0 → m' ≡ m
+      → Moved c m r m' c.map c.scratch
+  moved_map g h e em = rw em (moved_wrong (rw (eq-eqb _ _ g, ne_eqb _ _ h) refl) e)
 
-  pub moved_scratch : {r : Outcome} {m' p' s' : List ℕ} → length m ≡ 65536 → length c.map ≡ 65536 → (length c.scratch ≡ 65536 → ⊥)
-      → r ≡ refusal WrongBuffer 0 0 → m' ≡ m → p' ≡ c.map → s' ≡ c.scratch → Moved c m r m' p' s'
-  moved_scratch g i h e em ep es = rw (em, ep, es) (moved_wrong (rw (eq-eqb _ _ g, eq-eqb _ _ i, ne_eqb _ _ h) refl) e)
+  pub moved_scratch : {r : Outcome} {m' p' : List ℕ} → length m ≡ 65536 → length c.map ≡ 65536 → (length c.scratch ≡ 65536 → ⊥)
+      → r ≡ refusal WrongBuffer 0 0 → m' ≡ m → p' ≡ c.map → Moved c m r m' p' c.scratch
+  moved_scratch g i h e em ep = rw (em, ep) (moved_wrong (rw (eq-eqb _ _ g, eq-eqb _ _ i, ne_eqb _ _ h) refl) e)
 
   -- with the right lengths it is the call that was done
-  pub moved_sized : {r : Outcome} {m₀ m₁ p₁ s₁ m' p' s' : List ℕ} → c.answer_sized ≡ true → length m ≡ 65536 → length c.map ≡ 65536
+  pub moved_sized : {r : Outcome} {m₀ m' p' s' : List ℕ} → c.answer_sized ≡ true → length m ≡ 65536 → length c.map ≡ 65536
       → length c.scratch ≡ 65536
-      → Done c.source c.old c.new m₀ r m₁ p₁ s₁ → m₀ ≡ m → m' ≡ m₁ → p' ≡ p₁ → s' ≡ s₁
+      → Done c.source c.old c.new m₀ r m' p' s' → m₀ ≡ m
       → Moved c m r m' p' s'
   unfolding ruling need pick outcome_of memory_after map_after scratch_after
-  moved_sized {r} {m' = m'} {p' = p'} {s' = s'} a g i h d em e₁ e₂ e₃ =
+  moved_sized a g i h d em =
       let z : sized c m ≡ true = rw (eq-eqb _ _ g, eq-eqb _ _ i, eq-eqb _ _ h, a) refl in
-      let x : Done c.source c.old c.new m r m' p' s' = rw (e₁, e₂, e₃, ← em) d in
       record {
-        outcome = rw z x.outcome;
-        memory = rw z x.memory;
-        map = rw z x.map;
-        scratch = rw z x.scratch;
-        counts = outcome_counted c.source c.new (ruling_of c.source c.old c.new) x.outcome;
+        outcome = rw z d.outcome;
+        memory = rw z (d.memory ∙ ap (memory_by c.old c.new (ruling_of c.source c.old c.new)) em);
+        map = rw z d.map;
+        scratch = rw z d.scratch;
+        counts = outcome_counted c.source c.new (ruling_of c.source c.old c.new) d.outcome;
       }
