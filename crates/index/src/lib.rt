@@ -104,6 +104,7 @@ fn advance(cursor: Cursor, found: IndexEntry) -> Cursor
 }
 
 // Checks the entry at `at` at the bases and marks it in the map.
+#[tactic(auto, using(words::proofs::Runs::length_part, crate::proofs::Applying::ending_noted), unfolding(crate::specs::Walk::applied))]
 fn apply(index: &File, at: usize, bases: Bases, found: IndexEntry, map: &mut Buffer) -> Check
     requires { Lies (length index.now) found }
     ensures { Noted Check (applied index.now at bases found map.old) map.old result map.new }
@@ -115,7 +116,15 @@ fn apply(index: &File, at: usize, bases: Bases, found: IndexEntry, map: &mut Buf
             size,
             from,
             length,
-        } => mark_entry(index.part(from, length), at, bases, kind, address, size, map),
+        } => mark_entry(
+            index.part(from, length),
+            at,
+            bases,
+            kind,
+            address,
+            size,
+            map,
+        ),
         IndexEntry::End { entry, next } => pieces::end(at, bases, entry, next, index.len()),
     }
 }
@@ -157,6 +166,7 @@ fn mark_fixups(
 }
 
 // Marks the field of `size` code bytes of a kind at `place` that an item lists.
+#[tactic(auto, using(crate::proofs::Fixing::item_unsuited))]
 fn mark_fixup(
     item: &[u8],
     at: usize,
