@@ -2,11 +2,11 @@
 -- Assumes nothing.
 use mathlib.Core.List.{List, [], ◌∷◌, ◌++◌, map}
 use mathlib.Core.Path.{◌≡◌, refl, sym, ap, ◌∙◌}
-use Prim.Native.Nat.{ℕ, ◌+◌, ◌-◌, ◌≤◌}
+use Prim.Native.Nat.{ℕ, ◌+◌, ◌-◌, ◌≤◌, ◌<◌}
 use native.Mathlib.Omega.{arith}
 use borrow.Rule.Slice.PartMut.{mid_of, put_mid}
 use lib.ListN.{length}
-use Rattle.std.proofs.Common.{Ok, Err}
+use Rattle.std.proofs.Common.{Ok, Err, Option, Some, None, IsSome, IsNone, ◌↔◌}
 use Rattle.acx.proofs.Cursors.{Tracks, tracks_first, tracks_found, tracks_on, tracks_passes, tracks_to_end, tracks_onward}
 use Rattle.pieces.proofs.Edits.{length_edited, edited_append}
 use Rattle.pieces.proofs.Marks.{fields_fresh}
@@ -48,10 +48,13 @@ use Rattle.transfers.specs.Scratch.{scratch_with, Sound}
 -- ---- the bytes
 
 -- where a move is allowed, they are not too many for a file
-pub movable_fits : (h : Source) (old new : Bases) → Allows (ruling_of h old new) → length h.bytes ≤ 65536
-movable_fits h old new a =
+pub allowed_file : (h : Source) (old new : Bases) → Allows (ruling_of h old new) → (o : Option (List ℕ)) → (IsNone o ↔ (65536 < length h.bytes)) → IsSome o
+allowed_file h old new a (Some file) e = refl
+allowed_file h old new a None e =
     let ps = pieces_of (ruling_of h old new) in
-    (found h ps old (both h old new ps (allows_is (ruling_of h old new) a)).0).fits
+    let l = (found h ps old (both h old new ps (allows_is (ruling_of h old new) a)).0).fits in
+    let g = e.0 refl in
+    absurd (omega (arith, l, g))
 
 -- ---- the file
 

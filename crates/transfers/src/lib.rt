@@ -59,7 +59,6 @@ fn commit(map: &Buffer, scratch: &Buffer, memory: &mut Buffer)
 
 // Gathers the pieces from their old places in memory into the scratch, at their new places and adjusted. Where a move is allowed, the bytes are not
 // too many for a file.
-#[tactic(auto, using(crate::proofs::Gathering::movable_fits))]
 fn gather(
     format: Format,
     bytes: &[u8],
@@ -123,7 +122,13 @@ fn gather_record(
         Record::Fixups { fixup, from, size } => {
             let begin = target.place;
             let end = begin + target.size;
-            shift_fields(file.part(from, size), fixup, old, new, &mut scratch[begin..end]);
+            shift_fields(
+                file.part(from, size),
+                fixup,
+                old,
+                new,
+                &mut scratch[begin..end],
+            );
         }
         Record::End { .. } => {}
     }

@@ -3,7 +3,7 @@
 use mathlib.Core.Path.{ap, ◌∙◌}
 use Rattle.std.proofs.Common.{Ok}
 use native.Mathlib.Omega.{arith}
-use Rattle.transfers.proofs.Entries.{gathering_first, gathering_code, gathering_lent, gathering_on}
+use Rattle.transfers.proofs.Entries.{gathering_first, gathering_code, gathering_on}
 use Rattle.transfers.proofs.gather_index.Goals as goal
 
 pub loop-kind-init : goal.loop-kind-init
