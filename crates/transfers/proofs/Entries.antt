@@ -196,10 +196,10 @@ module _ {index : List ℕ} {old new : Bases} {m t₀ : List ℕ} where
           }
 
       -- and leads on with the scratch that holds it
-      pub gathering_on : {t' : List ℕ} → t' ≡ transfer old new (outline_of kind address n (mid_of from (from + count - from) index) ∷ []) m t
+      pub gathering_on : {items t' : List ℕ} → items ≡ part index from count → t' ≡ transfer old new (outline_of kind address n items ∷ []) m t
           → Gathering index old new m t₀ (from + count) t'
       unfolding transfer
-      gathering_on {t'} d =
+      gathering_on i d =
           record {
             whole = x.whole;
             progress = stepped index x.progress (Ok (Code kind address n from count));
@@ -208,10 +208,6 @@ module _ {index : List ℕ} {old new : Bases} {m t₀ : List ℕ} where
             onto = onward;
             gathered =
                 d
-                ∙ ap (λ (items : List ℕ). transfer old new (outline_of kind address n items ∷ []) m t) (lent_is from count index)
+                ∙ ap (λ (items : List ℕ). transfer old new (outline_of kind address n items ∷ []) m t) i
                 ∙ ap (transfer old new (outline_of kind address n (part index from count) ∷ []) m) x.gathered;
           }
-
-      -- what is lent of the index
-      pub gathering_lent : Movable old new (outline_of kind address n (mid_of from (from + count - from) index))
-      gathering_lent = rw (lent_is from count index) gathering_code.movable

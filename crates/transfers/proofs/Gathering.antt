@@ -2,11 +2,11 @@
 -- Assumes nothing.
 use mathlib.Core.List.{List, [], ◌∷◌, ◌++◌, map}
 use mathlib.Core.Path.{◌≡◌, refl, sym, ap, ◌∙◌}
-use Prim.Native.Nat.{ℕ, ◌+◌, ◌-◌, ◌≤◌}
+use Prim.Native.Nat.{ℕ, ◌+◌, ◌-◌, ◌≤◌, ◌<◌}
 use native.Mathlib.Omega.{arith}
 use borrow.Rule.Slice.PartMut.{mid_of, put_mid}
 use lib.ListN.{length}
-use Rattle.std.proofs.Common.{Ok, Err}
+use Rattle.std.proofs.Common.{Ok, Err, Option, Some, None, IsSome, IsNone, ◌↔◌}
 use Rattle.acx.proofs.Cursors.{Tracks, tracks_first, tracks_found, tracks_on, tracks_passes, tracks_to_end, tracks_onward}
 use Rattle.pieces.proofs.Edits.{length_edited, edited_append}
 use Rattle.pieces.proofs.Marks.{fields_fresh}
@@ -39,10 +39,22 @@ use Rattle.words.proofs.Runs.{length_part, length_put, part_put_long, put_put}
 use Rattle.words.specs.Runs.{part, put}
 use Rattle.moves.proofs.Files.{verdict, same_pieces}
 use Rattle.moves.proofs.Rulings.{allows_is, both}
+use Rattle.moves.proofs.Sources.{found}
 use Rattle.moves.specs.Call.{ruling_of, Allows, pieces_of}
 use Rattle.moves.specs.Move.{shift, carried, transfer}
-use Rattle.moves.specs.Sources.{file_in, FileAccepted}
+use Rattle.moves.specs.Sources.{Source, file_in, FileAccepted}
 use Rattle.transfers.specs.Scratch.{scratch_with, Sound}
+
+-- ---- the bytes
+
+-- where a move is allowed, they are not too many for a file
+pub allowed_file : (h : Source) (old new : Bases) → Allows (ruling_of h old new) → (o : Option (List ℕ)) → (IsNone o ↔ (65536 < length h.bytes)) → IsSome o
+allowed_file h old new a (Some file) e = refl
+allowed_file h old new a None e =
+    let ps = pieces_of (ruling_of h old new) in
+    let l = (found h ps old (both h old new ps (allows_is (ruling_of h old new) a)).0).fits in
+    let g = e.0 refl in
+    absurd (omega (arith, l, g))
 
 -- ---- the file
 
@@ -193,20 +205,14 @@ module _ (file : List ℕ) (old new : Bases) (source target : Cursor) (m t : Lis
   unfolding scratch_with
   gathers_code e k d = rw e (d ∙ ap (λ (n : ℕ). put t target.place (part m source.place n)) (sym k))
 
-  -- fields
-  pub gathers_fields : {fixup : Fixup} {from n : ℕ} {bs : List ℕ} → r ≡ Fixups fixup from n
+  -- fields, which the items list
+  pub gathers_fields : {fixup : Fixup} {from n : ℕ} {items bs : List ℕ} → r ≡ Fixups fixup from n → items ≡ part file from n
       → target.place + target.size ≤ length t
-      → bs
-      ≡ edited (shift old new) (fields_of fixup (mid_of from (from + n - from) file))
-      (mid_of target.place (target.place + target.size - target.place) t)
+      → bs ≡ edited (shift old new) (fields_of fixup items) (mid_of target.place (target.place + target.size - target.place) t)
       → put_mid target.place (target.place + target.size - target.place) t bs ≡ scratch_with file old new source target m t r
   unfolding scratch_with
-  gathers_fields {fixup} {from} {n} {bs} e j d =
-      rw e
-      (shifted old new (fields_of fixup (part file from n)) target.place target.size t bs j
-      (d
-      ∙ ap (λ (l : List ℕ). edited (shift old new) (fields_of fixup l) (mid_of target.place (target.place + target.size - target.place) t))
-      (lent_is from n file)))
+  gathers_fields {fixup} {bs = bs} e i j d =
+      rw (e, ← i) (shifted old new (fields_of fixup _) target.place target.size t bs j d)
 
   -- nothing
   pub gathers_end : {entry : Entry} {next : ℕ} → r ≡ End entry next → t ≡ scratch_with file old new source target m t r
@@ -218,16 +224,16 @@ pub gathers_sound : (file : List ℕ) (size : ℕ) (r : Record) → Sound file s
     → (from + n ≤ length file) × Each (Inside size) (fields_of fixup (part file from n))
 gathers_sound file size r h e = rw e at h
 
--- the items and the code that are then lent
-pub gathers_lent : (file : List ℕ) (target : Cursor) (t : List ℕ) (r : Record) → Sound file target.size r → {fixup : Fixup} {from k : ℕ}
-    → r ≡ Fixups fixup from k
+-- the items, and the code that is then lent
+pub gathers_lent : (file : List ℕ) (target : Cursor) (t : List ℕ) (r : Record) → Sound file target.size r → {fixup : Fixup} {from k : ℕ} {items : List ℕ}
+    → r ≡ Fixups fixup from k → items ≡ part file from k
     → target.place + target.size ≤ length t
-    → Each (Inside (length (mid_of target.place (target.place + target.size - target.place) t))) (fields_of fixup (mid_of from (from + k - from) file))
-gathers_lent file target t r h {fixup} {from} {k} e j =
+    → Each (Inside (length (mid_of target.place (target.place + target.size - target.place) t))) (fields_of fixup items)
+gathers_lent file target t r h e i j =
     let code = lent_is target.place target.size t in
     let n : length (mid_of target.place (target.place + target.size - target.place) t) ≡ target.size =
     ap length code ∙ length_part t target.place target.size j in
-    rw (n, lent_is from k file) (gathers_sound file target.size r h e).1
+    rw (n, i) (gathers_sound file target.size r h e).1
 
 -- ---- a turn of the loop
 

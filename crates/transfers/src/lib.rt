@@ -20,10 +20,12 @@ ghost use Rattle.transfers.specs.Scratch.{scratch_with, Sound, Movable, Overlaid
 
 use acx::Cursor;
 use entries::IndexEntry;
+use events::Buffer;
 use fields::{Field, Fixup};
 use moves::Format;
 use pieces::Bases;
 use records::{Kind, Record};
+use words::File;
 
 // Carries the handler's bytes by way of the scratch, over the map of its file or index at the new bases.
 pub fn carry(
@@ -31,11 +33,11 @@ pub fn carry(
     bytes: &[u8],
     old: Bases,
     new: Bases,
-    map: &[u8],
-    memory: &mut [u8],
-    scratch: &mut [u8],
+    map: &Buffer,
+    memory: &mut Buffer,
+    scratch: &mut Buffer,
 )
-    requires { Allows (ruling_of (source_of format bytes.now) old new) × (map.now ≡ map_by (judged_at (source_of format bytes.now) new) (ruling_of (source_of format bytes.now) old new)) × (length memory.old ≡ 65536) × (length scratch.old ≡ 65536) }
+    requires { Allows (ruling_of (source_of format bytes.now) old new) × (map.now ≡ map_by (judged_at (source_of format bytes.now) new) (ruling_of (source_of format bytes.now) old new)) }
     ensures { (memory.new ≡ moved old new (pieces_of (ruling_of (source_of format bytes.now) old new)) memory.old) × (scratch.new ≡ blank) }
 {
     gather(format, bytes, old, new, memory, scratch);
@@ -45,8 +47,7 @@ pub fn carry(
 
 // Puts the scratch's bytes into memory, at every address that the map marks.
 #[tactic(auto, using(crate::proofs::Overlay::overlaying_marked, crate::proofs::Overlay::overlaying_clear))]
-fn commit(map: &[u8], scratch: &[u8], memory: &mut [u8])
-    requires { (length memory.old ≡ 65536) × (length map.now ≡ 65536) × (length scratch.now ≡ 65536) }
+fn commit(map: &Buffer, scratch: &Buffer, memory: &mut Buffer)
     ensures { Overlaid map.now scratch.now memory.old memory.new }
 {
     for (x, byte) in memory.iter_mut().enumerate() {
@@ -56,20 +57,36 @@ fn commit(map: &[u8], scratch: &[u8], memory: &mut [u8])
     }
 }
 
-// Gathers the pieces from their old places in memory into the scratch, at their new places and adjusted.
-fn gather(format: Format, bytes: &[u8], old: Bases, new: Bases, memory: &[u8], scratch: &mut [u8])
-    requires { Allows (ruling_of (source_of format bytes.now) old new) × (length memory.now ≡ 65536) × (length scratch.old ≡ 65536) }
+// Gathers the pieces from their old places in memory into the scratch, at their new places and adjusted. Where a move is allowed, the bytes are not
+// too many for a file.
+fn gather(
+    format: Format,
+    bytes: &[u8],
+    old: Bases,
+    new: Bases,
+    memory: &Buffer,
+    scratch: &mut Buffer,
+)
+    requires { Allows (ruling_of (source_of format bytes.now) old new) }
     ensures { scratch.new ≡ transfer old new (pieces_of (ruling_of (source_of format bytes.now) old new)) memory.now scratch.old }
 {
+    let file = File::new(bytes).unwrap();
     match format {
-        Format::File(form) => gather_file(form, bytes, old, new, memory, scratch),
-        Format::Index => gather_index(bytes, old, new, memory, scratch),
+        Format::File(form) => gather_file(form, &file, old, new, memory, scratch),
+        Format::Index => gather_index(&file, old, new, memory, scratch),
     }
 }
 
 // Gathers the pieces of a file: record by record, with a cursor for each pair of bases. Where a move is allowed, no record is at fault.
-fn gather_file(form: u32, file: &[u8], old: Bases, new: Bases, memory: &[u8], scratch: &mut [u8])
-    requires { Allows (ruling_of (file_in form file.now) old new) × (length memory.now ≡ 65536) × (length scratch.old ≡ 65536) }
+fn gather_file(
+    form: u32,
+    file: &File,
+    old: Bases,
+    new: Bases,
+    memory: &Buffer,
+    scratch: &mut Buffer,
+)
+    requires { Allows (ruling_of (file_in form file.now) old new) }
     ensures { scratch.new ≡ transfer old new (pieces_of (ruling_of (file_in form file.now) old new)) memory.now scratch.old }
 {
     let at = acx::opening_size(acx::form_of(form));
@@ -88,7 +105,7 @@ fn gather_file(form: u32, file: &[u8], old: Bases, new: Bases, memory: &[u8], sc
 // Gathers in the scratch what a record brings: its code from memory, or a change of the fields that it lists.
 #[tactic(auto, using(crate::proofs::Gathering::gathers_lent, crate::proofs::Gathering::gathers_code, crate::proofs::Gathering::gathers_fields, crate::proofs::Gathering::gathers_end, crate::proofs::Gathering::gathers_sound))]
 fn gather_record(
-    file: &[u8],
+    file: &File,
     found: Record,
     old: Bases,
     new: Bases,
@@ -97,24 +114,29 @@ fn gather_record(
     memory: &[u8],
     scratch: &mut [u8],
 )
-    requires { Sound file.now target.size found × (source.place + source.size ≤ length memory.now) × (target.place + target.size ≤ length scratch.old) × (source.size ≡ target.size) × (length file.now ≤ 65536) }
+    requires { Sound file.now target.size found × (source.place + source.size ≤ length memory.now) × (target.place + target.size ≤ length scratch.old) × (source.size ≡ target.size) }
     ensures { scratch.new ≡ scratch_with file.now old new source target memory.now scratch.old found }
 {
     match found {
         Record::Code { .. } => take_code(source.place, target.place, target.size, memory, scratch),
         Record::Fixups { fixup, from, size } => {
-            let next = from + size;
             let begin = target.place;
             let end = begin + target.size;
-            shift_fields(&file[from..next], fixup, old, new, &mut scratch[begin..end]);
+            shift_fields(
+                file.part(from, size),
+                fixup,
+                old,
+                new,
+                &mut scratch[begin..end],
+            );
         }
         Record::End { .. } => {}
     }
 }
 
 // Gathers the pieces of an index: entry by entry, up to the end entry. Where a move is allowed, no entry is at fault.
-fn gather_index(index: &[u8], old: Bases, new: Bases, memory: &[u8], scratch: &mut [u8])
-    requires { Allows (ruling_of (the_index index.now) old new) × (length memory.now ≡ 65536) × (length scratch.old ≡ 65536) }
+fn gather_index(index: &File, old: Bases, new: Bases, memory: &Buffer, scratch: &mut Buffer)
+    requires { Allows (ruling_of (the_index index.now) old new) }
     ensures { scratch.new ≡ transfer old new (pieces_of (ruling_of (the_index index.now) old new)) memory.now scratch.old }
 {
     let mut at = 1;
@@ -128,9 +150,8 @@ fn gather_index(index: &[u8], old: Bases, new: Bases, memory: &[u8], scratch: &m
         },
     ) = entries::read(index, at)
     {
-        let next = from + length;
         gather_entry(
-            &index[from..next],
+            index.part(from, length),
             kind,
             address,
             size,
@@ -139,7 +160,7 @@ fn gather_index(index: &[u8], old: Bases, new: Bases, memory: &[u8], scratch: &m
             memory,
             scratch,
         );
-        at = next;
+        at = from + length;
     }
 }
 
@@ -152,10 +173,10 @@ fn gather_entry(
     size: usize,
     old: Bases,
     new: Bases,
-    memory: &[u8],
-    scratch: &mut [u8],
+    memory: &Buffer,
+    scratch: &mut Buffer,
 )
-    requires { Movable old new (outline_of kind address size items.now) × (length memory.now ≡ 65536) × (length scratch.old ≡ 65536) }
+    requires { Movable old new (outline_of kind address size items.now) }
     ensures { scratch.new ≡ transfer old new (outline_of kind address size items.now ∷ []) memory.now scratch.old }
 {
     let place = pieces::place_of(old, kind, address);

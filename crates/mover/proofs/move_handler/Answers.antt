@@ -1,20 +1,20 @@
--- `mover::move_handler` meets its contract: each length by itself, and the move where all are right.
+-- `mover::move_handler` meets its contract: where a buffer has another length nothing is changed, else the move is done.
 -- Assumes nothing.
-use mathlib.Core.Path.{refl}
+use Rattle.std.proofs.Common.{rules}
 use Rattle.mover.proofs.Judging.{moved_memory, moved_map, moved_scratch, moved_sized}
 use Rattle.mover.proofs.move_handler.Goals as goal
 
-pub returns-then-memory-ne-MEMORY : goal.returns-then-memory-ne-MEMORY
-returns-then-memory-ne-MEMORY c = moved_memory c.if-memory-ne-MEMORY.true c.refused.ensures
+pub returns-in_default : goal.returns-in_default
+returns-in_default c = moved_memory c.in_default.ensures.cases c.refused.ensures
 
-pub returns-then-map-ne-MEMORY : goal.returns-then-map-ne-MEMORY
-returns-then-map-ne-MEMORY c = moved_map c.if-memory-ne-MEMORY.false c.if-map-ne-MEMORY.true c.refused-then-map-ne-MEMORY.ensures
+pub returns-in_default-as_mut_array : goal.returns-in_default-as_mut_array
+returns-in_default-as_mut_array c =
+    moved_map (search rules) c.in_default-as_mut_array.ensures.cases c.refused-in_default-as_mut_array.ensures (search rules)
 
-pub returns-then-scratch-ne-MEMORY : goal.returns-then-scratch-ne-MEMORY
-returns-then-scratch-ne-MEMORY c = moved_scratch c.if-memory-ne-MEMORY.false c.if-map-ne-MEMORY.false c.if-scratch-ne-MEMORY.true c.refused-then-scratch-ne-MEMORY.ensures
+pub returns-in_default-as_mut_array-2 : goal.returns-in_default-as_mut_array-2
+returns-in_default-as_mut_array-2 c =
+    moved_scratch (search rules) (search rules) c.in_default-as_mut_array-2.ensures.cases c.refused-in_default-as_mut_array-2.ensures (search rules)
+    (search rules)
 
 pub returns : goal.returns
-returns c = moved_sized refl c.if-memory-ne-MEMORY.false
-    c.if-map-ne-MEMORY.false
-    c.if-scratch-ne-MEMORY.false
-    c.move_sized.ensures
+returns c = moved_sized (search rules) (search rules) (search rules) c.move_sized.ensures (search rules)
