@@ -55,13 +55,17 @@ reports_as : (b : Bases) (v w : Verdict Piece) (es : List Event) (o : Outcome) �
     → is_err (load_report b v es) ≡ is_err o
 reports_as b v w es o f e = ap (λ (k : Outcome). is_err k) (ap (λ (k : Verdict Piece). load_report b k es) (sym f) ∙ sym e)
 
--- what the check did not refuse is accepted by a load, at bases in their ranges
+-- what the check did not refuse is accepted by a load, at bases in their ranges, and is not too long
 pub check_accepts : (form : ℕ) (b : Bases) (file : List ℕ) {r : Outcome} → r ≡ (reported b (load form b file)).answer → is_err r ≡ false
-    → IsAccepted (reported b (load form b file)).answer × (b.main ≤ 65535) × (b.zero ≤ 255)
+    → IsAccepted (reported b (load form b file)).answer × (b.main ≤ 65535) × (b.zero ≤ 255) × (length file ≤ 65536)
 check_accepts form b file {r} a e = by (load form b file).answer refl
   where
-    by : (v : Verdict Piece) → (load form b file).answer ≡ v → IsAccepted (reported b (load form b file)).answer × (b.main ≤ 65535) × (b.zero ≤ 255)
-    by (accepted ps entry) f = let k = range_bounds form b (load_admitted form b file ps entry f).range in (rw f tt, k.0, k.1)
+    by : (v : Verdict Piece) → (load form b file).answer ≡ v
+        → IsAccepted (reported b (load form b file)).answer × (b.main ≤ 65535) × (b.zero ≤ 255) × (length file ≤ 65536)
+    by (accepted ps entry) f =
+        let w = load_admitted form b file ps entry f in
+        let k = range_bounds form b w.range in
+        (rw f tt, k.0, k.1, w.fits)
     by (refused g at) f = absurd (false≢true (sym (reports_as b (refused g at) (load form b file).answer (load form b file).events r f a ∙ e)))
 
 module _ {form : ℕ} {b : Bases} {file p q : List ℕ} where
@@ -159,9 +163,10 @@ module _ {form : ℕ} {b : Bases} {file p q : List ℕ} where
   pub wrong_map : {r : Outcome} → (length p ≡ 65536 → ⊥) → r ≡ refusal WrongBuffer 0 0 → Built form b file (sized p q) p q r p q
   wrong_map h e = built_wrong (rw (ne_eqb _ _ h) refl) e
 
-  pub wrong_room : {r : Outcome} → length p ≡ 65536 → (length q ≡ 65536 → ⊥) → r ≡ refusal WrongBuffer 0 0 → Built form b file (sized p q) p q r p q
-  wrong_room g h e = built_wrong (rw (eq-eqb _ _ g, ne_eqb _ _ h) refl) e
+  pub wrong_room : {r : Outcome} {p' : List ℕ} → length p ≡ 65536 → (length q ≡ 65536 → ⊥) → r ≡ refusal WrongBuffer 0 0 → p' ≡ p
+      → Built form b file (sized p q) p q r p' q
+  wrong_room g h e ep = rw ep (built_wrong (rw (eq-eqb _ _ g, ne_eqb _ _ h) refl) e)
 
-  pub right_sizes : {r : Outcome} {p' q' : List ℕ} → length p ≡ 65536 → length q ≡ 65536 → Built form b file true p q r p' q'
+  pub right_sizes : {r : Outcome} {p₀ q₀ p' q' : List ℕ} → length p ≡ 65536 → length q ≡ 65536 → Built form b file true p₀ q₀ r p' q' → p₀ ≡ p → q₀ ≡ q
       → Built form b file (sized p q) p q r p' q'
-  right_sizes g h d = rw (eq-eqb _ _ g, eq-eqb _ _ h) d
+  right_sizes g h d ep eq = rw (eq-eqb _ _ g, eq-eqb _ _ h) (rw (ep, eq) at d)

@@ -5,7 +5,6 @@ use mathlib.Core.Path.{◌≡◌, refl, sym, ap, ◌∙◌}
 use Prim.Native.Nat.{ℕ, ◌+◌, ◌-◌, ◌*◌, ◌/◌, ◌≤◌}
 use native.Mathlib.Numerals.{add-one, add-two, add-three, add-four, add_five}
 use native.Mathlib.Omega.{arith}
-use borrow.Rule.Slice.PartMut.{mid_of}
 use lib.ListN.{length, length-append, set, replicate}
 use Rattle.std.proofs.Common.{Option}
 use Rattle.entries.proofs.ReadBack.{length_fixup_bytes, length_code_bytes, length_entry}
@@ -22,7 +21,6 @@ use Rattle.records.specs.declared.Entry.{Entry}
 use Rattle.records.specs.declared.Kind.{Kind}
 use Rattle.records.specs.declared.Record.{Record}
 use Rattle.records.specs.declared.Record.TheVariants.{Code, Fixups}
-use Rattle.words.proofs.Lent.{lent_is}
 use Rattle.words.proofs.Runs.{length_put, put_append, put_in_put}
 use Rattle.words.specs.Numbers.{digits, big_digits, big_store}
 use Rattle.words.specs.Runs.{part, put}
@@ -210,10 +208,8 @@ module _ (file : List ℕ) (last : Option Kind) (f : Front) (room : List ℕ) {r
 
   -- fixups
   pub writes_fixups : {fixup : Fixup} {from n : ℕ} {kind : Kind} {room' : List ℕ} → r ≡ Fixups fixup from n → kind ≡ kind_of last
-      → room' ≡ closed kind fixup (mid_of from (from + n - from) file) f room
+      → room' ≡ closed kind fixup (part file from n) f room
       → room' ≡ room_with file last f room r
   unfolding room_with
   writes_fixups {fixup} {from} {n} {kind} e h w =
-      rw e
-      (w ∙ ap (λ (l : List ℕ). closed kind fixup l f room) (lent_is from n file)
-      ∙ ap (λ (k : Kind). closed k fixup (part file from n) f room) h)
+      rw e (w ∙ ap (λ (k : Kind). closed k fixup (part file from n) f room) h)

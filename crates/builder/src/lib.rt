@@ -17,9 +17,11 @@ ghost use Rattle.builder.specs.Build.{sized, Built};
 ghost use Rattle.builder.specs.Parts.{bytes_of, with_low, bare, brings, front_after, closed, room_with, Sound};
 
 use answer::{Acceptance, Fault, Outcome};
+use events::Buffer;
 use fields::{Field, Fixup};
 use pieces::Bases;
 use records::{Entry, Kind, Record};
+use words::File;
 
 // How far the room is filled: where the last entry begins, and where the next one would.
 #[derive(Clone, Copy)]
@@ -29,6 +31,7 @@ pub struct Front {
 }
 
 // Builds the index of a file into the room `index`, with the map of a load. Refuses as a load does; then where the index would not fit.
+#[tactic(auto, using(crate::proofs::Building::right_sizes))]
 pub fn build(
     form: u32,
     file: &[u8],
@@ -39,12 +42,12 @@ pub fn build(
 ) -> Outcome
     ensures { Built form (bases_at main_base zero_base) file.now (sized map.old index.old) map.old index.old result map.new index.new }
 {
-    if map.len() != events::MEMORY {
+    let Some(map) = map.as_mut_array() else {
         return answer::refused(Fault::WrongBuffer, 0);
-    }
-    if index.len() != events::MEMORY {
+    };
+    let Some(index) = index.as_mut_array() else {
         return answer::refused(Fault::WrongBuffer, 0);
-    }
+    };
     build_sized(form, file, main_base, zero_base, map, index)
 }
 
@@ -54,10 +57,9 @@ fn build_sized(
     file: &[u8],
     main_base: u32,
     zero_base: u32,
-    map: &mut [u8],
-    index: &mut [u8],
+    map: &mut Buffer,
+    index: &mut Buffer,
 ) -> Outcome
-    requires { (length map.old ≡ 65536) × (length index.old ≡ 65536) }
     ensures { Built form (bases_at main_base zero_base) file.now true map.old index.old result map.new index.new }
 {
     let checked = acx::walk_call(form, file, main_base, zero_base, false, index, map);
@@ -69,19 +71,21 @@ fn build_sized(
         main: main_base as u16,
         zero: zero_base as u16,
     };
-    build_checked(form, file, bases, checked, map, index)
+    // An accepted file is not too long.
+    let file = File::new(file).unwrap();
+    build_checked(form, &file, bases, checked, map, index)
 }
 
 // Builds where the file is accepted, with the outcome and the map of its check.
 fn build_checked(
     form: u32,
-    file: &[u8],
+    file: &File,
     bases: Bases,
     checked: Outcome,
-    marked: &mut [u8],
-    index: &mut [u8],
+    marked: &mut Buffer,
+    index: &mut Buffer,
 ) -> Outcome
-    requires { IsAccepted (reported bases (load form bases file.now)).answer × (checked ≡ (reported bases (load form bases file.now)).answer) × (marked.old ≡ marks (load form bases file.now).events blank) × (length marked.old ≡ 65536) × (length index.old ≡ 65536) }
+    requires { IsAccepted (reported bases (load form bases file.now)).answer × (checked ≡ (reported bases (load form bases file.now)).answer) × (marked.old ≡ marks (load form bases file.now).events blank) }
     ensures { Built form bases file.now true marked.old index.old result marked.new index.new }
 {
     let length = index_length(form, file, bases);
@@ -101,7 +105,7 @@ fn with_low(outcome: Outcome, low: u32) -> Outcome
 }
 
 // How long the index of an accepted file is: each of its records can be read.
-fn index_length(form: u32, file: &[u8], bases: Bases) -> usize
+fn index_length(form: u32, file: &File, bases: Bases) -> usize
     requires { IsAccepted (reported bases (load form bases file.now)).answer }
     ensures { (result ≡ length (bytes_of (load form bases file.now).answer)) × (result < 4294967296) }
 {
@@ -130,8 +134,8 @@ fn entry_size(found: Record) -> usize
 }
 
 // Writes the index of an accepted file into the room: record by record, with every entry closed behind it.
-fn write_index(form: u32, file: &[u8], bases: Bases, index: &mut [u8])
-    requires { IsAccepted (reported bases (load form bases file.now)).answer × (length (bytes_of (load form bases file.now).answer) ≤ 65536) × (length index.old ≡ 65536) }
+fn write_index(form: u32, file: &File, bases: Bases, index: &mut Buffer)
+    requires { IsAccepted (reported bases (load form bases file.now)).answer × (length (bytes_of (load form bases file.now).answer) ≤ 65536) }
     ensures { index.new ≡ put blank 0 (bytes_of (load form bases file.now).answer) }
 {
     let at = acx::opening_size(acx::form_of(form));
@@ -151,8 +155,7 @@ fn write_index(form: u32, file: &[u8], bases: Bases, index: &mut [u8])
 }
 
 // Clears the room and puts the version at its front.
-fn open_index(index: &mut [u8])
-    requires { length index.old ≡ 65536 }
+fn open_index(index: &mut Buffer)
     ensures { index.new ≡ put blank 0 (version ∷ []) }
 {
     words::fill(index, 0);
@@ -179,44 +182,42 @@ fn next_front(front: Front, found: Record) -> Front
 }
 
 // Writes what the record at `at` of the file brings, behind the last code record: fixups stand only behind one, whose kind they take.
-#[tactic(auto, using(crate::proofs::Writing::writes_code), unfolding(crate::specs::Parts::room_with))]
+#[tactic(auto, using(crate::proofs::Writing::writes_code, crate::proofs::Writing::writes_fixups, words::proofs::Runs::length_part), unfolding(crate::specs::Parts::room_with))]
 fn write_record(
-    file: &[u8],
+    file: &File,
     at: usize,
     last: Option<Kind>,
     found: Record,
     front: Front,
-    index: &mut [u8],
+    index: &mut Buffer,
 )
-    requires { Sound file.now at front found × (length file.now ≤ 65536) × (front.used + brings found ≤ 65536) × (length index.old ≡ 65536) }
+    requires { Sound file.now at front found × (front.used + brings found ≤ 65536) }
     ensures { index.new ≡ room_with file.now last front index.old found }
 {
+    prove!(file.len() <= events::FILE);
     match found {
         Record::Code { kind, address, .. } => write_code(
             kind,
             address,
-            file[at + 1] - 2,
+            file.byte(at + 1) - 2,
             front.used,
             index,
         ),
-        Record::Fixups { fixup, from, size } => {
-            let next = from + size;
-            write_fixups(
-                &file[from..next],
-                last.unwrap_or(Kind::Main),
-                fixup,
-                front,
-                index,
-            );
-        }
+        Record::Fixups { fixup, from, size } => write_fixups(
+            file.part(from, size),
+            last.unwrap_or(Kind::Main),
+            fixup,
+            front,
+            index,
+        ),
         Record::End { .. } => {}
     }
 }
 
 // Writes the entry of a code record without fixups.
 #[tactic(auto, using(crate::proofs::Writing::code_stored))]
-fn write_code(kind: Kind, address: u16, size: u8, at: usize, index: &mut [u8])
-    requires { (at + 6 ≤ length index.old) × (length index.old ≡ 65536) }
+fn write_code(kind: Kind, address: u16, size: u8, at: usize, index: &mut Buffer)
+    requires { at + 6 ≤ length index.old }
     ensures { index.new ≡ put index.old at (with_length (code_bytes (bare kind address size))) }
 {
     words::put_big_word(index, at, 4);
@@ -227,8 +228,8 @@ fn write_code(kind: Kind, address: u16, size: u8, at: usize, index: &mut [u8])
 
 // Adds the fixups that the items of a record list to the last entry: their bytes behind it, and its length anew.
 #[tactic(auto, using(crate::proofs::Writing::closes, fields::proofs::Listing::item_some))]
-fn write_fixups(items: &[u8], kind: Kind, fixup: Fixup, front: Front, index: &mut [u8])
-    requires { (length items.now ≤ 65536) × (front.entry + 2 ≤ front.used) × (front.used + 3 * (length items.now / item_size fixup) ≤ 65536) × (length index.old ≡ 65536) }
+fn write_fixups(items: &[u8], kind: Kind, fixup: Fixup, front: Front, index: &mut Buffer)
+    requires { (front.entry + 2 ≤ front.used) × (front.used + 3 * (length items.now / item_size fixup) ≤ 65536) }
     ensures { index.new ≡ closed kind fixup items.now front index.old }
 {
     write_items(items, kind, fixup, front.used, index);
@@ -238,8 +239,8 @@ fn write_fixups(items: &[u8], kind: Kind, fixup: Fixup, front: Front, index: &mu
 }
 
 // Writes the fixups that the items of a record list, one by one.
-fn write_items(items: &[u8], kind: Kind, fixup: Fixup, at: usize, index: &mut [u8])
-    requires { (length items.now ≤ 65536) × (at + 3 * (length items.now / item_size fixup) ≤ length index.old) × (length index.old ≡ 65536) }
+fn write_items(items: &[u8], kind: Kind, fixup: Fixup, at: usize, index: &mut Buffer)
+    requires { at + 3 * (length items.now / item_size fixup) ≤ length index.old }
     ensures { index.new ≡ put index.old at (fixup_bytes kind (fields_of fixup items.now)) }
 {
     let mut used = at;
@@ -251,8 +252,8 @@ fn write_items(items: &[u8], kind: Kind, fixup: Fixup, at: usize, index: &mut [u
 
 // Writes one fixup: its kind, its index and its LSB.
 #[tactic(auto, using(crate::proofs::Writing::field_stored))]
-fn write_field(kind: Kind, field: Field, at: usize, index: &mut [u8])
-    requires { (field.index < 256) × (field.lsb < 256) × (at + 3 ≤ length index.old) × (length index.old ≡ 65536) }
+fn write_field(kind: Kind, field: Field, at: usize, index: &mut Buffer)
+    requires { (field.index < 256) × (field.lsb < 256) × (at + 3 ≤ length index.old) }
     ensures { index.new ≡ put index.old at (fixup_bytes kind (field ∷ [])) }
 {
     let fixup = field.fixup;
@@ -263,8 +264,8 @@ fn write_field(kind: Kind, field: Field, at: usize, index: &mut [u8])
 
 // Writes the entry of the end record.
 #[tactic(auto, using(crate::proofs::Writing::end_stored))]
-fn write_end(entry: Entry, at: usize, index: &mut [u8])
-    requires { (at + 6 ≤ length index.old) × (length index.old ≡ 65536) }
+fn write_end(entry: Entry, at: usize, index: &mut Buffer)
+    requires { at + 6 ≤ length index.old }
     ensures { index.new ≡ put index.old at (with_length (end_bytes entry)) }
 {
     words::put_big_word(index, at, 4);

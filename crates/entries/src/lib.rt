@@ -8,6 +8,7 @@ ghost use Rattle.entries.specs.Entries.{read_code, read_end, read as read_of, ls
 use answer::Fault;
 use fields::{Field, Fixup};
 use records::{Entry, Kind, RecordType};
+use words::File;
 
 // The first byte of an index.
 pub const VERSION: u8 = 1;
@@ -31,21 +32,21 @@ pub enum IndexEntry {
 
 // Reads the entry at `at`, or says what is wrong with it.
 #[tactic(auto, unfolding(crate::specs::Entries::read, answer::specs::Checks::need))]
-pub fn read(index: &[u8], at: usize) -> Result<IndexEntry, Fault>
-    requires { (at ≤ length index.now) × (length index.now ≤ 65536) }
+pub fn read(index: &File, at: usize) -> Result<IndexEntry, Fault>
+    requires { at ≤ length index.now }
     ensures { result ≡ read_of index.now at }
 {
     if index.len() < at + 2 {
         return Err(Fault::CutShort);
     }
-    let length = words::big_word_at(index, at) as usize;
+    let length = index.big_word(at) as usize;
     if index.len() < at + 2 + length {
         return Err(Fault::CutShort);
     }
     if length < 1 {
         return Err(Fault::LengthNotAllowed);
     }
-    match records::type_of(index[at + 2]) {
+    match records::type_of(index.byte(at + 2)) {
         RecordType::Code(kind) => read_code(index, at, length, kind),
         RecordType::End => read_end(index, at, length),
         RecordType::Fixups(_, _) | RecordType::Unknown => Err(Fault::NotKnown),
@@ -54,20 +55,21 @@ pub fn read(index: &[u8], at: usize) -> Result<IndexEntry, Fault>
 
 // Reads a code record whose entry has `count` bytes after its length.
 #[tactic(auto, unfolding(crate::specs::Entries::read_code, answer::specs::Checks::need))]
-fn read_code(index: &[u8], at: usize, count: usize, kind: Kind) -> Result<IndexEntry, Fault>
-    requires { (at + 2 + count ≤ length index.now) × (length index.now ≤ 65536) }
+fn read_code(index: &File, at: usize, count: usize, kind: Kind) -> Result<IndexEntry, Fault>
+    requires { at + 2 + count ≤ length index.now }
     ensures { result ≡ read_code index.now at count kind }
 {
+    prove!(index.len() <= events::FILE);
     if count < 4 || count % 3 != 1 {
         return Err(Fault::LengthNotAllowed);
     }
-    let size = index[at + 5] as usize;
+    let size = index.byte(at + 5) as usize;
     if 253 < size {
         return Err(Fault::LengthNotAllowed);
     }
     Ok(IndexEntry::Code {
         kind,
-        address: words::big_word_at(index, at + 3),
+        address: index.big_word(at + 3),
         size,
         from: at + 6,
         length: count - 4,
@@ -76,18 +78,19 @@ fn read_code(index: &[u8], at: usize, count: usize, kind: Kind) -> Result<IndexE
 
 // Reads an end record whose entry has `count` bytes after its length.
 #[tactic(auto, unfolding(crate::specs::Entries::read_end, answer::specs::Checks::need))]
-fn read_end(index: &[u8], at: usize, count: usize) -> Result<IndexEntry, Fault>
-    requires { (at + 2 + count ≤ length index.now) × (length index.now ≤ 65536) }
+fn read_end(index: &File, at: usize, count: usize) -> Result<IndexEntry, Fault>
+    requires { at + 2 + count ≤ length index.now }
     ensures { result ≡ read_end index.now at count }
 {
+    prove!(index.len() <= events::FILE);
     if count != 4 {
         return Err(Fault::LengthNotAllowed);
     }
-    let flag = index[at + 3];
+    let flag = index.byte(at + 3);
     if 2 < flag {
         return Err(Fault::NotKnown);
     }
-    let address = words::big_word_at(index, at + 4);
+    let address = index.big_word(at + 4);
     Ok(IndexEntry::End {
         entry: records::entry_of(flag, address),
         next: at + 6,

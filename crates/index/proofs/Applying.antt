@@ -2,15 +2,12 @@
 -- Assumes nothing.
 use mathlib.Core.List.{List}
 use mathlib.Core.Path.{◌≡◌, refl, sym, ap, ◌∙◌}
-use Prim.Native.Nat.{ℕ, ◌+◌, ◌-◌, ◌≤◌}
+use Prim.Native.Nat.{ℕ, ◌+◌, ◌≤◌}
 use native.Mathlib.Omega.{arith}
-use borrow.Rule.Slice.PartMut.{mid_of}
-use lib.ListN.{length, replicate}
+use lib.ListN.{replicate}
 use Rattle.answer.specs.Checks.{failure}
 use Rattle.std.proofs.Common.{Ok}
 use Rattle.answer.specs.declared.Fault.{Fault}
-use Rattle.entries.specs.declared.IndexEntry.{IndexEntry}
-use Rattle.entries.specs.declared.IndexEntry.TheVariants.{Code, End}
 use Rattle.events.proofs.Events.{marks_append, length_run}
 use Rattle.events.specs.Events.{marks, Ran, Noted, Check}
 use Rattle.pieces.proofs.Applying.{ending_none}
@@ -20,9 +17,8 @@ use Rattle.pieces.specs.Pieces.{place_at, limit_of}
 use Rattle.pieces.specs.declared.Bases.{Bases}
 use Rattle.records.specs.declared.Entry.{Entry}
 use Rattle.records.specs.declared.Kind.{Kind}
-use Rattle.words.proofs.Lent.{lent_is}
 use Rattle.events.specs.Walk.{and_then}
-use Rattle.index.specs.Walk.{fixing, coding, applied}
+use Rattle.index.specs.Walk.{fixing, coding}
 
 -- ---- a part of the work, and another after it
 
@@ -70,18 +66,12 @@ module _ (at : ℕ) (b : Bases) (kind : Kind) (address n : ℕ) (items : List �
   unfolding coding
   coding_fixed e f = rw (← ep, ← el) (noted_then (λ q. fixing at b kind place n items q) d e f)
 
--- ---- an entry of each kind
+-- ---- the end record
 
-module _ (index : List ℕ) (at : ℕ) (b : Bases) (found : IndexEntry) (p : List ℕ) where
-  pub applied_code : {kind : Kind} {address n from count : ℕ} {r : Check} {p' : List ℕ} → found ≡ Code kind address n from count
-      → Noted Check (coding at b kind address n (mid_of from (from + count - from) index) p) p r p'
-      → Noted Check (applied index at b found p) p r p'
-  unfolding applied
-  applied_code {from = from} {count = count} e d = rw (e, ← lent_is from count index) d
-
-  pub applied_end : {entry : Entry} {next : ℕ} {r : Check} → found ≡ End entry next → r ≡ (ending at b entry next (length index)).answer
-      → Noted Check (applied index at b found p) p r p
-  unfolding applied marks
-  applied_end {entry} {next} e er =
-      let z = ending_none at b entry next (length index) in
-      rw e (record { answer = er; map = rw z refl })
+-- it marks nothing
+pub ending_noted : (at : ℕ) (b : Bases) (entry : Entry) (next len : ℕ) {r : Check} (p : List ℕ) → r ≡ (ending at b entry next len).answer
+    → Noted Check (ending at b entry next len) p r p
+unfolding marks
+ending_noted at b entry next len p e =
+    let z = ending_none at b entry next len in
+    record { answer = e; map = rw z refl }

@@ -2,7 +2,7 @@
 -- Assumes nothing.
 use mathlib.Core.Bool.{true, false}
 use mathlib.Core.List.{List}
-use mathlib.Core.Path.{◌≡◌}
+use mathlib.Core.Path.{◌≡◌, refl}
 use Prim.Native.Nat.{ℕ, ◌≤◌, ◌<◌}
 use borrow.Author.Tests.{le-leb, lt-leb, eq-eqb, ne_eqb}
 use lib.ListN.{length, get_or}
@@ -17,9 +17,14 @@ use Rattle.events.specs.Events.{blank, Noted}
 use Rattle.pieces.specs.declared.Bases.{Bases}
 use Rattle.index.specs.Walk.{begun, entries_from, judged, formless, indexed}
 
-module _ (index : List ℕ) (b : Bases) {r : Outcome} {p : List ℕ} where
-  -- ---- the version and the entries
+-- ---- the version and the entries
 
+-- with its version, the entries of an index decide
+pub index_walked : (index : List ℕ) (b : Bases) → 1 ≤ length index → get_or index 0 0 ≡ version → judged index b ≡ entries_from index b begun blank
+unfolding judged need
+index_walked index b there h = rw (le-leb _ _ there, eq-eqb _ _ h) refl
+
+module _ (index : List ℕ) (b : Bases) {r : Outcome} {p : List ℕ} where
   -- an empty index is the refusal
   pub index_empty : length index < 1 → r ≡ refusal CutShort 0 0 → p ≡ blank → Noted Outcome (reported b (judged index b)) blank r p
   unfolding judged need
@@ -30,12 +35,6 @@ module _ (index : List ℕ) (b : Bases) {r : Outcome} {p : List ℕ} where
     pub index_other : (get_or index 0 0 ≡ version → ⊥) → r ≡ refusal WrongVersion 0 0 → p ≡ blank → Noted Outcome (reported b (judged index b)) blank r p
     unfolding judged need
     index_other h er ep = rw (le-leb _ _ there, ne_eqb _ _ h, er, ep) (noted_none _ blank)
-
-    -- and then the entries decide
-    pub index_walked : get_or index 0 0 ≡ version → Noted Outcome (reported b (entries_from index b begun blank)) blank r p
-        → Noted Outcome (reported b (judged index b)) blank r p
-    unfolding judged need
-    index_walked h d = rw (le-leb _ _ there, eq-eqb _ _ h) d
 
   -- ---- the settings and the length
 

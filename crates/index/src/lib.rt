@@ -6,14 +6,15 @@ ghost use Rattle.acx.specs.Walk.{reported};
 ghost use Rattle.answer.specs.Report.{Outcome};
 ghost use Rattle.events.specs.Events.{blank, Check, Noted};
 ghost use Rattle.pieces.specs.Pieces.{bases_at};
-ghost use Rattle.index.specs.Walk.{fixing, coding, applied, begun, entries_from, judged, indexed};
+ghost use Rattle.index.specs.Walk.{fixing, coding, applied, judged, indexed};
 ghost use Rattle.index.specs.Cursor.{first_cursor, advanced, Lies};
 
-use answer::{Failure, Fault, Outcome};
+use answer::{Fault, Outcome};
 use entries::IndexEntry;
-use events::Check;
+use events::{Buffer, Check};
 use pieces::Bases;
 use records::Kind;
+use words::File;
 
 // An index has no form: in the ranges of its bases it goes by any.
 const FORMLESS: u32 = 0;
@@ -27,43 +28,34 @@ pub struct Cursor {
 }
 
 // Checks an index at a pair of bases: the settings, then the index's length, then the index. Leaves the map with the marks up to the end or the fault.
-pub fn walk_call(index: &[u8], main_base: u32, zero_base: u32, map: &mut [u8]) -> Outcome
-    requires { length map.old ≡ 65536 }
+pub fn walk_call(index: &[u8], main_base: u32, zero_base: u32, map: &mut Buffer) -> Outcome
     ensures { Noted Outcome (reported (bases_at main_base zero_base) (indexed (bases_at main_base zero_base) index.now)) blank result map.new }
 {
     words::fill(map, 0);
     if !acx::in_range(FORMLESS, main_base, zero_base) {
         return answer::refused(Fault::SettingOutOfRange, 0);
     }
-    if events::FILE < index.len() {
+    let Some(index) = File::new(index) else {
         return answer::refused(Fault::FileTooLong, 0);
-    }
+    };
     let bases = Bases {
         main: main_base as u16,
         zero: zero_base as u16,
     };
-    walk_index(index, bases, map)
+    walk(&index, bases, map)
 }
 
 // Walks an index over a clear map: its version, then its entries.
-fn walk_index(index: &[u8], bases: Bases, map: &mut [u8]) -> Outcome
-    requires { (length index.now ≤ 65536) × (length map.old ≡ 65536) × (map.old ≡ blank) }
+fn walk(index: &File, bases: Bases, map: &mut Buffer) -> Outcome
+    requires { map.old ≡ blank }
     ensures { Noted Outcome (reported bases (judged index.now bases)) blank result map.new }
 {
     if index.len() < 1 {
         return answer::refused(Fault::CutShort, 0);
     }
-    if index[0] != entries::VERSION {
+    if index.byte(0) != entries::VERSION {
         return answer::refused(Fault::WrongVersion, 0);
     }
-    walk(index, bases, map)
-}
-
-// Walks all entries, over a clear map.
-fn walk(index: &[u8], bases: Bases, map: &mut [u8]) -> Outcome
-    requires { (1 ≤ length index.now) × (length index.now ≤ 65536) × (length map.old ≡ 65536) × (map.old ≡ blank) }
-    ensures { Noted Outcome (reported bases (entries_from index.now bases begun blank)) blank result map.new }
-{
     let mut cursor = first_cursor();
     loop {
         let found = match entries::read(index, cursor.at) {
@@ -112,8 +104,9 @@ fn advance(cursor: Cursor, found: IndexEntry) -> Cursor
 }
 
 // Checks the entry at `at` at the bases and marks it in the map.
-fn apply(index: &[u8], at: usize, bases: Bases, found: IndexEntry, map: &mut [u8]) -> Check
-    requires { (length index.now ≤ 65536) × Lies (length index.now) found × (length map.old ≡ 65536) }
+#[tactic(auto, using(words::proofs::Runs::length_part, crate::proofs::Applying::ending_noted), unfolding(crate::specs::Walk::applied))]
+fn apply(index: &File, at: usize, bases: Bases, found: IndexEntry, map: &mut Buffer) -> Check
+    requires { Lies (length index.now) found }
     ensures { Noted Check (applied index.now at bases found map.old) map.old result map.new }
 {
     match found {
@@ -123,10 +116,15 @@ fn apply(index: &[u8], at: usize, bases: Bases, found: IndexEntry, map: &mut [u8
             size,
             from,
             length,
-        } => {
-            let next = from + length;
-            mark_entry(&index[from..next], at, bases, kind, address, size, map)
-        }
+        } => mark_entry(
+            index.part(from, length),
+            at,
+            bases,
+            kind,
+            address,
+            size,
+            map,
+        ),
         IndexEntry::End { entry, next } => pieces::end(at, bases, entry, next, index.len()),
     }
 }
@@ -139,9 +137,9 @@ fn mark_entry(
     kind: Kind,
     address: u16,
     size: usize,
-    map: &mut [u8],
+    map: &mut Buffer,
 ) -> Check
-    requires { (size ≤ 253) × (length items.now ≤ 65536) × (length items.now % 3 ≡ 0) × (length map.old ≡ 65536) }
+    requires { (size ≤ 253) × (length items.now % 3 ≡ 0) }
     ensures { Noted Check (coding at bases kind address size items.now map.old) map.old result map.new }
 {
     let place = pieces::place_of(bases, kind, address);
@@ -156,9 +154,9 @@ fn mark_fixups(
     kind: Kind,
     place: usize,
     size: usize,
-    map: &mut [u8],
+    map: &mut Buffer,
 ) -> Check
-    requires { (length items.now ≤ 65536) × (length items.now % 3 ≡ 0) × (place + size ≤ 65536) × (length map.old ≡ 65536) }
+    requires { (length items.now % 3 ≡ 0) × (place + size ≤ 65536) }
     ensures { (bases : Bases) → Noted Check (fixing at bases kind place size items.now map.old) map.old result map.new }
 {
     for item in items.chunks_exact(3) {
@@ -168,22 +166,20 @@ fn mark_fixups(
 }
 
 // Marks the field of `size` code bytes of a kind at `place` that an item lists.
+#[tactic(auto, using(crate::proofs::Fixing::item_unsuited))]
 fn mark_fixup(
     item: &[u8],
     at: usize,
     kind: Kind,
     place: usize,
     size: usize,
-    map: &mut [u8],
+    map: &mut Buffer,
 ) -> Check
-    requires { (length item.now ≡ 3) × (place + size ≤ 65536) × (length map.old ≡ 65536) }
+    requires { (length item.now ≡ 3) × (place + size ≤ 65536) }
     ensures { (bases : Bases) → Noted Check (fixing at bases kind place size item.now map.old) map.old result map.new }
 {
     let Some(field) = entries::listed_at(item, 0, kind) else {
-        return Err(Failure {
-            fault: Fault::FixupUnsuited,
-            offset: at,
-        });
+        return Err(Fault::FixupUnsuited.at(at));
     };
     pieces::mark_field(field, at, place, size, map)
 }

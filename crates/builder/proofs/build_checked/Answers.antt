@@ -8,7 +8,7 @@ use Rattle.builder.proofs.build_checked.Goals as goal
 pub returns-then-length-gt-MEMORY : goal.returns-then-length-gt-MEMORY
 returns-then-length-gt-MEMORY c =
     built_long c.requires.0 c.index_length-length.ensures.0 (omega (arith, c.if-length-gt-MEMORY.true)) c.refused.ensures
-    (cleared _ _ c.requires.3 c.fill.ensures)
+    (cleared _ _ (omega arith) c.fill.ensures)
 
 pub returns : goal.returns
 returns c =

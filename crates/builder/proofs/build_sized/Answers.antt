@@ -1,8 +1,9 @@
 -- `builder::build_sized` meets its contract: the check left the room alone; where it refused, the map is cleared, and where it did not,
 -- the file is accepted, at bases in their ranges.
 -- Assumes nothing.
-use mathlib.Core.Path.{sym, ◌∙◌}
+use mathlib.Core.Path.{◌≡◌, sym, ◌∙◌}
 use native.Mathlib.Omega.{arith}
+use Rattle.std.proofs.Common.{rules}
 use Rattle.events.proofs.Events.{cleared}
 use Rattle.builder.proofs.Building.{built_refused, built_checked, check_accepts}
 use Rattle.builder.proofs.build_sized.Goals as goal
@@ -10,11 +11,17 @@ use Rattle.builder.proofs.build_sized.Goals as goal
 pub returns-then-is_err : goal.returns-then-is_err
 returns-then-is_err c =
     built_refused c.walk_call-checked.ensures (sym c.is_err.ensures.value ∙ c.if-is_err.true)
-    (cleared _ _ (c.walk_call-checked.auto.map ∙ c.requires.0) c.fill.ensures)
+    (cleared _ _ (omega arith) c.fill.ensures)
 
 pub returns : goal.returns
 returns c =
-    built_checked c.walk_call-checked.ensures c.build_checked.ensures
+    let same : ◌≡◌ c.unwrap-file.result c.args.file.now = search rules in
+    built_checked c.walk_call-checked.ensures (rw same at c.build_checked.ensures)
+
+pub unwrap-file-requires : goal.unwrap-file-requires
+unwrap-file-requires c =
+    let fits = (check_accepts _ _ _ c.walk_call-checked.ensures.answer (sym c.is_err.ensures.value ∙ c.if-is_err.false)).3 in
+    search (rules, fits)
 
 pub overflow_cast-bases : goal.overflow_cast-bases
 overflow_cast-bases c =

@@ -4,7 +4,7 @@ use mathlib.Core.Path.{sym, ap, ◌∙◌}
 use native.Mathlib.Omega.{arith}
 use Rattle.acx.proofs.Cursors.{tracks_counts}
 use Rattle.acx.specs.Walk.{opening_size}
-use Rattle.builder.proofs.Filling.{filling_first, filling_long, filling_sound, filling_end_room, filling_end, filling_room, filling_on}
+use Rattle.builder.proofs.Filling.{filling_first, filling_sound, filling_end_room, filling_end, filling_room, filling_on}
 use Rattle.builder.proofs.Walking.{walkable, walkable_short, read_some, read_ends_by, read_onward, read_further}
 use Rattle.builder.proofs.write_index.Goals as goal
 
@@ -25,7 +25,7 @@ write_record-requires c =
     let k = walkable_short l.0 c.requires.1 in
     let o = read_onward l.1.tracks (sym c.unwrap-found.ensures ∙ c.read.ensures) l.0.yes c.in_default.not-End in
     let room = filling_room l.1 (sym c.unwrap-found.ensures ∙ c.read.ensures) l.0.yes o k in
-    (filling_sound l.1 (sym c.unwrap-found.ensures ∙ c.read.ensures), l.0.fits, room, filling_long l.1)
+    (filling_sound l.1 (sym c.unwrap-found.ensures ∙ c.read.ensures), room)
 
 pub next_front-front-requires : goal.next_front-front-requires
 next_front-front-requires c =
@@ -61,4 +61,4 @@ pub write_end-requires : goal.write_end-requires
 write_end-requires c =
     let l = c.loop-entry.invariant in
     let k = walkable_short l.0 c.requires.1 in
-    (filling_end_room l.1 (sym c.unwrap-found.ensures ∙ c.read.ensures) l.0.yes c.in-End.is k, filling_long l.1)
+    filling_end_room l.1 (sym c.unwrap-found.ensures ∙ c.read.ensures) l.0.yes c.in-End.is k

@@ -19,7 +19,7 @@ write_field-requires c =
     let s = c.in-Some.ensures.steps.1 in
     let f = c.field_at.ensures in
     let n = item_next c.args.fixup _ _ _ s.0 (s.1 ∙ l.0) f.0 in
-    (f.1, f.2, listing_room l.1 n (rw length_fields c.requires.1), omega (arith, listing_long l.1, c.requires.2))
+    (f.1, f.2, listing_room l.1 n (rw length_fields c.requires))
 
 pub loop-item-preserved : goal.loop-item-preserved
 loop-item-preserved c =
@@ -38,4 +38,4 @@ overflow_add-used c =
     let l = c.loop-item.invariant in
     let s = c.in-Some.ensures.steps.1 in
     let n = item_next c.args.fixup _ _ _ s.0 (s.1 ∙ l.0) c.field_at.ensures.0 in
-    omega (arith, listing_room l.1 n (rw length_fields c.requires.1), listing_long l.1, c.requires.2)
+    omega (arith, listing_room l.1 n (rw length_fields c.requires), listing_long l.1)

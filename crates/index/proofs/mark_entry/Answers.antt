@@ -1,6 +1,5 @@
 -- `index::mark_entry` meets its contract: the code is marked, and then its fixups, where its marks were not refused.
 -- Assumes nothing.
-use mathlib.Core.Path.{◌∙◌}
 use Rattle.std.proofs.lemmas.Result.{err_from_is_err_and}
 use Rattle.index.proofs.Applying.{code_room, coding_refused, coding_fixed}
 use Rattle.index.proofs.mark_entry.Goals as goal
@@ -18,4 +17,4 @@ returns c =
 pub mark_fixups-requires : goal.mark_fixups-requires
 mark_fixups-requires c =
     let room = code_room _ _ _ _ c.mark_code.ensures c.limit.ensures.1 c.in_ok-mark_code.was in
-    (c.requires.1, c.requires.2, room, c.mark_code.auto.map ∙ c.requires.3)
+    (c.requires.1, room)

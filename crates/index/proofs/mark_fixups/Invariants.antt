@@ -7,5 +7,5 @@ use Rattle.index.proofs.Fixing.{Fixing}
 use Rattle.index.proofs.mark_fixups.Given as goal
 
 abbrev pub invariant-loop-item : goal.invariant-loop-item
-invariant-loop-item l = (l.item-iterator.size ≡ 3) × (length l.item-iterator.rest.now % 3 ≡ 0) × (length l.map ≡ 65536)
+invariant-loop-item l = (l.item-iterator.size ≡ 3) × (length l.item-iterator.rest.now % 3 ≡ 0)
     × ((b : Bases) → Fixing l.at b l.kind l.place l.size l.items l.initial.map l.item-iterator.rest.now l.map)
