@@ -20,7 +20,7 @@ use Rattle.records.specs.Records.{type_of, entries}
 use Rattle.records.specs.declared.Entry.TheVariants.{Nowhere}
 use Rattle.records.specs.declared.Kind.{Kind}
 use Rattle.records.specs.declared.RecordType.{RecordType}
-use Rattle.records.specs.declared.RecordType.TheVariants.{Code as code, Fixups as fixups, End as end, Unknown as unknown}
+use Rattle.records.specs.declared.RecordType.TheVariants.{Code as code, Fixups as fixups, End as end}
 use Rattle.words.proofs.Big.{big_value_word}
 use Rattle.words.specs.Numbers.{big_value}
 use Rattle.words.specs.Runs.{Bytes}
@@ -97,12 +97,12 @@ read_lies index at =
     (λ h₂. on_need faulty P _ _ _ _ (wrong header)
     (λ h₃. typed header (leb-true _ _ h₂) (type_of (get_or index (at + 2) 0)))))
   where
-    typed : at + 2 ≤ length index → at + 2 + big_value 2 index at ≤ length index → (t : RecordType)
+    typed : at + 2 ≤ length index → at + 2 + big_value 2 index at ≤ length index → (t : Option RecordType)
         → Lies (length index) at (read_as index at (big_value 2 index at) t)
-    typed h l (code kind) = code_lies index at _ kind l
-    typed h l (fixups kind fixup) = strange h
-    typed h l end = end_lies index at _ l
-    typed h l unknown = strange h
+    typed h l (Some (code kind)) = code_lies index at _ kind l
+    typed h l (Some (fixups kind fixup)) = strange h
+    typed h l (Some end) = end_lies index at _ l
+    typed h l None = strange h
 
 -- the same of an entry known to be what is read
 pub lies_as : (index : List ℕ) (at : ℕ) (e : Read) → read index at ≡ e → Where (length index) at e
@@ -164,18 +164,18 @@ read_words index at b =
     (λ h₂. on_need faulty Words _ _ _ _ none
     (λ h₃. typed (leb-true _ _ h₂) (type_of (get_or index (at + 2) 0)))))
   where
-    typed : at + 2 + big_value 2 index at ≤ length index → (t : RecordType) → Words (read_as index at (big_value 2 index at) t)
-    typed l (code kind) =
+    typed : at + 2 + big_value 2 index at ≤ length index → (t : Option RecordType) → Words (read_as index at (big_value 2 index at) t)
+    typed l (Some (code kind)) =
         on_need faulty Words _ _ _ _ none
         (λ h₁. let four = leb-true 4 (big_value 2 index at) (and_true _ _ h₁).0 in
         on_need faulty Words _ _ _ _ none (λ h₂. record { words = word_below index (at + 3) b (omega (arith, four, l)) }))
-    typed l (fixups kind fixup) = none
-    typed l end =
+    typed l (Some (fixups kind fixup)) = none
+    typed l (Some end) =
         on_need faulty Words _ _ _ _ none
         (λ h₁. let four = eqb-true (big_value 2 index at) 4 h₁ in
         on_need faulty Words _ _ _ _ none
         (λ h₂. record { words = flag_below _ (get_or index (at + 3) 0) (word_below index (at + 4) b (omega (arith, four, l))) }))
-    typed l unknown = none
+    typed l None = none
 
 pub addressed_as : (index : List ℕ) (at : ℕ) (e : Read) → Bytes index → read index at ≡ e → Addressed e
 addressed_as index at e b is =
@@ -192,11 +192,11 @@ lsb_below ZeroPageByte lsb h = omega arith
 lsb_below Word lsb h = omega arith
 lsb_below HighByte lsb h = omega arith
 
-listed_bytes : (kind : Kind) (t : RecordType) (i lsb : ℕ) → i < 256 → lsb < 256 → InBytes (listed kind t i lsb)
-listed_bytes kind (code before) i lsb h k = tt
-listed_bytes kind (fixups of fixup) i lsb h k = on_pick InBytes _ _ _ (λ _. (h, lsb_below fixup lsb k)) (λ _. tt)
-listed_bytes kind end i lsb h k = tt
-listed_bytes kind unknown i lsb h k = tt
+listed_bytes : (kind : Kind) (t : Option RecordType) (i lsb : ℕ) → i < 256 → lsb < 256 → InBytes (listed kind t i lsb)
+listed_bytes kind (Some (code before)) i lsb h k = tt
+listed_bytes kind (Some (fixups of fixup)) i lsb h k = on_pick InBytes _ _ _ (λ _. (h, lsb_below fixup lsb k)) (λ _. tt)
+listed_bytes kind (Some end) i lsb h k = tt
+listed_bytes kind None i lsb h k = tt
 
 joined_bytes : (x : Option Field) (fs : List Field) → InBytes x → Each FieldBytes fs → Each FieldBytes (joined x fs)
 joined_bytes (Some f) fs h k = (h, k)

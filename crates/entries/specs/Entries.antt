@@ -11,7 +11,7 @@ use Rattle.fields.specs.declared.Fixup.TheVariants.{LowByte, ZeroPageByte, Word,
 use Rattle.records.specs.Records.{type_of, suits, entry_of}
 use Rattle.records.specs.declared.Kind.{Kind}
 use Rattle.records.specs.declared.RecordType.{RecordType}
-use Rattle.records.specs.declared.RecordType.TheVariants.{Code as code, Fixups as fixups, End as end, Unknown as unknown}
+use Rattle.records.specs.declared.RecordType.TheVariants.{Code as code, Fixups as fixups, End as end}
 use Rattle.words.specs.Numbers.{big_value}
 use Rattle.entries.specs.declared.IndexEntry.{IndexEntry}
 use Rattle.entries.specs.declared.IndexEntry.TheVariants.{Code, End}
@@ -42,11 +42,11 @@ read_end index at n =
     (Ok (End (entry_of flag (big_value 2 index (at + 4))) (at + 6))))
 
 -- an entry as its type says: code records and the end record have entries, nothing else (6)
-abbrev pub read_as : List ℕ → ℕ → ℕ → RecordType → Read
-read_as index at n (code kind) = read_code index at n kind
-read_as index at n (fixups kind fixup) = Err NotKnown
-read_as index at n end = read_end index at n
-read_as index at n unknown = Err NotKnown
+abbrev pub read_as : List ℕ → ℕ → ℕ → Option RecordType → Read
+read_as index at n (Some (code kind)) = read_code index at n kind
+read_as index at n (Some (fixups kind fixup)) = Err NotKnown
+read_as index at n (Some end) = read_end index at n
+read_as index at n None = Err NotKnown
 
 -- the entry at an offset: "5 if cut, 9 if empty, 6, .."
 unfoldable pub read : List ℕ → ℕ → Read
@@ -67,12 +67,12 @@ lsb_for Word lsb = 0
 lsb_for HighByte lsb = lsb
 
 -- what a fixup of the kind t lists after code of a kind: a field, or none for "any bad kind", by the rule for records
-abbrev pub listed : Kind → RecordType → ℕ → ℕ → Option Field
-listed before (code kind) index lsb = None
-listed before (fixups kind fixup) index lsb =
+abbrev pub listed : Kind → Option RecordType → ℕ → ℕ → Option Field
+listed before (Some (code kind)) index lsb = None
+listed before (Some (fixups kind fixup)) index lsb =
     pick (suits kind (Some before)) (Some (record { fixup = fixup; index = index; lsb = lsb_for fixup lsb })) None
-listed before end index lsb = None
-listed before unknown index lsb = None
+listed before (Some end) index lsb = None
+listed before None index lsb = None
 
 -- a field before others; a bad kind ends the list
 abbrev pub joined : Option Field → List Field → List Field

@@ -47,9 +47,9 @@ pub fn read(index: &File, at: usize) -> Result<IndexEntry, Fault>
         return Err(Fault::LengthNotAllowed);
     }
     match records::type_of(index.byte(at + 2)) {
-        RecordType::Code(kind) => read_code(index, at, length, kind),
-        RecordType::End => read_end(index, at, length),
-        RecordType::Fixups(_, _) | RecordType::Unknown => Err(Fault::NotKnown),
+        Some(RecordType::Code(kind)) => read_code(index, at, length, kind),
+        Some(RecordType::End) => read_end(index, at, length),
+        Some(RecordType::Fixups(_, _)) | None => Err(Fault::NotKnown),
     }
 }
 
@@ -103,7 +103,7 @@ pub fn listed_at(items: &[u8], at: usize, kind: Kind) -> Option<Field>
     requires { at + 3 ≤ length items.now }
     ensures { (result ≡ listed kind (type_of (get_or items.now at 0)) (get_or items.now (at + 1) 0) (get_or items.now (at + 2) 0)) × InBytes result }
 {
-    let RecordType::Fixups(of, fixup) = records::type_of(items[at]) else {
+    let Some(RecordType::Fixups(of, fixup)) = records::type_of(items[at]) else {
         return None;
     };
     if !records::suits(of, Some(kind)) {

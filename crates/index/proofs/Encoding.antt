@@ -11,7 +11,7 @@ use Rattle.acx.proofs.Walking.{accepted_keeps}
 use Rattle.acx.specs.Call.{form_of}
 use Rattle.acx.specs.Rules.{Onward, Accepts}
 use Rattle.acx.specs.Walk.{Progress, last_of, record_at, with_fields, stepped}
-use Rattle.std.proofs.Common.{Option, Ok, Err}
+use Rattle.std.proofs.Common.{Option, Ok, Err, Some, None}
 use Rattle.answer.proofs.Checks.{on_need}
 use Rattle.answer.specs.Checks.{failure}
 use Rattle.answer.specs.declared.Fault.{Fault}
@@ -33,7 +33,7 @@ use Rattle.records.specs.declared.Entry.{Entry}
 use Rattle.records.specs.declared.Kind.{Kind}
 use Rattle.records.specs.declared.Record.TheVariants.{Code, Fixups, End}
 use Rattle.records.specs.declared.RecordType.{RecordType}
-use Rattle.records.specs.declared.RecordType.TheVariants.{Code as code, Fixups as fixups, End as end, Unknown as unknown}
+use Rattle.records.specs.declared.RecordType.TheVariants.{Code as code, Fixups as fixups, End as end}
 use Rattle.words.proofs.Changes.{value_lt}
 use Rattle.words.proofs.Runs.{length_part, bytes_part}
 use Rattle.words.specs.Runs.{Bytes, part}
@@ -60,26 +60,26 @@ read_narrow : (file : List ℕ) (at : ℕ) (last : Option Kind) → Bytes file �
 unfolding read read_code read_fixups read_items read_end
 read_narrow file at last b = on_need failure Narrow _ _ _ _ none (λ _. typed (type_of (get_or file at 0)))
   where
-    typed : (t : RecordType) → Narrow (read_as file at last t)
-    typed (code kind) =
+    typed : (t : Option RecordType) → Narrow (read_as file at last t)
+    typed (Some (code kind)) =
         on_need failure Narrow _ _ _ _ none
         (λ _. on_need failure Narrow _ _ _ _ none
         (λ h₂. let two = leb-true 2 (get_or file (at + 1) 0) h₂ in
         on_need failure Narrow _ _ _ _ none
         (λ h₃. let l = leb-true (at + 2 + get_or file (at + 1) 0) (length file) h₃ in
         record { in_word = value_lt 2 file (at + 2) (omega arith) b })))
-    typed (fixups kind fixup) =
+    typed (Some (fixups kind fixup)) =
         on_need failure Narrow _ _ _ _ none
         (λ _. on_need failure Narrow _ _ _ _ none
         (λ _. on_need failure Narrow _ _ _ _ none
         (λ _. on_need failure Narrow _ _ _ _ none
         (λ _. record { in_word = tt }))))
-    typed end =
+    typed (Some end) =
         on_need failure Narrow _ _ _ _ none
         (λ h₁. let l = leb-true (at + 4) (length file) h₁ in
         on_need failure Narrow _ _ _ _ none
         (λ _. record { in_word = flag_below _ (get_or file (at + 1) 0) (value_lt 2 file (at + 2) (omega arith) b) }))
-    typed unknown = none
+    typed None = none
 
 in_word_as : (file : List ℕ) (at : ℕ) (last : Option Kind) (r : Read) → Bytes file → read file at last ≡ r → InWord r
 in_word_as file at last r b e =

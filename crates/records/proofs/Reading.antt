@@ -19,7 +19,7 @@ use Rattle.records.specs.declared.Kind.{Kind}
 use Rattle.records.specs.declared.Kind.TheVariants.{Main, ZeroPage, Absolute}
 use Rattle.records.specs.declared.Record.TheVariants.{Code, Fixups, End}
 use Rattle.records.specs.declared.RecordType.{RecordType}
-use Rattle.records.specs.declared.RecordType.TheVariants.{Code as code, Fixups as fixups, End as end, Unknown as unknown}
+use Rattle.records.specs.declared.RecordType.TheVariants.{Code as code, Fixups as fixups, End as end}
 
 -- ---- a record lies in its file
 
@@ -77,11 +77,11 @@ unfolding read
 read_lies file at last =
     on_need failure (Lies (length file) at) _ _ _ _ (bad refl (omega arith)) (λ h. typed (ltb-true _ _ h) (type_of (get_or file at 0)))
   where
-    typed : at < length file → (t : RecordType) → Lies (length file) at (read_as file at last t)
-    typed h (code kind) = code_lies file at kind
-    typed h (fixups kind fixup) = fixups_lie file at last kind fixup
-    typed h end = end_lies file at
-    typed h unknown = bad refl (omega arith)
+    typed : at < length file → (t : Option RecordType) → Lies (length file) at (read_as file at last t)
+    typed h (Some (code kind)) = code_lies file at kind
+    typed h (Some (fixups kind fixup)) = fixups_lie file at last kind fixup
+    typed h (Some end) = end_lies file at
+    typed h None = bad refl (omega arith)
 
 -- the same of a record known to be what is read
 pub lies_as : (file : List ℕ) (at : ℕ) (last : Option Kind) (r : Read) → read file at last ≡ r → Where (length file) at r
@@ -148,11 +148,11 @@ read_follows : (file : List ℕ) (at : ℕ) (last : Option Kind) → Follows las
 unfolding read
 read_follows file at last = on_need failure (Follows last) _ _ _ _ free (λ _. typed (type_of (get_or file at 0)))
   where
-    typed : (t : RecordType) → Follows last (read_as file at last t)
-    typed (code kind) = code_follows file at last kind
-    typed (fixups kind fixup) = fixups_follow file at last kind fixup
-    typed end = end_follows file at last
-    typed unknown = free
+    typed : (t : Option RecordType) → Follows last (read_as file at last t)
+    typed (Some (code kind)) = code_follows file at last kind
+    typed (Some (fixups kind fixup)) = fixups_follow file at last kind fixup
+    typed (Some end) = end_follows file at last
+    typed None = free
 
 -- where a fixup record is read, there is a code record before
 pub fixups_after : (file : List ℕ) (at : ℕ) (last : Option Kind) (fixup : Fixup) (from size : ℕ) → read file at last ≡ Ok (Fixups fixup from size)
@@ -208,11 +208,11 @@ read_long : (file : List ℕ) (at : ℕ) (last : Option Kind) → Long file at (
 unfolding read
 read_long file at last = on_need failure (Long file at) _ _ _ _ none (λ _. typed (type_of (get_or file at 0)))
   where
-    typed : (t : RecordType) → Long file at (read_as file at last t)
-    typed (code kind) = code_long file at kind
-    typed (fixups kind fixup) = fixups_long file at last kind fixup
-    typed end = end_long file at
-    typed unknown = none
+    typed : (t : Option RecordType) → Long file at (read_as file at last t)
+    typed (Some (code kind)) = code_long file at kind
+    typed (Some (fixups kind fixup)) = fixups_long file at last kind fixup
+    typed (Some end) = end_long file at
+    typed None = none
 
 -- a code record is as long as its length byte says
 pub code_measured : (file : List ℕ) (at : ℕ) (last : Option Kind) (kind : Kind) (address from size : ℕ) → read file at last ≡ Ok (Code kind address from size)

@@ -13,7 +13,7 @@ use Rattle.records.specs.declared.Kind.{Kind}
 use Rattle.records.specs.declared.Kind.TheVariants.{Main, ZeroPage, Absolute}
 use Rattle.records.specs.declared.RecordType.TheVariants.{Code, Fixups, End}
 
-pub code_type_back : (kind : Kind) → type_of (code_type kind) ≡ Code kind
+pub code_type_back : (kind : Kind) → type_of (code_type kind) ≡ Some (Code kind)
 code_type_back Main = refl
 code_type_back ZeroPage = refl
 code_type_back Absolute = refl
@@ -30,7 +30,7 @@ fixups_suit Main = refl
 fixups_suit ZeroPage = refl
 fixups_suit Absolute = refl
 
-pub fixup_type_back : (kind : Kind) (fixup : Fixup) → type_of (fixup_type kind fixup) ≡ Fixups (fixups_for kind) fixup
+pub fixup_type_back : (kind : Kind) (fixup : Fixup) → type_of (fixup_type kind fixup) ≡ Some (Fixups (fixups_for kind) fixup)
 fixup_type_back Main LowByte = refl
 fixup_type_back Main ZeroPageByte = refl
 fixup_type_back Main Word = refl
@@ -45,7 +45,7 @@ fixup_type_back Absolute Word = refl
 fixup_type_back Absolute HighByte = refl
 
 -- the end record's too
-pub end_type_back : type_of end_type ≡ End
+pub end_type_back : type_of end_type ≡ Some End
 end_type_back = refl
 
 pub entry_back : (entry : Entry) → entry_of (flag_of entry) (address_in entry) ≡ entry

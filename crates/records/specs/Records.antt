@@ -3,7 +3,7 @@
 -- known (6) is itself "the field .. at fault".
 -- Cited by `records::read`; what is left to check, at the bases and against the map, stands in `pieces`.
 -- Assumes nothing.
-use Rattle.std.specs.Prelude.{Bool, true, false, ◌&&◌, List, [], ◌∷◌, ℕ, ◌+◌, ◌-◌, ◌%◌, ltb, leb, eqb, length, get_or, Option, Some, None, Result, Ok}
+use Rattle.std.specs.Prelude.{Bool, true, false, ◌&&◌, List, [], ◌∷◌, ℕ, ◌+◌, ◌-◌, ◌%◌, ltb, leb, eqb, length, get_or, slice_get, Option, Some, None, Result, Ok}
 use Rattle.answer.specs.Checks.{need, failure}
 use Rattle.answer.specs.declared.Failure.{Failure}
 use Rattle.answer.specs.declared.Fault.TheVariants.{CutShort, NotKnown, LengthNotAllowed, FixupUnsuited}
@@ -17,7 +17,7 @@ use Rattle.records.specs.declared.Kind.TheVariants.{Main, ZeroPage, Absolute}
 use Rattle.records.specs.declared.Record.{Record}
 use Rattle.records.specs.declared.Record.TheVariants.{Code, Fixups, End}
 use Rattle.records.specs.declared.RecordType.{RecordType}
-use Rattle.records.specs.declared.RecordType.TheVariants.{Code as code, Fixups as fixups, End as end, Unknown as unknown}
+use Rattle.records.specs.declared.RecordType.TheVariants.{Code as code, Fixups as fixups, End as end}
 
 -- the types 00 to 0B. A fixup type has the relocatable code that it is for, "02, 04, 06, 08 after 00; 03, 05, 07, 09 after 0A"; `suits` says what it
 -- may follow.
@@ -38,8 +38,8 @@ types =
     ∷ []
 
 -- what a type byte says
-abbrev pub type_of : ℕ → RecordType
-type_of byte = get_or types byte unknown
+abbrev pub type_of : ℕ → Option RecordType
+type_of byte = slice_get types byte
 
 -- what reading comes to: a record, or the first fault with its offset
 abbrev pub Read : Type 0
@@ -105,11 +105,11 @@ read_end file at =
     (Ok (End (entry_of flag (value 2 file (at + 2))) (at + 4))))
 
 -- a record as its type says
-abbrev pub read_as : List ℕ → ℕ → Option Kind → RecordType → Read
-read_as file at last (code kind) = read_code file at kind
-read_as file at last (fixups kind fixup) = read_fixups file at last kind fixup
-read_as file at last end = read_end file at
-read_as file at last unknown = failure NotKnown at
+abbrev pub read_as : List ℕ → ℕ → Option Kind → Option RecordType → Read
+read_as file at last (Some (code kind)) = read_code file at kind
+read_as file at last (Some (fixups kind fixup)) = read_fixups file at last kind fixup
+read_as file at last (Some end) = read_end file at
+read_as file at last None = failure NotKnown at
 
 -- the record at an offset: "Type known (5, 6)", and then as the type says
 unfoldable pub read : List ℕ → ℕ → Option Kind → Read

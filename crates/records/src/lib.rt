@@ -35,7 +35,6 @@ pub enum RecordType {
     Code(Kind),
     Fixups(Kind, Fixup),
     End,
-    Unknown,
 }
 
 // A record: its code bytes or its items are the `size` bytes of the file from `from` on, and the next record begins after them.
@@ -66,20 +65,19 @@ pub fn read(file: &File, at: usize, last: Option<Kind>) -> Result<Record, Failur
     if file.len() <= at {
         return Err(Fault::CutShort.at(file.len()));
     }
-    let record_type = type_of(file.byte(at));
-    match record_type {
-        RecordType::Code(kind) => read_code(file, at, kind),
-        RecordType::Fixups(kind, fixup) => read_fixups(file, at, last, kind, fixup),
-        RecordType::End => read_end(file, at),
-        RecordType::Unknown => Err(Fault::NotKnown.at(at)),
+    match type_of(file.byte(at)) {
+        Some(RecordType::Code(kind)) => read_code(file, at, kind),
+        Some(RecordType::Fixups(kind, fixup)) => read_fixups(file, at, last, kind, fixup),
+        Some(RecordType::End) => read_end(file, at),
+        None => Err(Fault::NotKnown.at(at)),
     }
 }
 
-// What a type byte says.
-pub fn type_of(byte: u8) -> RecordType
+// What a type byte says, if it is one.
+pub fn type_of(byte: u8) -> Option<RecordType>
     ensures { result ≡ type_of byte }
 {
-    match byte {
+    Some(match byte {
         0 => RecordType::Code(Kind::Main),
         1 => RecordType::Code(Kind::Absolute),
         2 => RecordType::Fixups(Kind::Main, Fixup::LowByte),
@@ -92,8 +90,8 @@ pub fn type_of(byte: u8) -> RecordType
         9 => RecordType::Fixups(Kind::ZeroPage, Fixup::HighByte),
         10 => RecordType::Code(Kind::ZeroPage),
         11 => RecordType::End,
-        _ => RecordType::Unknown,
-    }
+        _ => return None,
+    })
 }
 
 // The type byte of code of a kind.
