@@ -146,14 +146,13 @@ pub fn number(outcome: Outcome) -> u32
 }
 
 // Writes the answer into a buffer of its length.
+#[tactic(auto, using(words::proofs::Turns::encode_more), unfolding(words::specs::Numbers::encoded))]
 pub fn write(outcome: Outcome, answer: &mut [u8])
     requires { length answer.old ≡ answer_length }
     ensures { Written outcome answer.new }
 {
     let all = numbers(outcome);
-    let mut i = 0;
-    while i < 9 {
-        words::put_number(answer, 4 * i, all[i]);
-        i += 1;
+    for (i, number) in all.iter().enumerate() {
+        words::put_number(answer, 4 * i, *number);
     }
 }
