@@ -1,52 +1,31 @@
--- A load as a whole, over plain values: the opening, the settings and the file's length, the two walks and the lengths of the buffers.
+-- A load as a whole, over plain values: the settings and the file's length, the two walks and the lengths of the buffers.
 -- Assumes nothing.
 use mathlib.Core.Bool.{Bool, true, false, ◌&&◌, false≢true}
 use mathlib.Core.List.{List}
 use mathlib.Core.Path.{◌≡◌, refl, sym, ap, ◌∙◌, subst}
-use Prim.Native.Nat.{ℕ, ◌≤◌, ◌<◌}
+use Prim.Native.Nat.{ℕ, ◌≤◌}
 use native.Mathlib.Omega.{arith}
-use borrow.Author.Tests.{le-leb, lt-leb, leb-true, eq-eqb, ne_eqb}
+use borrow.Author.Tests.{leb-true, eq-eqb, ne_eqb}
 use lib.Dec.{leb}
 use lib.ListN.{length}
 use Rattle.std.proofs.Common.{Ok, Err}
 use Rattle.std.specs.Result.{is_err}
 use Rattle.answer.proofs.Checks.{and_true}
 use Rattle.answer.proofs.Outcomes.{is_refused}
-use Rattle.answer.specs.Checks.{need, pick, failure}
+use Rattle.answer.specs.Checks.{need, pick}
 use Rattle.answer.specs.Report.{placed_of, adjusted_of, Outcome, refusal}
 use Rattle.answer.specs.declared.Fault.{Fault}
 use Rattle.answer.specs.declared.Fault.TheVariants.{WrongBuffer, SettingOutOfRange, FileTooLong}
-use Rattle.events.proofs.Events.{did_none}
-use Rattle.events.specs.Events.{Event, play, marks, blank, Ran, Did, Check}
+use Rattle.events.specs.Events.{Event, play, marks, blank, Ran, Did}
 use Rattle.acx.proofs.Standing.{Stands, stands_first, stands_on}
 use Rattle.acx.proofs.Turning.{refused_accepted}
 use Rattle.acx.proofs.Walking.{accepted_keeps}
 use Rattle.acx.specs.Call.{form_of, in_range, sized, load, call, memory_after, map_after, Loaded}
 use Rattle.pieces.specs.Pieces.{Piece}
 use Rattle.records.specs.declared.Entry.{Entry}
-use Rattle.acx.specs.Walk.{Verdict, accepted, refused, at_once, records_of, opening, opening_size, judged, report, reported}
+use Rattle.acx.specs.Walk.{Verdict, accepted, refused, at_once, judged, report, reported}
 use Rattle.pieces.specs.declared.Bases.{Bases}
 use Rattle.acx.specs.declared.Form.{Form}
-
--- ---- the opening and the records
-
-module _ (form : Form) (file : List ℕ) (b : Bases) (write : Bool) (m : List ℕ) (c : Check) (o : c ≡ opening form file) where
-  -- a wrong opening is the refusal
-  pub file_refused : (fault : Fault) (offset : ℕ) (r : Outcome) (p' : List ℕ) → c ≡ failure fault offset → r ≡ refusal fault offset 0 → p' ≡ blank
-      → Did Outcome (reported b (judged form file b)) write m blank r m p'
-  unfolding judged
-  file_refused fault offset r p' e er ep =
-      let f : opening form file ≡ failure fault offset = sym o ∙ e in
-      rw (f, er, ep) (did_none _ write m blank)
-
-  -- behind a right one the records decide
-  pub file_walked : (n : ℕ) (r : Outcome) (m' p' : List ℕ) → c ≡ Ok tt → n ≡ opening_size form
-      → Did Outcome (reported b (records_of file b n)) write m blank r m' p'
-      → Did Outcome (reported b (judged form file b)) write m blank r m' p'
-  unfolding judged
-  file_walked n r m' p' e en d =
-      let f : opening form file ≡ Ok tt = sym o ∙ e in
-      rw (f, ← en) d
 
 -- ---- the settings and the file's length
 
@@ -56,26 +35,6 @@ range_bounds form b e =
     let x = and_true (leb form 1 && leb b.main 65535) (leb b.zero 255) e in
     let y = and_true (leb form 1) (leb b.main 65535) x.0 in
     (leb-true _ _ y.1, leb-true _ _ x.1)
-
-module _ (form : ℕ) (b : Bases) (file : List ℕ) (write : Bool) (m : List ℕ) where
-  -- settings out of range are the refusal
-  pub call_range : (r : Outcome) (p : List ℕ) → in_range form b ≡ false → r ≡ refusal SettingOutOfRange 0 0 → p ≡ blank
-      → Did Outcome (reported b (load form b file)) write m blank r m p
-  unfolding load need
-  call_range r p h er ep = rw (h, er, ep) (did_none _ write m blank)
-
-  module _ (ranged : in_range form b ≡ true) where
-    -- then a file that is too long is
-    pub call_long : (r : Outcome) (p : List ℕ) → 65536 < length file → r ≡ refusal FileTooLong 0 0 → p ≡ blank
-        → Did Outcome (reported b (load form b file)) write m blank r m p
-    unfolding load need
-    call_long r p h er ep = rw (ranged, lt-leb _ _ h, er, ep) (did_none _ write m blank)
-
-    -- and then the file decides
-    pub call_walked : (f : Form) (r : Outcome) (m' p' : List ℕ) → length file ≤ 65536 → f ≡ form_of form
-        → Did Outcome (reported b (judged f file b)) write m blank r m' p' → Did Outcome (reported b (load form b file)) write m blank r m' p'
-    unfolding load need
-    call_walked f r m' p' h ef d = rw (ranged, le-leb _ _ h, ← ef) d
 
 -- what an accepted load comes to: the settings are in range, the file is not too long, and its rules decide
 pub record Admitted (form : ℕ) (b : Bases) (file : List ℕ) : Type 0 where

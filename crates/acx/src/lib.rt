@@ -59,6 +59,7 @@ pub fn load(
 
 // Checks a load, and carries it out where `write` is true: the settings, then the file's length, then the file. Leaves the map with the marks
 // up to the end or the fault.
+#[tactic(auto, using(events::proofs::Events::cleared), unfolding(crate::specs::Call::load, answer::specs::Checks::need, events::specs::Events::play, events::specs::Events::marks))]
 pub fn walk_call(
     form: u32,
     file: &[u8],
@@ -174,6 +175,7 @@ pub fn in_range(form: u32, main_base: u32, zero_base: u32) -> bool
 }
 
 // Walks a file over a clear map: its opening, then its records.
+#[tactic(auto, using(crate::proofs::Walking::opening_fits), unfolding(crate::specs::Walk::judged, events::specs::Events::play, events::specs::Events::marks))]
 fn walk_file(
     form: Form,
     file: &File,
@@ -185,6 +187,7 @@ fn walk_file(
     requires { map.old ≡ blank }
     ensures { Did Outcome (reported bases (judged form file.now bases)) write memory.old blank result memory.new map.new }
 {
+    // Of a file so short every offset has room in an answer.
     prove!(file.len() <= events::FILE);
     if let Err(failure) = opening(form, file) {
         return answer::refused(failure.fault, failure.offset);
@@ -221,6 +224,7 @@ fn walk(
     requires { (at ≤ length file.now) × (map.old ≡ blank) }
     ensures { Did Outcome (reported bases (records_of file.now bases at)) write memory.old blank result memory.new map.new }
 {
+    // Of a file so short every offset and count has room in an answer.
     prove!(file.len() <= events::FILE);
     let mut cursor = first_cursor(at);
     loop {

@@ -1,7 +1,7 @@
--- One record at its bases, over plain values: each kind of record comes to what its part comes to.
+-- The end record at its bases, over plain values: it does nothing, and what it says where it passes.
 -- Assumes nothing.
 use mathlib.Core.Bool.{Bool, true, false}
-use mathlib.Core.List.{List, []}
+use mathlib.Core.List.{[]}
 use mathlib.Core.Path.{◌≡◌, refl, sym, ap, ◌∙◌}
 use Prim.Native.Nat.{ℕ, ◌≤◌}
 use borrow.Author.Tests.{leb-true}
@@ -11,8 +11,7 @@ use Rattle.answer.specs.Checks.{need}
 use Rattle.answer.specs.Report.{address}
 use Rattle.answer.specs.declared.Fault.TheVariants.{StartTooHigh, BytesAfterEnd}
 use Rattle.events.proofs.Checks.{need_passed}
-use Rattle.events.proofs.Events.{reached_none}
-use Rattle.events.specs.Events.{Ran, Check, failed, passed, Did}
+use Rattle.events.specs.Events.{Ran, Check, failed, passed}
 use Rattle.records.specs.declared.Entry.{Entry}
 use Rattle.pieces.specs.AtBases.{start_of, ending}
 use Rattle.pieces.specs.declared.Bases.{Bases}
@@ -36,9 +35,3 @@ ending_passed at b entry next len e =
     let x = need_passed _ _ _ _ e in
     let y = need_passed _ _ _ _ (sym (ap (λ (o : Ran Check). o.answer) x.1) ∙ e) in
     (leb-true _ _ x.0, leb-true _ _ y.0)
-
--- so it leaves memory and the map as they are
-pub ending_did : (at : ℕ) (b : Bases) (entry : Entry) (next len : ℕ) (r : Check) (write : Bool) (m p : List ℕ) → r ≡ (ending at b entry next len).answer
-    → Did Check (ending at b entry next len) write m p r m p
-ending_did at b entry next len r write m p e =
-    record { answer = e; reached = rw (ending_none at b entry next len) (reached_none write m p) }

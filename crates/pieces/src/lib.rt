@@ -26,7 +26,7 @@ pub struct Bases {
 }
 
 // Checks the record at `at` of the file at the bases and carries it out, where the last code record before it has `size` bytes at `place`.
-#[tactic(auto, using(words::proofs::Runs::length_part), unfolding(crate::specs::AtBases::applied))]
+#[tactic(auto, using(words::proofs::Runs::length_part, crate::proofs::Applying::ending_none), unfolding(crate::specs::AtBases::applied, events::specs::Events::play, events::specs::Events::marks))]
 pub fn apply(
     file: &File,
     at: usize,
