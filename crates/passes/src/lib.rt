@@ -12,10 +12,47 @@ use answer::{Acceptance, Failure, Outcome};
 use blocks::Cursor;
 pub use effects::{ADDRESSES, NAMES};
 use events::Buffer;
+use std::marker::Model;
 use words::File;
 
 // Where a program's start stands.
 const START: usize = 0x02E0;
+
+// What a load reads beside its file: the known names, eight bytes each, beside as many addresses; low and high. In a contract it is the
+// record of these four.
+#[derive(Drop)]
+pub struct Inputs<'a> {
+    names: &'a [u8],
+    addresses: &'a [u16],
+    low: u16,
+    high: u16,
+}
+
+impl<'a> Model for Inputs<'a> {
+    ghost use Rattle.std.specs.Prelude.{◌≡◌, ◌*◌, length};
+    ghost use Rattle.passes.specs.Walk.{Inputs as Given, inputs};
+
+    ghost Value = { Given };
+
+    ghost view = { λ g. inputs g.names.now g.addresses.now g.low g.high };
+
+    ghost invariant = { λ g. length g.names.now ≡ 8 * length g.addresses.now };
+}
+
+impl<'a> Inputs<'a> {
+    // These four as one.
+    pub fn new(names: &'a [u8], addresses: &'a [u16], low: u16, high: u16) -> Inputs<'a>
+        requires { length names.now ≡ 8 * length addresses.now }
+        ensures { result ≡ inputs names.now addresses.now low high }
+    {
+        Inputs {
+            names,
+            addresses,
+            low,
+            high,
+        }
+    }
+}
 
 // What a walk to the file's end comes to: low, the number of new names, the bytes placed and the fields adjusted.
 #[derive(Clone, Copy)]
@@ -31,32 +68,13 @@ pub type WalkEnd = Result<Totals, Failure>;
 
 // Goes through all blocks and only checks them, with buffers of its own for new names. The map is clear again after it.
 #[tactic(auto, using(crate::proofs::Finishing::checked_as, events::proofs::Events::cleared))]
-pub fn check(
-    file: &File,
-    low: u16,
-    high: u16,
-    known_names: &[u8],
-    known_addresses: &[u16],
-    memory: &mut Buffer,
-    map: &mut Buffer,
-) -> WalkEnd
-    requires { (length known_names.now ≡ 8 * length known_addresses.now) × (map.old ≡ blank) }
-    ensures { Checked (blocks_of file.now (inputs known_names.now known_addresses.now low high)) memory.old result memory.new map.new }
+pub fn check(file: &File, lent: &Inputs, memory: &mut Buffer, map: &mut Buffer) -> WalkEnd
+    requires { map.old ≡ blank }
+    ensures { Checked (blocks_of file.now lent.now) memory.old result memory.new map.new }
 {
     let mut names = [0u8; NAMES];
     let mut addresses = [0u16; ADDRESSES];
-    let walked = walk(
-        file,
-        low,
-        high,
-        known_names,
-        known_addresses,
-        false,
-        memory,
-        map,
-        &mut names,
-        &mut addresses,
-    );
+    let walked = walk(file, lent, false, memory, map, &mut names, &mut addresses);
     map.fill(0);
     walked
 }
@@ -65,21 +83,18 @@ pub fn check(
 // those before them.
 pub fn walk(
     file: &File,
-    low: u16,
-    high: u16,
-    lent_names: &[u8],
-    lent_addresses: &[u16],
+    lent: &Inputs,
     write: bool,
     memory: &mut Buffer,
     map: &mut Buffer,
     new_names: &mut [u8; NAMES],
     new_addresses: &mut [u16; ADDRESSES],
 ) -> WalkEnd
-    requires { (length lent_names.now ≡ 8 * length lent_addresses.now) × (map.old ≡ blank) }
-    ensures { Walked (blocks_of file.now (inputs lent_names.now lent_addresses.now low high)) write (buffers memory.old map.old new_names.old new_addresses.old) result (buffers memory.new map.new new_names.new new_addresses.new) }
+    requires { map.old ≡ blank }
+    ensures { Walked (blocks_of file.now lent.now) write (buffers memory.old map.old new_names.old new_addresses.old) result (buffers memory.new map.new new_names.new new_addresses.new) }
 {
     let end = file.len();
-    let mut cursor = effects::first_cursor(low);
+    let mut cursor = effects::first_cursor(lent.low);
     let mut bytes = 0;
     let mut fields = 0;
     loop {
@@ -88,9 +103,9 @@ pub fn walk(
         }
         let named = cursor.named;
         let size = names::NAME * named;
-        let found = blocks::read(file, high, lent_names, &new_names[0..size], cursor)?;
+        let found = blocks::read(file, lent.high, lent.names, &new_names[0..size], cursor)?;
         let own = &new_addresses[0..named];
-        let done = effects::apply(file, found, cursor, lent_addresses, own, write, memory, map)?;
+        let done = effects::apply(file, found, cursor, lent.addresses, own, write, memory, map)?;
         effects::store_name(file, found, named, new_names, new_addresses);
         bytes += effects::placed_by(found);
         fields += done.adjusted;

@@ -9,7 +9,7 @@ ghost use Rattle.sdx.specs.Call.{in_range, listed, sized, opening as opening_of,
 
 use answer::{Failure, Fault, Outcome};
 use events::{Buffer, Check};
-use passes::{ADDRESSES, NAMES};
+use passes::{ADDRESSES, Inputs, NAMES};
 use words::File;
 
 // The most names that are lent.
@@ -87,17 +87,8 @@ fn load_sized(
         Ok(file) => file,
         Err(failure) => return answer::refused(failure.fault, failure.offset),
     };
-    load_blocks(
-        &file,
-        low as u16,
-        high as u16,
-        known_names,
-        known_addresses,
-        memory,
-        map,
-        new_names,
-        new_addresses,
-    )
+    let lent = Inputs::new(known_names, known_addresses, low as u16, high as u16);
+    load_blocks(&file, &lent, memory, map, new_names, new_addresses)
 }
 
 // Checks what comes before the first block: the settings, the file's length, its opening. Answers the file.
@@ -138,34 +129,20 @@ fn opening(file: &File) -> Check
 // Loads the blocks of a file, over a clear map: checks them first, and carries them out only where nothing is refused.
 fn load_blocks(
     file: &File,
-    low: u16,
-    high: u16,
-    known_names: &[u8],
-    known_addresses: &[u16],
+    lent: &Inputs,
     memory: &mut Buffer,
     map: &mut Buffer,
     new_names: &mut [u8; NAMES],
     new_addresses: &mut [u16; ADDRESSES],
 ) -> Outcome
-    requires { (length known_names.now ≡ 8 * length known_addresses.now) × (map.old ≡ blank) × (admitting file.now (inputs known_names.now known_addresses.now low high) ≡ Ok tt) }
-    ensures { Loaded file.now (inputs known_names.now known_addresses.now low high) true (buffers memory.old map.old new_names.old new_addresses.old) result (buffers memory.new map.new new_names.new new_addresses.new) }
+    requires { (map.old ≡ blank) × (admitting file.now lent.now ≡ Ok tt) }
+    ensures { Loaded file.now lent.now true (buffers memory.old map.old new_names.old new_addresses.old) result (buffers memory.new map.new new_names.new new_addresses.new) }
 {
-    let checked = passes::check(file, low, high, known_names, known_addresses, memory, map);
+    let checked = passes::check(file, lent, memory, map);
     match checked {
         Err(failure) => answer::refused(failure.fault, failure.offset),
         Ok(totals) => {
-            let again = passes::walk(
-                file,
-                low,
-                high,
-                known_names,
-                known_addresses,
-                true,
-                memory,
-                map,
-                new_names,
-                new_addresses,
-            );
+            let again = passes::walk(file, lent, true, memory, map, new_names, new_addresses);
             passes::finish(totals, memory, map, new_names, new_addresses)
         }
     }

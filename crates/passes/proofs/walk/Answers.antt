@@ -9,13 +9,13 @@ use Rattle.passes.proofs.walk.Goals as goal
 
 pub loop-cursor-init : goal.loop-cursor-init
 loop-cursor-init c =
-    let top : c.args.high ≤ 65535 = omega arith in
-    rw (c.first_cursor-cursor.ensures, c.requires.1)
+    let top : c.lent.inside.high ≤ 65535 = omega arith in
+    rw (c.first_cursor-cursor.ensures, c.requires)
     (going_first
     (record {
       short = omega (arith, c.len-end.ensures.length, c.len-end.ensures.limited);
       top = top;
-      known = c.requires.0;
+      known = c.lent.invariant;
       clear = refl;
       room = omega arith;
       spots = omega arith;
@@ -23,13 +23,13 @@ loop-cursor-init c =
 
 pub returns-then-cursor-end : goal.returns-then-cursor-end
 returns-then-cursor-end c =
-    rw c.total.ensures (going_done c.loop-cursor.invariant (c.if-cursor-end.true ∙ c.len-end.ensures.length))
+    rw (← c.lent.view_is, c.total.ensures) (going_done c.loop-cursor.invariant (c.if-cursor-end.true ∙ c.len-end.ensures.length))
 
 -- the fault of what was read, or of the block, is that of the walk
 pub returns-in_err-found : goal.returns-in_err-found
 returns-in_err-found c =
     let p = err_from_is_err_and c.from_residual.result c.from_residual.ensures.1 in
-    rw (p.1, p.2) (going_unread c.loop-cursor.invariant (rw c.len-end.ensures.length at c.if-cursor-end.false) (sym c.in_err-found.was ∙ c.read.ensures.value))
+    rw (← c.lent.view_is, p.1, p.2) (going_unread c.loop-cursor.invariant (rw c.len-end.ensures.length at c.if-cursor-end.false) (sym c.in_err-found.was ∙ c.read.ensures.value))
 
 pub apply-requires : goal.apply-requires
 apply-requires c =
@@ -39,7 +39,7 @@ apply-requires c =
 pub returns-in_err-done : goal.returns-in_err-done
 returns-in_err-done c =
     let p = err_from_is_err_and c.from_residual-in_err-done.result c.from_residual-in_err-done.ensures.1 in
-    rw (p.1, p.2)
+    rw (← c.lent.view_is, p.1, p.2)
     (going_stops c.loop-cursor.invariant (sym c.in_ok-found.was ∙ c.read.ensures.value) (rw c.len-end.ensures.length at c.if-cursor-end.false) c.apply.ensures c.in_err-done.was)
 
 pub store_name-requires : goal.store_name-requires

@@ -9,7 +9,7 @@ use Rattle.passes.proofs.walk.Given as goal
 
 abbrev pub invariant-loop-cursor : goal.invariant-loop-cursor
 invariant-loop-cursor l =
-    Going l.file (inputs l.lent_names l.lent_addresses l.low l.high) l.write (buffers l.initial.memory l.initial.map l.initial.new_names l.initial.new_addresses) l.cursor l.bytes l.fields
+    Going l.file (inputs l.lent-inside.names.now l.lent-inside.addresses.now l.lent-inside.low l.lent-inside.high) l.write (buffers l.initial.memory l.initial.map l.initial.new_names l.initial.new_addresses) l.cursor l.bytes l.fields
     (buffers l.memory l.map l.new_names l.new_addresses)
 
 abbrev pub decreases-loop-cursor : goal.decreases-loop-cursor

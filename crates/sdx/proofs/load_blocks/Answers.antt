@@ -7,8 +7,8 @@ use Rattle.sdx.proofs.load_blocks.Goals as goal
 
 pub returns-in-Err : goal.returns-in-Err
 returns-in-Err c =
-    blocks_refused _ _ c.requires.2 c.check-checked.ensures c.in-Err.is c.refused.ensures
+    blocks_refused _ _ c.requires.1 c.check-checked.ensures c.in-Err.is c.refused.ensures
 
 pub returns-in-Ok : goal.returns-in-Ok
 returns-in-Ok c =
-    blocks_accepted _ _ c.requires.2 c.check-checked.ensures c.in-Ok.is (omega arith) (omega arith) c.walk-again.ensures c.finish.ensures
+    blocks_accepted _ _ c.requires.1 c.check-checked.ensures c.in-Ok.is (omega arith) (omega arith) c.walk-again.ensures c.finish.ensures

@@ -28,4 +28,4 @@ overflow_cast-high c =
     omega (arith, h.1)
 
 pub returns : goal.returns
-returns c = loaded_cleared _ _ (rw c.in-Ok.ensures.ok.0 at c.load_blocks.ensures)
+returns c = loaded_cleared _ _ (rw (c.in-Ok.ensures.ok.0, c.new-lent.ensures) at c.load_blocks.ensures)
