@@ -6,7 +6,7 @@
 ghost use Rattle.std.specs.Prelude.{true, ◌≡◌, ◌≤◌, ◌<◌, length};
 ghost use Rattle.answer.specs.Report.{Outcome, acceptance, address as address_of};
 ghost use Rattle.events.specs.Events.{blank, Check, Did};
-ghost use Rattle.pieces.specs.Pieces.{bases_at};
+ghost use Rattle.pieces.specs.Pieces.{bases_of};
 ghost use Rattle.pieces.specs.AtBases.{start_of, EndsBy};
 ghost use Rattle.acx.specs.Walk.{records_of, opening as opening_of, opening_size, judged, reported};
 ghost use Rattle.acx.specs.Cursor.{first_cursor, advanced};
@@ -14,7 +14,7 @@ ghost use Rattle.acx.specs.Call.{form_of, in_range, sized, load as load_of, Load
 
 use answer::{Acceptance, Fault, Outcome};
 use events::{Buffer, Check};
-use pieces::Bases;
+use pieces::{Bases, Site};
 use records::{Entry, Kind, Record};
 use words::File;
 
@@ -38,15 +38,8 @@ pub struct Cursor {
 
 // Loads a file. Refuses with the first fault; memory is then as it was.
 #[tactic(auto, using(crate::proofs::Calling::loaded_sized))]
-pub fn load(
-    form: u32,
-    file: &[u8],
-    main_base: u32,
-    zero_base: u32,
-    memory: &mut [u8],
-    map: &mut [u8],
-) -> Outcome
-    ensures { Loaded form (bases_at main_base zero_base) file.now (sized memory.old map.old) memory.old map.old result memory.new map.new }
+pub fn load(form: u32, file: &[u8], site: Site, memory: &mut [u8], map: &mut [u8]) -> Outcome
+    ensures { Loaded form (bases_of site) file.now (sized memory.old map.old) memory.old map.old result memory.new map.new }
 {
     let Some(memory) = memory.as_mut_array() else {
         return answer::refused(Fault::WrongBuffer, 0);
@@ -54,7 +47,7 @@ pub fn load(
     let Some(map) = map.as_mut_array() else {
         return answer::refused(Fault::WrongBuffer, 0);
     };
-    load_sized(form, file, main_base, zero_base, memory, map)
+    load_sized(form, file, site, memory, map)
 }
 
 // Checks a load, and carries it out where `write` is true: the settings, then the file's length, then the file. Leaves the map with the marks
@@ -63,25 +56,21 @@ pub fn load(
 pub fn walk_call(
     form: u32,
     file: &[u8],
-    main_base: u32,
-    zero_base: u32,
+    site: Site,
     write: bool,
     memory: &mut Buffer,
     map: &mut Buffer,
 ) -> Outcome
-    ensures { Did Outcome (reported (bases_at main_base zero_base) (load_of form (bases_at main_base zero_base) file.now)) write memory.old blank result memory.new map.new }
+    ensures { Did Outcome (reported (bases_of site) (load_of form (bases_of site) file.now)) write memory.old blank result memory.new map.new }
 {
     words::fill(map, 0);
-    if !in_range(form, main_base, zero_base) {
+    if !in_range(form, site) {
         return answer::refused(Fault::SettingOutOfRange, 0);
     }
     let Some(file) = File::new(file) else {
         return answer::refused(Fault::FileTooLong, 0);
     };
-    let bases = Bases {
-        main: main_base as u16,
-        zero: zero_base as u16,
-    };
+    let bases = site.bases();
     walk_file(form_of(form), &file, bases, write, memory, map)
 }
 
@@ -149,29 +138,22 @@ pub fn advance(bases: Bases, cursor: Cursor, found: Record) -> Cursor
 }
 
 // Loads a file with the right buffers: checks it first, and writes only where nothing is refused.
-fn load_sized(
-    form: u32,
-    file: &[u8],
-    main_base: u32,
-    zero_base: u32,
-    memory: &mut Buffer,
-    map: &mut Buffer,
-) -> Outcome
-    ensures { Loaded form (bases_at main_base zero_base) file.now true memory.old map.old result memory.new map.new }
+fn load_sized(form: u32, file: &[u8], site: Site, memory: &mut Buffer, map: &mut Buffer) -> Outcome
+    ensures { Loaded form (bases_of site) file.now true memory.old map.old result memory.new map.new }
 {
-    let checked = walk_call(form, file, main_base, zero_base, false, memory, map);
+    let checked = walk_call(form, file, site, false, memory, map);
     if checked.is_err() {
         words::fill(map, 0);
         return checked;
     }
-    walk_call(form, file, main_base, zero_base, true, memory, map)
+    walk_call(form, file, site, true, memory, map)
 }
 
 // Whether the settings of a call are in their ranges.
-pub fn in_range(form: u32, main_base: u32, zero_base: u32) -> bool
-    ensures { result ≡ in_range form (bases_at main_base zero_base) }
+pub fn in_range(form: u32, site: Site) -> bool
+    ensures { result ≡ in_range form (bases_of site) }
 {
-    form <= 1 && main_base <= 65535 && zero_base <= 255
+    form <= 1 && site.main <= 65535 && site.zero <= 255
 }
 
 // Walks a file over a clear map: its opening, then its records.

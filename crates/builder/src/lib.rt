@@ -7,7 +7,7 @@ ghost use Rattle.words.specs.Runs.{put};
 ghost use Rattle.answer.specs.Report.{IsAccepted};
 ghost use Rattle.events.specs.Events.{marks, blank};
 ghost use Rattle.fields.specs.Fields.{item_size, fields_of};
-ghost use Rattle.pieces.specs.Pieces.{bases_at};
+ghost use Rattle.pieces.specs.Pieces.{bases_of};
 ghost use Rattle.pieces.specs.AtBases.{EndsBy};
 ghost use Rattle.acx.specs.Call.{load};
 ghost use Rattle.acx.specs.Walk.{reported};
@@ -19,7 +19,7 @@ ghost use Rattle.builder.specs.Parts.{bytes_of, with_low, bare, brings, front_af
 use answer::{Acceptance, Fault, Outcome};
 use events::Buffer;
 use fields::{Field, Fixup};
-use pieces::Bases;
+use pieces::{Bases, Site};
 use records::{Entry, Kind, Record};
 use words::File;
 
@@ -32,15 +32,8 @@ pub struct Front {
 
 // Builds the index of a file into the room `index`, with the map of a load. Refuses as a load does; then where the index would not fit.
 #[tactic(auto, using(crate::proofs::Building::right_sizes))]
-pub fn build(
-    form: u32,
-    file: &[u8],
-    main_base: u32,
-    zero_base: u32,
-    map: &mut [u8],
-    index: &mut [u8],
-) -> Outcome
-    ensures { Built form (bases_at main_base zero_base) file.now (sized map.old index.old) map.old index.old result map.new index.new }
+pub fn build(form: u32, file: &[u8], site: Site, map: &mut [u8], index: &mut [u8]) -> Outcome
+    ensures { Built form (bases_of site) file.now (sized map.old index.old) map.old index.old result map.new index.new }
 {
     let Some(map) = map.as_mut_array() else {
         return answer::refused(Fault::WrongBuffer, 0);
@@ -48,29 +41,19 @@ pub fn build(
     let Some(index) = index.as_mut_array() else {
         return answer::refused(Fault::WrongBuffer, 0);
     };
-    build_sized(form, file, main_base, zero_base, map, index)
+    build_sized(form, file, site, map, index)
 }
 
 // Builds with the right buffers. A check leaves the memory lent to it alone, so the room stands in for it.
-fn build_sized(
-    form: u32,
-    file: &[u8],
-    main_base: u32,
-    zero_base: u32,
-    map: &mut Buffer,
-    index: &mut Buffer,
-) -> Outcome
-    ensures { Built form (bases_at main_base zero_base) file.now true map.old index.old result map.new index.new }
+fn build_sized(form: u32, file: &[u8], site: Site, map: &mut Buffer, index: &mut Buffer) -> Outcome
+    ensures { Built form (bases_of site) file.now true map.old index.old result map.new index.new }
 {
-    let checked = acx::walk_call(form, file, main_base, zero_base, false, index, map);
+    let checked = acx::walk_call(form, file, site, false, index, map);
     if checked.is_err() {
         words::fill(map, 0);
         return checked;
     }
-    let bases = Bases {
-        main: main_base as u16,
-        zero: zero_base as u16,
-    };
+    let bases = site.bases();
     // An accepted file is not too long.
     let file = File::new(file).unwrap();
     build_checked(form, &file, bases, checked, map, index)

@@ -16,8 +16,8 @@ ghost use Rattle.calls.specs.Move.{Called as MoveCalled};
 ghost use Rattle.calls.specs.Sdx.{default_inputs, Called as SdxCalled};
 
 use answer::{Fault, Outcome};
-use mover::Site;
 use moves::Format;
+use pieces::Site;
 
 // The length of the answer.
 const ANSWER: usize = 36;
@@ -46,7 +46,11 @@ pub fn acx_load(
     if answer.len() != ANSWER {
         return answer::fault_number(Fault::WrongBuffer);
     }
-    let outcome = acx::load(form, file, main_base, zero_base, memory, map);
+    let site = Site {
+        main: main_base,
+        zero: zero_base,
+    };
+    let outcome = acx::load(form, file, site, memory, map);
     write_answer(outcome, answer)
 }
 
@@ -143,7 +147,11 @@ pub fn index_build(
     if answer.len() != ANSWER {
         return answer::fault_number(Fault::WrongBuffer);
     }
-    let outcome = builder::build(form, file, main_base, zero_base, map, index);
+    let site = Site {
+        main: main_base,
+        zero: zero_base,
+    };
+    let outcome = builder::build(form, file, site, map, index);
     write_answer(outcome, answer)
 }
 

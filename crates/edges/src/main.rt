@@ -7,6 +7,7 @@ ghost use Rattle.answer.specs.Report.{numbers_of};
 ghost use Rattle.edges.specs.Edges.{sdx_numbers, acx_numbers};
 
 use answer::{Numbers, Outcome};
+use pieces::Site;
 use std::io;
 
 // Low and high where a case does not turn on them.
@@ -198,8 +199,10 @@ fn load_acx(rt: &impl Print, case: &AcxCase) -> io::Result<Numbers>
     let outcome = acx::load(
         1,
         case.file,
-        case.main_base,
-        ZERO_BASE,
+        Site {
+            main: case.main_base,
+            zero: ZERO_BASE,
+        },
         &mut memory,
         &mut map,
     );
@@ -211,9 +214,18 @@ fn print_outcome(rt: &impl Print, name: &str, outcome: Outcome) -> io::Result<Nu
     ensures { IfOk result (λ numbers. numbers ≡ numbers_of outcome) }
 {
     let numbers = answer::numbers(outcome);
-    let [number, offset, side, start, address, placed, adjusted, names, low] = numbers;
-    println!(
-        rt;
+    let [
+        number,
+        offset,
+        side,
+        start,
+        address,
+        placed,
+        adjusted,
+        names,
+        low,
+    ] = numbers;
+    println!(rt;
         "{name}: number {number} offset {offset} side {side} start {start} {address} placed {placed} adjusted {adjusted} names {names} low {low}"
     )?;
     Ok(numbers)

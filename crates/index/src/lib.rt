@@ -5,14 +5,14 @@ ghost use Rattle.std.specs.Prelude.{◌≡◌, ◌+◌, ◌%◌, ◌≤◌, leng
 ghost use Rattle.acx.specs.Walk.{reported};
 ghost use Rattle.answer.specs.Report.{Outcome};
 ghost use Rattle.events.specs.Events.{blank, Check, Noted};
-ghost use Rattle.pieces.specs.Pieces.{bases_at};
+ghost use Rattle.pieces.specs.Pieces.{bases_of};
 ghost use Rattle.index.specs.Walk.{fixing, coding, applied, judged, indexed};
 ghost use Rattle.index.specs.Cursor.{first_cursor, advanced, Lies};
 
 use answer::{Fault, Outcome};
 use entries::IndexEntry;
 use events::{Buffer, Check};
-use pieces::Bases;
+use pieces::{Bases, Site};
 use records::Kind;
 use words::File;
 
@@ -29,20 +29,17 @@ pub struct Cursor {
 
 // Checks an index at a pair of bases: the settings, then the index's length, then the index. Leaves the map with the marks up to the end or the fault.
 #[tactic(auto, using(events::proofs::Events::cleared), unfolding(crate::specs::Walk::indexed, answer::specs::Checks::need, events::specs::Events::marks))]
-pub fn walk_call(index: &[u8], main_base: u32, zero_base: u32, map: &mut Buffer) -> Outcome
-    ensures { Noted Outcome (reported (bases_at main_base zero_base) (indexed (bases_at main_base zero_base) index.now)) blank result map.new }
+pub fn walk_call(index: &[u8], site: Site, map: &mut Buffer) -> Outcome
+    ensures { Noted Outcome (reported (bases_of site) (indexed (bases_of site) index.now)) blank result map.new }
 {
     words::fill(map, 0);
-    if !acx::in_range(FORMLESS, main_base, zero_base) {
+    if !acx::in_range(FORMLESS, site) {
         return answer::refused(Fault::SettingOutOfRange, 0);
     }
     let Some(index) = File::new(index) else {
         return answer::refused(Fault::FileTooLong, 0);
     };
-    let bases = Bases {
-        main: main_base as u16,
-        zero: zero_base as u16,
-    };
+    let bases = site.bases();
     walk(&index, bases, map)
 }
 

@@ -11,10 +11,15 @@ use Rattle.records.specs.declared.Kind.{Kind}
 use Rattle.records.specs.declared.Kind.TheVariants.{Main, ZeroPage, Absolute}
 use Rattle.words.specs.Numbers.{change}
 use Rattle.pieces.specs.declared.Bases.{Bases}
+use Rattle.pieces.specs.declared.Site.{Site}
 
 -- a pair of bases, as a call asks for it
 abbrev pub bases_at : ℕ → ℕ → Bases
 bases_at main zp = record { main = main; zero = zp }
+
+-- the bases that a site names
+abbrev pub bases_of : Site → Bases
+bases_of s = bases_at s.main s.zero
 
 -- a code record with the fields that the fixup records after it list, in file order
 pub record Piece : Type 0 where

@@ -5,7 +5,7 @@ ghost use Rattle.std.specs.Prelude.{[], ◌∷◌, ◌≡◌, ◌+◌, ◌<◌, 
 ghost use Rattle.answer.specs.Report.{address as address_of};
 ghost use Rattle.events.specs.Events.{place as placement, play_if, Check, Noted, Did};
 ghost use Rattle.fields.specs.Fields.{item_size, fields_of};
-ghost use Rattle.pieces.specs.Pieces.{place_at, limit_of, amount_of, adjustment};
+ghost use Rattle.pieces.specs.Pieces.{bases_of, place_at, limit_of, amount_of, adjustment};
 ghost use Rattle.pieces.specs.Places.{Inside};
 ghost use Rattle.pieces.specs.AtBases.{placing, adjusting, ending, start_of, EndsBy, applied};
 
@@ -23,6 +23,26 @@ const ZERO_PAGE: usize = 256;
 pub struct Bases {
     pub main: u16,
     pub zero: u16,
+}
+
+// A pair of bases as a call asks for it, in its range or not.
+#[derive(Clone, Copy)]
+pub struct Site {
+    pub main: u32,
+    pub zero: u32,
+}
+
+impl Site {
+    // The bases of a site that is in its range.
+    pub fn bases(self) -> Bases
+        requires { (self.main ≤ 65535) × (self.zero ≤ 65535) }
+        ensures { result ≡ bases_of self }
+    {
+        Bases {
+            main: self.main as u16,
+            zero: self.zero as u16,
+        }
+    }
 }
 
 // Checks the record at `at` of the file at the bases and carries it out, where the last code record before it has `size` bytes at `place`.

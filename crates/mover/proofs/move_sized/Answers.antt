@@ -3,7 +3,7 @@
 use mathlib.Core.Path.{sym, ◌∙◌}
 use Rattle.moves.specs.Sources.{source_of}
 use Rattle.mover.proofs.Judging.{judged_ranges}
-use Rattle.mover.specs.Parts.{bases_of}
+use Rattle.pieces.specs.Pieces.{bases_of}
 use Rattle.mover.proofs.move_sized.Goals as goal
 
 pub bases-requires : goal.bases-requires
