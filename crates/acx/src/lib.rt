@@ -187,6 +187,7 @@ fn walk_file(
     requires { map.old ≡ blank }
     ensures { Did Outcome (reported bases (judged form file.now bases)) write memory.old blank result memory.new map.new }
 {
+    // Of a file so short every offset has room in an answer.
     prove!(file.len() <= events::FILE);
     if let Err(failure) = opening(form, file) {
         return answer::refused(failure.fault, failure.offset);
@@ -223,6 +224,7 @@ fn walk(
     requires { (at ≤ length file.now) × (map.old ≡ blank) }
     ensures { Did Outcome (reported bases (records_of file.now bases at)) write memory.old blank result memory.new map.new }
 {
+    // Of a file so short every offset and count has room in an answer.
     prove!(file.len() <= events::FILE);
     let mut cursor = first_cursor(at);
     loop {

@@ -12,7 +12,6 @@ pub mod Fixing
 pub mod Applying
 pub mod Cursors
 pub mod Going
-pub mod Calling
 -- What is accepted and refused, and where; what was written for a file, and the claims on it at work:
 pub mod Rules
 pub mod Faults

@@ -28,6 +28,7 @@ pub struct Cursor {
 }
 
 // Checks an index at a pair of bases: the settings, then the index's length, then the index. Leaves the map with the marks up to the end or the fault.
+#[tactic(auto, using(events::proofs::Events::cleared), unfolding(crate::specs::Walk::indexed, answer::specs::Checks::need, events::specs::Events::marks))]
 pub fn walk_call(index: &[u8], main_base: u32, zero_base: u32, map: &mut Buffer) -> Outcome
     ensures { Noted Outcome (reported (bases_at main_base zero_base) (indexed (bases_at main_base zero_base) index.now)) blank result map.new }
 {
@@ -46,6 +47,7 @@ pub fn walk_call(index: &[u8], main_base: u32, zero_base: u32, map: &mut Buffer)
 }
 
 // Walks an index over a clear map: its version, then its entries.
+#[tactic(auto, using(crate::proofs::Going::going_first), unfolding(crate::specs::Walk::judged, answer::specs::Checks::need, events::specs::Events::marks))]
 fn walk(index: &File, bases: Bases, map: &mut Buffer) -> Outcome
     requires { map.old ≡ blank }
     ensures { Noted Outcome (reported bases (judged index.now bases)) blank result map.new }

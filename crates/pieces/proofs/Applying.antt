@@ -1,4 +1,4 @@
--- One record at its bases, over plain values: each kind of record comes to what its part comes to.
+-- The end record at its bases, over plain values: it does nothing, and what it says where it passes.
 -- Assumes nothing.
 use mathlib.Core.Bool.{Bool, true, false}
 use mathlib.Core.List.{[]}

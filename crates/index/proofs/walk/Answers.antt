@@ -1,29 +1,10 @@
--- `index::walk` meets its contract: an empty index and another version are the refusal; else its entries decide, and the definition's walk over them has come
--- to the cursor, with the map of its events (`Going`).
+-- `index::walk` meets its contract: its entries decide, and the definition's walk over them has come to the cursor, with the map of its events (`Going`).
 -- Assumes nothing.
-use mathlib.Core.Path.{sym, ◌∙◌}
 use native.Mathlib.Nat.{le_refl}
 use native.Mathlib.Omega.{arith}
-use Rattle.std.proofs.Common.{◌≤◌, length}
-use Rattle.index.proofs.Calling.{index_empty, index_other, index_walked}
 use Rattle.index.proofs.Cursors.{tracks_counts, onward_else}
-use Rattle.index.proofs.Going.{going_first, going_lies, going_unread, going_fails, going_start, going_ends, going_on, going_further}
+use Rattle.index.proofs.Going.{going_lies, going_unread, going_fails, going_start, going_ends, going_on, going_further}
 use Rattle.index.proofs.walk.Goals as goal
-
-pub returns-then-len-lt1 : goal.returns-then-len-lt1
-returns-then-len-lt1 c = index_empty _ _ (omega (arith, c.if-len-lt1.true, c.len.ensures.length)) c.refused.ensures c.requires
-
-pub returns-then-byte-ne-VERSION : goal.returns-then-byte-ne-VERSION
-returns-then-byte-ne-VERSION c =
-    index_other _ _ (omega (arith, c.if-len-lt1.false, c.len.ensures.length)) (λ e. c.if-byte-ne-VERSION.true (c.byte.ensures ∙ e))
-    c.refused-then-byte-ne-VERSION.ensures c.requires
-
-pub loop-found-init : goal.loop-found-init
-loop-found-init c =
-    let there : 1 ≤ length c.args.index.now = omega (arith, c.if-len-lt1.false, c.len.ensures.length) in (
-      index_walked _ _ there (sym c.byte.ensures ∙ c.if-byte-ne-VERSION.false),
-      rw c.first_cursor-cursor.ensures (going_first c.requires there),
-    )
 
 pub returns-in-Err : goal.returns-in-Err
 returns-in-Err c =
