@@ -78,6 +78,7 @@ fn gather(
 }
 
 // Gathers the pieces of a file: record by record, with a cursor for each pair of bases. Where a move is allowed, no record is at fault.
+#[tactic(auto, using(crate::proofs::Gathering::gathering_onward, crate::proofs::Gathering::gathering_on))]
 fn gather_file(
     form: u32,
     file: &File,
@@ -135,6 +136,7 @@ fn gather_record(
 }
 
 // Gathers the pieces of an index: entry by entry, up to the end entry. Where a move is allowed, no entry is at fault.
+#[tactic(auto, using(crate::proofs::Entries::gathering_on))]
 fn gather_index(index: &File, old: Bases, new: Bases, memory: &Buffer, scratch: &mut Buffer)
     requires { Allows (ruling_of (the_index index.now) old new) }
     ensures { scratch.new ≡ transfer old new (pieces_of (ruling_of (the_index index.now) old new)) memory.now scratch.old }
@@ -198,6 +200,7 @@ fn take_code(place: usize, to: usize, size: usize, memory: &[u8], scratch: &mut 
 }
 
 // Shifts the fields that a fixup record lists, one by one: the amounts of the old bases off, those of the new on.
+#[tactic(auto, using(fields::proofs::Listing::item_none, crate::proofs::Shifting::shifting_end))]
 fn shift_fields(items: &[u8], fixup: Fixup, old: Bases, new: Bases, code: &mut [u8])
     requires { Each (Inside (length code.old)) (fields_of fixup items.now) }
     ensures { code.new ≡ edited (shift old new) (fields_of fixup items.now) code.old }
@@ -214,6 +217,7 @@ fn shift_fields(items: &[u8], fixup: Fixup, old: Bases, new: Bases, code: &mut [
 }
 
 // Shifts the fields that the fixups of an entry list, after code of a kind, one by one.
+#[tactic(auto, using(entries::proofs::Listing::none_listed, crate::proofs::Shifting::shifting_end))]
 fn shift_listed(items: &[u8], kind: Kind, old: Bases, new: Bases, code: &mut [u8])
     requires { Each (Inside (length code.old)) (fields_to kind items.now) }
     ensures { code.new ≡ edited (shift old new) (fields_to kind items.now) code.old }

@@ -5,7 +5,7 @@ use mathlib.Core.Path.{sym, ap, ◌∙◌}
 use native.Mathlib.Omega.{arith}
 use Rattle.acx.proofs.Cursors.{tracks_inside, tracks_counts, tracks_further, tracks_ends_by}
 use Rattle.acx.specs.Walk.{opening_size}
-use Rattle.transfers.proofs.Gathering.{walkable, gathering_first, gathering_read, gathering_end, gathering_onward, gathering_on, gathering_sound, gathering_sizes, found_is, next_old, next_new}
+use Rattle.transfers.proofs.Gathering.{walkable, gathering_first, gathering_read, gathering_end, gathering_onward, gathering_sound, gathering_sizes, found_is, next_old, next_new}
 use Rattle.transfers.proofs.gather_file.Goals as goal
 
 pub loop-found-init : goal.loop-found-init
@@ -63,21 +63,6 @@ loop-found-smaller c =
     let f = tracks_further x.at_old (found_is x u v r) on in
     let i = (tracks_counts (next_old x u v r on)).0 in
     rw c.advance-source.ensures (omega (arith, f, i))
-
-pub loop-found-preserved : goal.loop-found-preserved
-loop-found-preserved c =
-    let l = c.loop-found.invariant in
-    let x = l.1 in
-    let u = l.0.yes_old in
-    let v = l.0.yes_new in
-    let r = sym c.in-Ok.is ∙ c.read.ensures in
-    let on = gathering_onward x u v r c.in_default-found.not-End in
-    let t = rw (c.advance-source.ensures, c.advance-target.ensures) at
-    c.gather_record.ensures in (
-      l.0,
-      rw (c.advance-source.ensures, c.advance-target.ensures)
-          (gathering_on x u v r on (omega arith) (omega arith) t),
-    )
 
 pub returns : goal.returns
 returns c =

@@ -3,7 +3,7 @@
 use mathlib.Core.Path.{ap, ◌∙◌}
 use Rattle.std.proofs.Common.{Ok}
 use native.Mathlib.Omega.{arith}
-use Rattle.transfers.proofs.Entries.{gathering_first, gathering_code, gathering_on}
+use Rattle.transfers.proofs.Entries.{gathering_first, gathering_code}
 use Rattle.transfers.proofs.gather_index.Goals as goal
 
 pub loop-kind-init : goal.loop-kind-init
@@ -27,7 +27,3 @@ pub loop-kind-smaller : goal.loop-kind-smaller
 loop-kind-smaller c =
     let w = gathering_code c.loop-kind.invariant c.read.ensures (c.in-Ok-Code.is ∙ ap Ok c.in-Ok-Code.field-0-is) in
     omega (arith, w.behind, w.within)
-
-pub loop-kind-preserved : goal.loop-kind-preserved
-loop-kind-preserved c =
-    gathering_on c.loop-kind.invariant c.read.ensures (c.in-Ok-Code.is ∙ ap Ok c.in-Ok-Code.field-0-is) c.part.ensures c.gather_entry.ensures

@@ -1,9 +1,8 @@
 -- `transfers::shift_fields` meets its contract: the definition's list of fields has come to the field at hand (`Shifting`).
 -- Assumes nothing.
 use mathlib.Core.Path.{◌∙◌}
-use native.Mathlib.Omega.{arith}
-use Rattle.fields.proofs.Listing.{item_next, item_none}
-use Rattle.transfers.proofs.Shifting.{shifting_here, shifting_more, shifting_end}
+use Rattle.fields.proofs.Listing.{item_next}
+use Rattle.transfers.proofs.Shifting.{shifting_here, shifting_more}
 use Rattle.transfers.proofs.shift_fields.Goals as goal
 
 pub shift_field-requires : goal.shift_field-requires
@@ -20,8 +19,3 @@ loop-item-preserved c =
       shifting_more (item_next c.args.fixup _ _ _ s.1.0 (s.1.1 ∙ l.0) c.field_at-field.ensures.0) l.1 c.amount.ensures c.amount-in-loop-item.ensures
           c.shift_field.ensures,
     )
-
-pub returns : goal.returns
-returns c =
-    let l = c.loop-item.invariant in
-    shifting_end (item_none c.args.fixup _ (omega (arith, c.in-None.ensures.steps.1, l.0))) l.1

@@ -1,8 +1,7 @@
 -- `transfers::shift_listed` meets its contract: the definition's list of fields has come to the fixup at hand (`Shifting`), or ends at a bad kind.
 -- Assumes nothing.
 use mathlib.Core.Path.{◌∙◌}
-use native.Mathlib.Omega.{arith}
-use Rattle.entries.proofs.Listing.{first_listed, none_listed}
+use Rattle.entries.proofs.Listing.{first_listed}
 use Rattle.transfers.proofs.Shifting.{shifting_here, shifting_more, shifting_end}
 use Rattle.transfers.proofs.shift_listed.Goals as goal
 
@@ -28,8 +27,3 @@ loop-item-preserved c =
       s.0 ∙ l.0,
       shifting_more (rw c.in-Some-listed_at.is at n) l.1 c.amount.ensures c.amount-in-loop-item.ensures c.shift_field.ensures,
     )
-
-pub returns : goal.returns
-returns c =
-    let l = c.loop-item.invariant in
-    shifting_end (none_listed c.args.kind _ (omega (arith, c.in-None.ensures.steps.1, l.0))) l.1
