@@ -35,6 +35,7 @@ pub fn first_cursor(low: u16) -> Cursor
 }
 
 // Applies a block: carries it out in the map and, where `write` is true, in memory.
+#[tactic(auto, unfolding(events::specs::Events::adjusted_in, events::specs::Events::play, events::specs::Events::marks))]
 pub fn apply(
     file: &File,
     found: Block,
@@ -145,6 +146,7 @@ fn place(
 }
 
 // Places the data of a relocatable block at low, or only reserves room for it there.
+#[tactic(auto, unfolding(events::specs::Events::adjusted_in, events::specs::Events::play))]
 fn place_relocatable(
     file: &File,
     from: usize,

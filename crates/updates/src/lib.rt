@@ -72,6 +72,7 @@ fn is_loaded(mark: u8) -> bool
 }
 
 // Carries out the item at `at`.
+#[tactic(auto, unfolding(events::specs::Events::play, events::specs::Events::marks))]
 fn apply(
     item: Item,
     at: usize,
@@ -92,7 +93,7 @@ fn apply(
 }
 
 // Adjusts the word at an address, if it is loaded (12) and not adjusted since (13). The item that lists it stands at `at`.
-#[tactic(auto, using(words::proofs::Lent::lent_is), unfolding(crate::specs::Bodies::adjusting, answer::specs::Checks::need))]
+#[tactic(auto, using(words::proofs::Lent::lent_is), unfolding(crate::specs::Bodies::adjusting, answer::specs::Checks::need, events::specs::Events::play, events::specs::Events::marks))]
 fn adjust(
     address: usize,
     at: usize,
