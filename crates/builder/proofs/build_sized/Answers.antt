@@ -16,17 +16,14 @@ returns-then-is_err c =
 pub returns : goal.returns
 returns c =
     let same : ◌≡◌ c.unwrap-file.result c.args.file.now = search rules in
-    built_checked c.walk_call-checked.ensures (rw same at c.build_checked.ensures)
+    built_checked c.walk_call-checked.ensures (rw (same, c.bases-bases.ensures) at c.build_checked.ensures)
 
 pub unwrap-file-requires : goal.unwrap-file-requires
 unwrap-file-requires c =
     let fits = (check_accepts _ _ _ c.walk_call-checked.ensures.answer (sym c.is_err.ensures.value ∙ c.if-is_err.false)).3 in
     search (rules, fits)
 
-pub overflow_cast-bases : goal.overflow_cast-bases
-overflow_cast-bases c =
-    omega (arith, (check_accepts _ _ _ c.walk_call-checked.ensures.answer (sym c.is_err.ensures.value ∙ c.if-is_err.false)).1)
-
-pub overflow_cast-bases-2 : goal.overflow_cast-bases-2
-overflow_cast-bases-2 c =
-    omega (arith, (check_accepts _ _ _ c.walk_call-checked.ensures.answer (sym c.is_err.ensures.value ∙ c.if-is_err.false)).2)
+pub bases-bases-requires : goal.bases-bases-requires
+bases-bases-requires c =
+    let k = check_accepts _ _ _ c.walk_call-checked.ensures.answer (sym c.is_err.ensures.value ∙ c.if-is_err.false) in
+    (k.1, omega (arith, k.2))
