@@ -25,7 +25,8 @@ pub enum Form {
     Device,
 }
 
-// Where a walk stands: the next record's offset; the last code record, its place and its size; what was placed and adjusted so far.
+// Where a walk stands: the next record's offset; the last code record, its place and its size; what was placed and adjusted so far. (A type
+// for place and size that kept both within memory would ask more of `advance`, which makes them.)
 #[derive(Clone, Copy)]
 pub struct Cursor {
     pub at: usize,
@@ -74,7 +75,7 @@ pub fn walk_call(
     walk_file(form_of(form), &file, bases, write, memory, map)
 }
 
-// The form of a call.
+// The form of a call, whose number C gives and `in_range` looks at: `TryFrom` would have an error that can't come.
 pub fn form_of(form: u32) -> Form
     ensures { result ≡ form_of form }
 {
@@ -171,6 +172,7 @@ fn walk_file(
 {
     // Of a file so short every offset has room in an answer.
     prove!(file.len() <= events::FILE);
+    // (no `?`: see `answer::refused`)
     if let Err(failure) = opening(form, file) {
         return answer::refused(failure.fault, failure.offset);
     }
@@ -212,6 +214,7 @@ fn walk(
     loop {
         let found = match records::read(file, cursor.at, cursor.last) {
             Ok(found) => found,
+            // (no `?`: see `answer::refused`)
             Err(failure) => return answer::refused(failure.fault, failure.offset),
         };
         let check = pieces::apply(
@@ -225,6 +228,7 @@ fn walk(
             memory,
             map,
         );
+        // (no `?`: see `answer::refused`)
         if let Err(failure) = check {
             return answer::refused(failure.fault, failure.offset);
         }

@@ -92,7 +92,7 @@ pub type Outcome = Result<Acceptance, Refusal>;
 // The numbers of an answer: number, offset, side, start present, start address, placed, adjusted, new names, low.
 pub type Numbers = [u32; 9];
 
-// A refusal with a fault and its offset, at side 0.
+// A refusal with a fault and its offset, at side 0. Not a `From<Failure>`, by which `?` would refuse: the bound on the offset can't be asked there.
 pub fn refused(fault: Fault, offset: usize) -> Outcome
     requires { offset < 4294967296 }
     ensures { result ≡ refusal fault offset 0 }

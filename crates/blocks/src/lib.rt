@@ -20,7 +20,7 @@ const NEW_NAMES: usize = 32;
 pub const FIRST_MARKER: u16 = 0xFFFA;
 
 // Where a walk through the blocks stands: the next block's offset, low, the relocatable blocks and the new names so far, and the blocks by
-// their numbers.
+// their numbers. (The rooms for new names are lent, with no heap, so their number stands here.)
 #[derive(Clone, Copy)]
 pub struct Cursor {
     pub at: usize,

@@ -23,7 +23,7 @@ use pieces::{Bases, Site};
 use records::{Entry, Kind, Record};
 use words::File;
 
-// How far the room is filled: where the last entry begins, and where the next one would.
+// (The room is lent: no heap.) How far the room is filled: where the last entry begins, and where the next one would.
 #[derive(Clone, Copy)]
 pub struct Front {
     pub entry: usize,
@@ -255,7 +255,7 @@ fn write_end(entry: Entry, at: usize, index: &mut Buffer)
     words::put_big_word(index, at + 4, address_in(entry));
 }
 
-// The flag of an entry.
+// The flag of an entry: `as` takes no variant that has a field.
 fn flag(entry: Entry) -> u8
     ensures { result ≡ flag_of entry }
 {

@@ -10,13 +10,14 @@ use answer::Failure;
 // The length of memory and of the map.
 pub const MEMORY: usize = 65536;
 
-// What is lent with a byte for each address: memory, the map, the scratch, the room for an index.
+// What is lent with a byte for each address: memory, the map, the scratch, the room for an index. Memory, the map and `write` stay parameters side by
+// side: a method of a struct of the borrows that lends them on has no generated proof (tried).
 pub type Buffer = [u8; MEMORY];
 
 // The most bytes that a file has.
 pub const FILE: usize = 65536;
 
-// The marks of the map.
+// The marks of the map. Numbers, since the map is a buffer of bytes that C lends.
 pub const PLACED: u8 = 1;
 
 pub const RESERVED: u8 = 2;
@@ -26,7 +27,7 @@ pub const ADJUSTED: u8 = 3;
 // What became of a part of the work: it passed, or failed with a fault at an offset of the file.
 pub type Check = Result<(), Failure>;
 
-// Places bytes from `at` on.
+// Places bytes from `at` on. `write` is a flag here and above: a closure for what is done to memory would be passed on as often, and `play_if` says it in a word.
 pub fn place(bytes: &[u8], at: usize, write: bool, memory: &mut [u8], map: &mut [u8])
     requires { (at + length bytes.now ≤ length memory.old) × (at + length bytes.now ≤ length map.old) }
     ensures { Reached (place_of at bytes.now ∷ []) write memory.old map.old memory.new map.new }

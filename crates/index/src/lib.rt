@@ -16,7 +16,7 @@ use pieces::{Bases, Site};
 use records::Kind;
 use words::File;
 
-// An index has no form: in the ranges of its bases it goes by any.
+// (A number, as `acx::in_range` takes what C gives.) An index has no form: in the ranges of its bases it goes by any.
 const FORMLESS: u32 = 0;
 
 // Where a walk stands: the next entry's offset; what was placed and adjusted so far.
@@ -59,8 +59,10 @@ fn walk(index: &File, bases: Bases, map: &mut Buffer) -> Outcome
     loop {
         let found = match entries::read(index, cursor.at) {
             Ok(found) => found,
+            // (no `?`: see `answer::refused`)
             Err(fault) => return answer::refused(fault, cursor.at),
         };
+        // (no `?`: see `answer::refused`)
         if let Err(failure) = apply(index, cursor.at, bases, found, map) {
             return answer::refused(failure.fault, cursor.at);
         }

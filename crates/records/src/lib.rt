@@ -18,7 +18,7 @@ pub enum Kind {
     Absolute = 0x01,
 }
 
-// Where an end record lets the program start.
+// Where an end record lets the program start: the three values of its flag, so no `Option`.
 #[derive(Clone, Copy)]
 pub enum Entry {
     Nowhere,
@@ -73,7 +73,7 @@ pub fn read(file: &File, at: usize, last: Option<Kind>) -> Result<Record, Failur
     }
 }
 
-// What a type byte says, if it is one.
+// What a type byte says, if it is one. A function of the definition's name: no `?` meets it, so `TryFrom` would only rename it.
 pub fn type_of(byte: u8) -> Option<RecordType>
     ensures { result ≡ type_of byte }
 {
@@ -197,7 +197,7 @@ fn read_end(file: &File, at: usize) -> Result<Record, Failure>
     })
 }
 
-// The entry that a flag says, of an address.
+// The entry that a flag says, of an address: of the two, so no `From`.
 pub fn entry_of(flag: u8, address: u16) -> Entry
     ensures { result ≡ entry_of flag address }
 {

@@ -85,6 +85,7 @@ fn load_sized(
     map.fill(0);
     let file = match admit(file, low, high) {
         Ok(file) => file,
+        // (no `?`: see `answer::refused`)
         Err(failure) => return answer::refused(failure.fault, failure.offset),
     };
     let lent = Inputs::new(known_names, known_addresses, low as u16, high as u16);
@@ -140,6 +141,7 @@ fn load_blocks(
 {
     let checked = passes::check(file, lent, memory, map);
     match checked {
+        // (no `?`: see `answer::refused`)
         Err(failure) => answer::refused(failure.fault, failure.offset),
         Ok(totals) => {
             let again = passes::walk(file, lent, true, memory, map, new_names, new_addresses);

@@ -1,6 +1,6 @@
 // The bytes of a handler taken from their old places to the new ones, by way of the scratch: all at once, so that old and new places may
 // overlap in any way. They are gathered from memory into the scratch, where they lie at their new places and have their fields adjusted, and
-// only then go into memory.
+// only then go into memory. `old` and `new` stay two parameters: at each place the names say which bases are meant.
 #![tactic(auto)]
 
 ghost use Rattle.std.specs.Prelude.{[], ◌∷◌, ◌≡◌, ◌+◌, ◌≤◌, length};

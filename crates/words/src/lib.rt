@@ -50,7 +50,8 @@ pub fn contains(bytes: &[u8], byte: u8) -> bool
     bytes.contains(&byte)
 }
 
-// Puts the word into the two bytes at `at`, in which it has room.
+// Puts the word into the two bytes at `at`, in which it has room. (This and the two below stay apart: the library has `to_le_bytes` and `to_be_bytes` for each
+// type, and no trait for them.)
 pub fn put_word(bytes: &mut [u8], at: usize, word: u16)
     requires { at + 2 ≤ length bytes.old }
     ensures { (bytes.new ≡ store 2 bytes.old at word) × (word < 256 ^ 2) }
@@ -74,7 +75,7 @@ pub fn put_number(bytes: &mut [u8], at: usize, number: u32)
     bytes[at..at + 4].copy_from_slice(&number.to_le_bytes());
 }
 
-// Puts the words of a list of byte pairs at the front of `words`.
+// Puts the words of a list of byte pairs at the front of `words`. By index: a zip over `iter_mut` leaves nothing known of the words.
 #[tactic(auto, using(crate::proofs::Turns::decode_more), unfolding(crate::specs::Numbers::decoded, crate::specs::Runs::put))]
 pub fn decode_words(words: &mut [u16], bytes: &[u8])
     requires { length bytes.now / 2 ≤ length words.old }
@@ -96,7 +97,7 @@ pub fn encode_words(bytes: &mut [u8], words: &[u16])
     }
 }
 
-// Puts the same byte everywhere.
+// Puts the same byte everywhere. Of bytes alone: for any `T: Copy` the library's `fill` asks for more than `Copy`.
 pub fn fill(bytes: &mut [u8], byte: u8)
     ensures { bytes.new ≡ replicate (length bytes.old) byte }
 {
@@ -116,6 +117,7 @@ pub fn add(bytes: &mut [u8], at: usize, width: usize, amount: u16)
     requires { (at + width ≤ length bytes.old) × (1 ≤ width) × (width ≤ 2) }
     ensures { bytes.new ≡ change width (on width amount) bytes.old at }
 {
+    // Two widths, of two types: a closure for each would be no shorter than its line.
     if width == 1 {
         bytes[at] = bytes[at].wrapping_add((amount % 256) as u8);
         return;
