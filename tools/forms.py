@@ -32,7 +32,7 @@ def own_enums(folder):
 
 def handed_on(folder):
     for name, _, body in functions(folder):
-        for m in re.finditer(rf"if let \w+::(?:{FAULTY.replace(' ', '|')})\b|\w+::(?:{FAULTY.replace(' ', '|')})\([a-z, ]*\) =>|if let Err\(|\bErr\(\w+\) => (?:return )?Err", body):
+        for m in re.finditer(rf"if let \w+::(?:{FAULTY.replace(' ', '|')})\b|\w+::(?:{FAULTY.replace(' ', '|')})\([a-z, ]*\) =>|if let Err\(|\bErr\((?:failure|fault|refusal)\) =>", body):
             yield f"{name}: {' '.join(m.group(0).split())}"
 
 
