@@ -53,7 +53,7 @@ pub fn word_at(file: &[u8], at: usize) -> usize
     256 * byte_at(file, at) + byte_at(file, at + 2)
 }
 
-// The sum of the `count` bytes from `at` on. A slice and no `File`, as in `byte_at`, which takes any.
+// The sum of the `count` bytes from `at` on.
 pub fn sum(file: &[u8], at: usize, count: usize) -> usize
     requires { (at + 2 * count ≤ length file.now) × (length file.now ≤ 65536) }
     ensures { result ≡ sum_at file.now at count }
