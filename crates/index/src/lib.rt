@@ -16,10 +16,11 @@ use pieces::{Bases, Site};
 use records::Kind;
 use words::File;
 
-// (A number, as `acx::in_range` takes what C gives.) An index has no form: in the ranges of its bases it goes by any.
+// An index has no form: in the ranges of its bases it goes by any. (A number, as `acx::in_range` takes what C gives.)
 const FORMLESS: u32 = 0;
 
-// Where a walk stands: the next entry's offset; what was placed and adjusted so far.
+// Where a walk stands: the next entry's offset; what was placed and adjusted so far. (What is counted is bounded by the walk, not by the type:
+// `advance` makes the next one from any.)
 #[derive(Clone, Copy)]
 pub struct Cursor {
     pub at: usize,

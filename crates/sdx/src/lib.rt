@@ -66,6 +66,7 @@ fn is_listed(known_names: &[u8], known_addresses: &[u16]) -> bool
     known_addresses.len() <= KNOWN && known_names.len() == names::NAME * known_addresses.len()
 }
 
+// (The four of `Inputs` come one by one, as C gives them: they are one value once their ranges are known.)
 // Loads a file with the right buffers: clears the map, and checks what comes before the first block.
 #[tactic(auto, using(events::proofs::Events::cleared), unfolding(crate::specs::Call::admitting))]
 fn load_sized(
