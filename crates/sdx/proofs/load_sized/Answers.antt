@@ -6,6 +6,7 @@ use native.Mathlib.Omega.{arith}
 use Rattle.std.proofs.Common.{rules, Ok, Err}
 use Rattle.std.proofs.lemmas.Result.{err_from_is_err_and}
 use Rattle.events.proofs.Events.{cleared}
+use Rattle.passes.specs.Buffers.{buffers}
 use Rattle.passes.specs.Walk.{inputs}
 use Rattle.sdx.proofs.Calling.{admit_settings, admitted, range_bounds, loaded_cleared, loaded_at_once}
 use Rattle.sdx.proofs.Faults.{admit_fits}
@@ -41,4 +42,5 @@ pub returns : goal.returns
 returns c =
     let done : c.admit.result ≡ Ok c.in_ok-file.file = search rules in
     let h = rw done at c.admit.ensures.ok in
-    loaded_cleared _ _ (rw (h.0, c.new-lent.ensures) at c.load_blocks.ensures)
+    let new = c.load_blocks.new in
+    loaded_cleared _ _ {b' = buffers new.memory new.map new.new_names new.new_addresses} (rw (h.0, c.new-lent.ensures) at c.load_blocks.ensures)
