@@ -60,10 +60,10 @@ fn walk(index: &File, bases: Bases, map: &mut Buffer) -> Outcome
     loop {
         let found = match entries::read(index, cursor.at) {
             Ok(found) => found,
-            // (no `?`: see `answer::refused`)
+            // (no `?`: the offset is the entry's, so `map_err` would take a closure over the cursor)
             Err(fault) => return answer::refused(fault, cursor.at),
         };
-        // (no `?`: see `answer::refused`)
+        // (as above)
         if let Err(failure) = apply(index, cursor.at, bases, found, map) {
             return answer::refused(failure.fault, cursor.at);
         }
