@@ -97,11 +97,7 @@ pub fn refused(fault: Fault, offset: usize) -> Outcome
     requires { offset < 4294967296 }
     ensures { result ≡ refusal fault offset 0 }
 {
-    Err(Refusal {
-        fault,
-        offset: offset as u32,
-        side: 0,
-    })
+    Err(refusal_of(fault.at(offset)))
 }
 
 // The refusal of a failure, at side 0, for `map_err`. (No `From<Failure>`, which can't ask for the bound.)
