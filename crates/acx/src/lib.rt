@@ -109,7 +109,7 @@ pub fn first_cursor(at: usize) -> Cursor
     }
 }
 
-// The cursor after a record that passed.
+// The cursor after a record that passed. (`EndsBy` is asked here: a record does not hold its file.)
 #[tactic(auto, using(fields::proofs::Listing::item_some))]
 pub fn advance(bases: Bases, cursor: Cursor, found: Record) -> Cursor
     requires { (cursor.placed ≤ 65536) × (cursor.adjusted ≤ 65536) × EndsBy 65536 found }
@@ -172,10 +172,7 @@ fn walk_file(
 {
     // Of a file so short every offset has room in an answer.
     prove!(file.len() <= events::FILE);
-    // (no `?`: see `answer::refused`)
-    if let Err(failure) = opening(form, file) {
-        return answer::refused(failure.fault, failure.offset);
-    }
+    opening(form, file).map_err(answer::refusal_of)?;
     walk(file, opening_size(form), bases, write, memory, map)
 }
 
@@ -196,7 +193,7 @@ fn opening(form: Form, file: &File) -> Check
     }
 }
 
-// Walks all records from `at` on, over a clear map.
+// Walks all records from `at` on, over a clear map. (Not one function with the walk of `index`: an entry has no memory to write, and its faults no offset.)
 fn walk(
     file: &File,
     at: usize,
@@ -212,12 +209,8 @@ fn walk(
     prove!(file.len() <= events::FILE);
     let mut cursor = first_cursor(at);
     loop {
-        let found = match records::read(file, cursor.at, cursor.last) {
-            Ok(found) => found,
-            // (no `?`: see `answer::refused`)
-            Err(failure) => return answer::refused(failure.fault, failure.offset),
-        };
-        let check = pieces::apply(
+        let found = records::read(file, cursor.at, cursor.last).map_err(answer::refusal_of)?;
+        pieces::apply(
             file,
             cursor.at,
             bases,
@@ -227,11 +220,8 @@ fn walk(
             write,
             memory,
             map,
-        );
-        // (no `?`: see `answer::refused`)
-        if let Err(failure) = check {
-            return answer::refused(failure.fault, failure.offset);
-        }
+        )
+        .map_err(answer::refusal_of)?;
         if let Record::End { entry, .. } = found {
             return accepted(bases, entry, cursor.placed, cursor.adjusted);
         }

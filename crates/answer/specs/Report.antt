@@ -5,6 +5,7 @@ use Rattle.words.specs.Numbers.{encoded, decoded}
 use Rattle.answer.specs.declared.Fault.{Fault}
 use Rattle.answer.specs.declared.Fault.TheVariants.{WrongBuffer, SettingOutOfRange, FileTooLong, WrongOpening, CutShort, NotKnown, BlockTaken, BlockMissing, LengthNotAllowed, DoesNotFit, CounterUnusable, FieldNotLoaded, AdjustedTwice, NameUnknown, TooManyNames, NameOutsideBlock, PiecesOverlap, FixupUnsuited, BytesAfterEnd, StartTooHigh, WrongVersion, IndexTooLong}
 use Rattle.answer.specs.declared.Acceptance.{Acceptance}
+use Rattle.answer.specs.declared.Failure.{Failure}
 use Rattle.answer.specs.declared.Refusal.{Refusal}
 
 -- how a call ends: accepted with its counts, or refused with one fault
@@ -16,6 +17,10 @@ acceptance start placed adjusted names low = Ok (record { start = start; placed 
 
 abbrev pub refusal : Fault → ℕ → ℕ → Outcome
 refusal fault offset side = Err (record { fault = fault; offset = offset; side = side })
+
+-- what a failure is refused with
+abbrev pub refused_by : Failure → Refusal
+refused_by failure = record { fault = failure.fault; offset = failure.offset; side = 0 }
 
 -- the table "Numbers a bench can show"; 24 and 25 by document 02, wish 5
 abbrev pub number_of : Fault → ℕ

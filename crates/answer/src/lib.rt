@@ -5,7 +5,7 @@
 ghost use Rattle.std.specs.Prelude.{◌≡◌, ◌+◌, ◌<◌, ◌≤◌, length, IfOk, IfErr};
 ghost use Rattle.answer.specs.declared.Fault.TheVariants.{CutShort};
 ghost use Rattle.answer.specs.Checks.{found};
-ghost use Rattle.answer.specs.Report.{refusal, number_of, numbers_of, number_returned, answer_length, Written};
+ghost use Rattle.answer.specs.Report.{refusal, refused_by, number_of, numbers_of, number_returned, answer_length, Written};
 
 use words::File;
 
@@ -92,16 +92,24 @@ pub type Outcome = Result<Acceptance, Refusal>;
 // The numbers of an answer: number, offset, side, start present, start address, placed, adjusted, new names, low.
 pub type Numbers = [u32; 9];
 
-// A refusal with a fault and its offset, at side 0. Not a `From<Failure>`, by which `?` would refuse: the bound on the offset can't be asked there.
+// A refusal with a fault and its offset, at side 0.
 pub fn refused(fault: Fault, offset: usize) -> Outcome
     requires { offset < 4294967296 }
     ensures { result ≡ refusal fault offset 0 }
 {
-    Err(Refusal {
-        fault,
-        offset: offset as u32,
+    Err(refusal_of(fault.at(offset)))
+}
+
+// The refusal of a failure, at side 0, for `map_err`. (No `From<Failure>`, which can't ask for the bound.)
+pub fn refusal_of(failure: Failure) -> Refusal
+    requires { failure.offset < 4294967296 }
+    ensures { result ≡ refused_by failure }
+{
+    Refusal {
+        fault: failure.fault,
+        offset: failure.offset as u32,
         side: 0,
-    })
+    }
 }
 
 // The number of a fault.

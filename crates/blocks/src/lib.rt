@@ -119,7 +119,7 @@ fn read_plain(file: &File, at: usize) -> Result<Block, Failure>
     let from = at + 4;
     let address = file.word(at);
     let last = file.word(at + 2);
-    // (a test, and no `checked_sub`: `one_byte_block_refused` changes it)
+    // (no `checked_sub`: it would answer an `Option`, to which the fault's offset has to be added all the same)
     if last < address {
         return Err(Fault::LengthNotAllowed.at(at + 2));
     }

@@ -23,7 +23,7 @@ use pieces::{Bases, Site};
 use records::{Entry, Kind, Record};
 use words::File;
 
-// (The room is lent: no heap.) How far the room is filled: where the last entry begins, and where the next one would.
+// How far the room is filled: where the last entry begins, and where the next one would. (The room is lent: no heap.)
 #[derive(Clone, Copy)]
 pub struct Front {
     pub entry: usize,
@@ -59,7 +59,8 @@ fn build_sized(form: u32, file: &[u8], site: Site, map: &mut Buffer, index: &mut
     build_checked(form, &file, bases, checked, map, index)
 }
 
-// Builds where the file is accepted, with the outcome and the map of its check.
+// Builds where the file is accepted, with the outcome and the map of its check. (`IsAccepted` is asked by three private functions, about arguments
+// that none of them changes; the form is a number, as the definition `load` takes it.)
 fn build_checked(
     form: u32,
     file: &File,
@@ -156,10 +157,7 @@ fn next_front(front: Front, found: Record) -> Front
             entry: front.used,
             used,
         },
-        Record::Fixups { .. } => Front {
-            entry: front.entry,
-            used,
-        },
+        Record::Fixups { .. } => Front { used, ..front },
         Record::End { .. } => front,
     }
 }

@@ -5,7 +5,8 @@
 ghost use Rattle.std.specs.Prelude.{◌≡◌, ◌+◌, ◌*◌, ◌≤◌, length};
 ghost use Rattle.digits.specs.Digits.{digit_of, is_digit, byte_at, word_at, sum_at, is_blank, past_blanks, past_digits};
 
-// What a character has for a value that is no digit. A number and no `None`: `digit` promises `digit_of`, and the bytes of `byte_at` count it.
+// What a character has for a value that is no digit. A number and no `None`: `digit` promises `digit_of`, and the bytes of `byte_at` count it. (So no `to_digit`, which has
+// `None`.)
 const NO_DIGIT: usize = 16;
 
 // The value of a digit, or `NO_DIGIT`.
@@ -53,7 +54,7 @@ pub fn word_at(file: &[u8], at: usize) -> usize
     256 * byte_at(file, at) + byte_at(file, at + 2)
 }
 
-// The sum of the `count` bytes from `at` on.
+// The sum of the `count` bytes from `at` on. (A slice and no `File`, here and in `past_digits`: `byte_at` takes slices.)
 pub fn sum(file: &[u8], at: usize, count: usize) -> usize
     requires { (at + 2 * count ≤ length file.now) × (length file.now ≤ 65536) }
     ensures { result ≡ sum_at file.now at count }

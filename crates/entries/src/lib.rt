@@ -36,6 +36,7 @@ pub fn read(index: &File, at: usize) -> Result<IndexEntry, Fault>
     requires { at ≤ length index.now }
     ensures { result ≡ read_of index.now at }
 {
+    // (no `present`, here and below: the faults of an index have no offset)
     if index.len() < at + 2 {
         return Err(Fault::CutShort);
     }

@@ -11,7 +11,8 @@ use answer::Failure;
 pub const MEMORY: usize = 65536;
 
 // What is lent with a byte for each address: memory, the map, the scratch, the room for an index. Memory, the map and `write` stay parameters side by
-// side: a method of a struct of the borrows that lends them on has no generated proof (tried).
+// side: a method of a struct of the borrows that lends them on has no generated proof (tried), and so do the rooms for
+// new names. (That a map is blank is of a moment, so it stays in contracts.)
 pub type Buffer = [u8; MEMORY];
 
 // The most bytes that a file has.

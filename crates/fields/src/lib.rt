@@ -15,8 +15,8 @@ pub enum Fixup {
     HighByte = 0x08,
 }
 
-// (No invariant below 256: who asks about the index asks nothing of the LSB, and the other way round, so a type would ask more.)
-// An address field: what is put on it, its index among the code bytes, and the low byte beside a high one (else zero).
+// An address field: what is put on it, its index among the code bytes, and the low byte beside a high one (else zero). (No invariant
+// below 256: who asks about the index asks nothing of the LSB, and the other way round, so a type would ask more.)
 #[derive(Clone, Copy)]
 pub struct Field {
     pub fixup: Fixup,

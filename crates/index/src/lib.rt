@@ -16,10 +16,11 @@ use pieces::{Bases, Site};
 use records::Kind;
 use words::File;
 
-// (A number, as `acx::in_range` takes what C gives.) An index has no form: in the ranges of its bases it goes by any.
+// An index has no form: in the ranges of its bases it goes by any. (A number, as `acx::in_range` takes what C gives.)
 const FORMLESS: u32 = 0;
 
-// Where a walk stands: the next entry's offset; what was placed and adjusted so far.
+// Where a walk stands: the next entry's offset; what was placed and adjusted so far. (What is counted is bounded by the walk, not by the type:
+// `advance` makes the next one from any.)
 #[derive(Clone, Copy)]
 pub struct Cursor {
     pub at: usize,
@@ -59,10 +60,10 @@ fn walk(index: &File, bases: Bases, map: &mut Buffer) -> Outcome
     loop {
         let found = match entries::read(index, cursor.at) {
             Ok(found) => found,
-            // (no `?`: see `answer::refused`)
+            // (no `?`: the offset is the entry's, so `map_err` would take a closure over the cursor)
             Err(fault) => return answer::refused(fault, cursor.at),
         };
-        // (no `?`: see `answer::refused`)
+        // (as above)
         if let Err(failure) = apply(index, cursor.at, bases, found, map) {
             return answer::refused(failure.fault, cursor.at);
         }

@@ -39,6 +39,7 @@ pub fn read(
 ) -> Result<Item, Failure>
     ensures { result ≡ read_of file.now table at counter }
 {
+    // (no `present`: the offset may lie past the end)
     if file.len() <= at {
         return Err(Fault::CutShort.at(file.len()));
     }

@@ -62,6 +62,7 @@ pub enum Record {
 pub fn read(file: &File, at: usize, last: Option<Kind>) -> Result<Record, Failure>
     ensures { result ≡ read_of file.now at last }
 {
+    // (no `present`: the offset may lie past the end)
     if file.len() <= at {
         return Err(Fault::CutShort.at(file.len()));
     }

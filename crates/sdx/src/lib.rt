@@ -66,6 +66,7 @@ fn is_listed(known_names: &[u8], known_addresses: &[u16]) -> bool
     known_addresses.len() <= KNOWN && known_names.len() == names::NAME * known_addresses.len()
 }
 
+// (The four of `Inputs` come one by one, as C gives them: they are one value once their ranges are known.)
 // Loads a file with the right buffers: clears the map, and checks what comes before the first block.
 #[tactic(auto, using(events::proofs::Events::cleared), unfolding(crate::specs::Call::admitting))]
 fn load_sized(
@@ -83,11 +84,7 @@ fn load_sized(
     ensures { Loaded file.now (inputs known_names.now known_addresses.now low high) true (buffers memory.old map.old new_names.old new_addresses.old) result (buffers memory.new map.new new_names.new new_addresses.new) }
 {
     map.fill(0);
-    let file = match admit(file, low, high) {
-        Ok(file) => file,
-        // (no `?`: see `answer::refused`)
-        Err(failure) => return answer::refused(failure.fault, failure.offset),
-    };
+    let file = admit(file, low, high).map_err(answer::refusal_of)?;
     let lent = Inputs::new(known_names, known_addresses, low as u16, high as u16);
     load_blocks(&file, &lent, memory, map, new_names, new_addresses)
 }
@@ -139,13 +136,7 @@ fn load_blocks(
     requires { (map.old ≡ blank) × (admitting file.now lent.now ≡ Ok tt) }
     ensures { Loaded file.now lent.now true (buffers memory.old map.old new_names.old new_addresses.old) result (buffers memory.new map.new new_names.new new_addresses.new) }
 {
-    let checked = passes::check(file, lent, memory, map);
-    match checked {
-        // (no `?`: see `answer::refused`)
-        Err(failure) => answer::refused(failure.fault, failure.offset),
-        Ok(totals) => {
-            let again = passes::walk(file, lent, true, memory, map, new_names, new_addresses);
-            passes::finish(totals, memory, map, new_names, new_addresses)
-        }
-    }
+    let totals = passes::check(file, lent, memory, map).map_err(answer::refusal_of)?;
+    let again = passes::walk(file, lent, true, memory, map, new_names, new_addresses);
+    passes::finish(totals, memory, map, new_names, new_addresses)
 }

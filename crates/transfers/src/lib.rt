@@ -77,6 +77,7 @@ fn gather(
     }
 }
 
+// (Not one function with `gather_index`: a record is read after the kind of the one before it, and by two cursors.)
 // Gathers the pieces of a file: record by record, with a cursor for each pair of bases. Where a move is allowed, no record is at fault.
 #[tactic(auto, using(crate::proofs::Gathering::gathering_onward, crate::proofs::Gathering::gathering_on))]
 fn gather_file(
@@ -199,7 +200,8 @@ fn take_code(place: usize, to: usize, size: usize, memory: &[u8], scratch: &mut 
     words::copy(&mut scratch[to..past], &memory[place..end]);
 }
 
-// Shifts the fields that a fixup record lists, one by one: the amounts of the old bases off, those of the new on.
+// Shifts the fields that a fixup record lists, one by one: the amounts of the old bases off, those of the new on. (Not one function with `shift_listed`: a
+// record has its kind once, an entry one with each item; what reads an item would be a closure, with its contract in every caller's.)
 #[tactic(auto, using(fields::proofs::Listing::item_none, crate::proofs::Shifting::shifting_end))]
 fn shift_fields(items: &[u8], fixup: Fixup, old: Bases, new: Bases, code: &mut [u8])
     requires { Each (Inside (length code.old)) (fields_of fixup items.now) }

@@ -19,7 +19,7 @@ pub struct Done {
     pub adjusted: usize,
 }
 
-// Where a body stands: the next item's offset, the counter, and the words adjusted so far.
+// Where a body stands: the next item's offset, the counter, and the words adjusted so far. (What is counted is bounded by the walk, not by the type.)
 #[derive(Clone, Copy)]
 pub struct Cursor {
     pub at: usize,
@@ -138,7 +138,7 @@ fn advance(cursor: Cursor, item: Item) -> Cursor
         Item::Move { counter, next } => Cursor {
             at: next,
             counter: Some(counter),
-            adjusted: cursor.adjusted,
+            ..cursor
         },
         Item::Adjust { counter, next } => Cursor {
             at: next,

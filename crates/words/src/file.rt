@@ -9,7 +9,8 @@ use std::marker::Model;
 // The most bytes that a file has.
 const LIMIT: usize = 65536;
 
-// The bytes of a file, at most `LIMIT`. In a contract it is the list of its bytes.
+// The bytes of a file, at most `LIMIT`. In a contract it is the list of its bytes. (An offset within it stays a parameter:
+// a type of both would hide the file from what reads it twice.)
 #[derive(Drop)]
 pub struct File<'a> {
     bytes: &'a [u8],

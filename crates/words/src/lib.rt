@@ -11,14 +11,14 @@ ghost use Rattle.words.specs.Numbers.{value, store, big_value, big_store, on, of
 
 pub use file::File;
 
-// A byte as a `usize`: the one place that gives the bound which a cast of a byte asks for.
+// A byte as a `usize`. (Kept as a public function: `as usize` needs no bound any more.)
 pub fn wide(byte: u8) -> usize
     ensures { (result ≡ byte) × (result < 256) }
 {
     byte as usize
 }
 
-// The word at `at`.
+// The word at `at`. (This and the one below stay apart: `from_le_bytes` and `from_be_bytes` are of each type, with no trait.)
 #[tactic(auto, using(crate::proofs::Numbers::value_word))]
 pub fn word_at(bytes: &[u8], at: usize) -> u16
     requires { at + 2 ≤ length bytes.now }

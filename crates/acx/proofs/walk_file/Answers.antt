@@ -6,7 +6,8 @@ use Rattle.events.proofs.Faults.{check_within}
 use Rattle.acx.proofs.Faults.{opening_faults}
 use Rattle.acx.proofs.walk_file.Goals as goal
 
-pub refused-requires : goal.refused-requires
-refused-requires c =
-    let h = check_within (opening_faults _ _) (sym c.opening.ensures ∙ c.in-Err.is) in
-    omega (arith, h, c.len.ensures.limited)
+pub map_err-requires : goal.map_err-requires
+map_err-requires c =
+    λ e h.
+    let k = check_within (opening_faults _ _) (sym c.opening.ensures ∙ h) in
+    omega (arith, k, c.len.ensures.limited)
