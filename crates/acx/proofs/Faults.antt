@@ -26,7 +26,7 @@ use Rattle.records.proofs.Reading.{Where, lies_as}
 use Rattle.records.specs.declared.Record.TheVariants.{Code, Fixups, End}
 use Rattle.events.specs.Sizes.{file_limit}
 use Rattle.acx.specs.Call.{form_of, in_range, load, call}
-use Rattle.acx.specs.Walk.{Verdict, accepted, refused, at_once, Progress, last_of, last_place, last_size, record_at, checked_as, checked, judge, turn, records_from, records_of, opening, opened, judged, report, reported}
+use Rattle.acx.specs.Walk.{Verdict, accepted, refused, at_once, Progress, last_of, last_place, last_size, record_at, checked, judge, turn, records_from, records_of, opening, opened, judged, report, reported}
 use Rattle.acx.specs.declared.Form.{Form}
 use Rattle.acx.specs.declared.Form.TheVariants.{Disk, Device}
 
@@ -48,19 +48,14 @@ judge_faults len file b s (Ok done) (Ok (Fixups fixup from n)) k l = tt
 judge_faults len file b s (Ok done) (Ok (End entry next)) k l = record { faults = tt }
 judge_faults len file b s (Ok done) (Err e) k l = record { faults = l }
 
--- a record that was read, or the fault in its place
-checked_faults : (file : List ℕ) (b : Bases) (s : Progress) (map : List ℕ) (r : Read) → Where (length file) s.at r
-    → Checks (length file) (checked_as file b s r map).answer
-checked_faults file b s map (Ok found) w = applied_faults file s.at b (last_place b s.pieces) (last_size s.pieces) found map w
-checked_faults file b s map (Err e) w = record { faults = w }
-
 -- so every turn of a file, and all its records
 turn_faults : (file : List ℕ) (b : Bases) (s : Progress) (map : List ℕ) → Ending (Verdicts (length file)) (turn file b s map).answer
 unfolding turn checked
 turn_faults file b s map =
     let r = record_at file s in
     let w = lies_as file s.at (last_of s.pieces) r refl in
-    judge_faults (length file) file b s (checked file b s map).answer r (checked_faults file b s map r w).faults w
+    judge_faults (length file) file b s (checked file b s map).answer r
+    (applied_faults file s.at b (last_place b s.pieces) (last_size s.pieces) r map w).faults w
 
 records_faults : (file : List ℕ) (b : Bases) (at : ℕ) → Verdicts (length file) (records_of file b at).answer
 unfolding records_from

@@ -5,19 +5,17 @@ use mathlib.Core.List.{List, [], ◌++◌, append-nil}
 use mathlib.Core.Path.{◌≡◌, refl, sym, ap, ◌∙◌}
 use Prim.Native.Nat.{ℕ, ◌+◌, ◌≤◌}
 use lib.ListN.{length}
-use Rattle.std.proofs.Common.{Option, Ok, Err}
+use Rattle.std.proofs.Common.{Option, Ok}
 use Rattle.answer.specs.Checks.{failure}
 use Rattle.answer.specs.Report.{address, Outcome, acceptance, refusal}
-use Rattle.answer.proofs.Faults.{of_file_located}
-use Rattle.answer.specs.declared.Failure.{Failure}
 use Rattle.answer.specs.declared.Fault.{Fault}
+use Rattle.events.proofs.Checks.{failed_passed}
 use Rattle.events.proofs.Events.{reached_none, reached_more}
 use Rattle.events.proofs.Faults.{check_within}
-use Rattle.events.specs.Events.{Event, marks, blank, placed_in, adjusted_in, Ran, Check, failed, Reached, Did}
+use Rattle.events.specs.Events.{Event, marks, blank, placed_in, adjusted_in, Ran, Check, Reached, Did}
 use Rattle.records.proofs.Reading.{lies_as}
 use Rattle.records.specs.Records.{read, Read}
 use Rattle.records.specs.declared.Entry.{Entry}
-use Rattle.records.specs.declared.Record.{Record}
 use Rattle.records.specs.declared.Record.TheVariants.{End}
 use Rattle.acx.proofs.Cursors.{Tracks, tracks_first, tracks_found, tracks_ends, tracks_on, tracks_further, tracks_ends_by, onward_else}
 use Rattle.acx.proofs.Turning.{turn_is, end_none, events_after}
@@ -27,7 +25,7 @@ use Rattle.pieces.specs.AtBases.{start_of, applied, EndsBy}
 use Rattle.acx.specs.Rules.{Onward}
 use Rattle.acx.specs.Cursor.{first_cursor, advanced}
 use Rattle.pieces.specs.Pieces.{events}
-use Rattle.acx.specs.Walk.{Progress, begun, record_at, checked_as, checked, stepped, records_of, reported}
+use Rattle.acx.specs.Walk.{Progress, begun, record_at, checked, stepped, records_of, reported}
 use Rattle.pieces.specs.declared.Bases.{Bases}
 use Rattle.acx.specs.declared.Cursor.{Cursor}
 
@@ -51,25 +49,7 @@ module _ {file : List ℕ} {b : Bases} {first : ℕ} {write : Bool} {m₀ : List
   going_first e l = record { progress = begun first; came = tracks_first l; reached = rw e (reached_none write m₀ blank) }
 
   module _ {c : Cursor} {m p : List ℕ} (x : Going file b first write m₀ c m p) where
-    -- where no record is read the walk ends with the fault
-    module _ {e : Failure} (is : Err e ≡ read file c.at c.last) where
-      unread_is : checked file b x.progress (marks (events b x.progress.pieces) blank) ≡ failed e.fault e.offset
-      unfolding checked
-      unread_is = ap (λ (q : Read). checked_as file b x.progress q (marks (events b x.progress.pieces) blank)) (tracks_found x.came is)
-
-      pub going_unread : {q : Outcome} → q ≡ refusal e.fault e.offset 0 → Did Outcome (reported b (records_of file b first)) write m₀ blank q m p
-      going_unread eq =
-          let es = events b x.progress.pieces in
-          let a = ap (λ (o : Ran Check). o.answer) unread_is in
-          let none = ap (λ (o : Ran Check). es ++ o.events) unread_is ∙ append-nil es in
-          let o = tracks_ends x.came _ (turn_is file b x.progress (marks es blank) (Err e) _ a refl) in
-          rw o (record { answer = eq; reached = rw none x.reached })
-
-      -- at an offset in the file, or at its end
-      pub going_unread_offset : e.offset ≤ length file
-      going_unread_offset = (of_file_located (lies_as file c.at c.last (Err e) (sym is))).within
-
-    module _ {found : Record} {r : Check} {m' p' : List ℕ} (is : Ok found ≡ read file c.at c.last)
+    module _ {found : Read} {r : Check} {m' p' : List ℕ} (is : found ≡ read file c.at c.last)
         (d : Did Check (applied file c.at b c.place c.size found p) write m p r m' p') where
       -- the definition's progress, its events and what they left in the map
       abbrev here : Progress
@@ -81,14 +61,14 @@ module _ {file : List ℕ} {b : Bases} {first : ℕ} {write : Bool} {m₀ : List
       abbrev there : List ℕ
       there = marks before blank
 
-      found_is : record_at file here ≡ Ok found
+      found_is : record_at file here ≡ found
       found_is = tracks_found x.came is
 
       checked_is : checked file b here there ≡ applied file c.at b c.place c.size found p
       unfolding checked
       checked_is =
-          ap (λ (q : Read). checked_as file b here q there) found_is
-          ∙ ap (λ (k : Cursor). applied file k.at b k.place k.size found there) (sym x.came.here)
+          ap (λ (k : Cursor). applied file k.at b k.place k.size (record_at file here) there) (sym x.came.here)
+          ∙ ap (λ (q : Read). applied file c.at b c.place c.size q there) found_is
           ∙ ap (λ (l : List ℕ). applied file c.at b c.place c.size found l) (sym x.reached.map)
 
       answer_is : (checked file b here there).answer ≡ r
@@ -107,41 +87,44 @@ module _ {file : List ℕ} {b : Bases} {first : ℕ} {write : Bool} {m₀ : List
       -- at an offset in the file, or at its end
       pub going_offset : {fault : Fault} {offset : ℕ} → r ≡ failure fault offset → offset ≤ length file
       going_offset e =
-          check_within (applied_faults file c.at b c.place c.size found p (lies_as file c.at c.last (Ok found) (sym is))) (sym d.answer ∙ e)
+          check_within (applied_faults file c.at b c.place c.size found p (lies_as file c.at c.last found (sym is))) (sym d.answer ∙ e)
 
       -- the start of an end record that passed is an address
-      pub going_start : {entry : Entry} {next : ℕ} → r ≡ Ok tt → found ≡ End entry next → address (start_of b entry) ≤ 65535
+      pub going_start : {entry : Entry} {next : ℕ} → r ≡ Ok tt → found ≡ Ok (End entry next) → address (start_of b entry) ≤ 65535
       unfolding applied
       going_start {entry} {next} e f =
-          let a : (applied file c.at b c.place c.size (End entry next) p).answer ≡ Ok tt =
-          ap (λ (q : Record). (applied file c.at b c.place c.size q p).answer) (sym f) ∙ sym d.answer ∙ e in
+          let a : (applied file c.at b c.place c.size (Ok (End entry next)) p).answer ≡ Ok tt =
+          ap (λ (q : Read). (applied file c.at b c.place c.size q p).answer) (sym f) ∙ sym d.answer ∙ e in
           (ending_passed (c.at + 2) b entry next (length file) a).0
 
       -- such a record ends the walk with an acceptance
-      pub going_ends : {entry : Entry} {next : ℕ} → r ≡ Ok tt → found ≡ End entry next
+      pub going_ends : {entry : Entry} {next : ℕ} → r ≡ Ok tt → found ≡ Ok (End entry next)
           → Did Outcome (reported b (records_of file b first)) write m₀ blank (acceptance (start_of b entry) c.placed c.adjusted 0 0) m' p'
       going_ends {entry} {next} e f =
-          let o = tracks_ends x.came _ (turn_is file b here there (Ok tt) (Ok (End entry next)) (answer_is ∙ e) (found_is ∙ ap Ok f)) in
+          let o = tracks_ends x.came _ (turn_is file b here there (Ok tt) (Ok (End entry next)) (answer_is ∙ e) (found_is ∙ f)) in
           let counts = ap (λ (k : Cursor). acceptance (start_of b entry) k.placed k.adjusted 0 0) x.came.here in
-          rw o (record { answer = counts ∙ counts_stay _ before (end_none file b here there entry next (found_is ∙ ap Ok f)); reached = now })
+          rw o (record { answer = counts ∙ counts_stay _ before (end_none file b here there entry next (found_is ∙ f)); reached = now })
 
       -- any other leads on
-      pub going_on : r ≡ Ok tt → Onward (Ok found) → Going file b first write m₀ (advanced b c found) m' p'
+      pub going_on : r ≡ Ok tt → Onward found → Going file b first write m₀ (advanced b c found) m' p'
       going_on e o =
           let ok : (checked file b here there).answer ≡ Ok tt = answer_is ∙ e in
           record {
-            progress = stepped file here (Ok found);
+            progress = stepped file here found;
             came = tracks_on x.came found_is o ok;
-            reached = rw (events_after file b here there (Ok found) found_is o ok) now;
+            reached = rw (events_after file b here there found found_is o ok) now;
           }
 
       -- with its cursor further on, in a record that lies in the file
-      pub going_further : Onward (Ok found) → c.at + 2 ≤ (advanced b c found).at
+      pub going_further : Onward found → c.at + 2 ≤ (advanced b c found).at
       going_further o = tracks_further x.came found_is o
 
       pub going_ends_by : length file ≤ 65536 → EndsBy 65536 found
       going_ends_by l = tracks_ends_by x.came found_is 65536 l
 
-      -- a record that is not the end leads onward
-      pub going_onward : ((entry : Entry) (next : ℕ) → found ≡ End entry next → ⊥) → Onward (Ok found)
-      going_onward h = onward_else found h
+      -- a record that passed and is not the end leads onward
+      pub going_onward : r ≡ Ok tt → ((entry : Entry) (next : ℕ) → found ≡ Ok (End entry next) → ⊥) → Onward found
+      unfolding applied
+      going_onward e h =
+          onward_else found h
+          (λ f k. failed_passed (sym (ap (λ (q : Read). (applied file c.at b c.place c.size q p).answer) k) ∙ sym d.answer ∙ e))

@@ -6,7 +6,7 @@ use Rattle.answer.specs.Report.{Outcome, acceptance, refusal}
 use Rattle.answer.specs.Checks.{need, failure}
 use Rattle.answer.specs.declared.Fault.{Fault}
 use Rattle.answer.specs.declared.Fault.TheVariants.{WrongOpening, CutShort}
-use Rattle.events.specs.Events.{Event, blank, placed_in, adjusted_in, Ran, Check, failed}
+use Rattle.events.specs.Events.{Event, blank, placed_in, adjusted_in, Ran, Check}
 use Rattle.events.specs.Walk.{Turn, ends, leads, from, bytes_left}
 use Rattle.fields.specs.Fields.{fields_of}
 use Rattle.records.specs.Records.{Read, read}
@@ -75,14 +75,9 @@ last_size (p ∷ ps) = size p
 abbrev pub record_at : List ℕ → Progress → Read
 record_at file s = read file s.at (last_of s.pieces)
 
--- what reading it came to: a record as its part says at the bases, over a map; a fault at once
-abbrev pub checked_as : List ℕ → Bases → Progress → Read → List ℕ → Ran Check
-checked_as file b s (Ok found) map = applied file s.at b (last_place b s.pieces) (last_size s.pieces) found map
-checked_as file b s (Err e) map = failed e.fault e.offset
-
 -- what it comes to at the bases, over a map
 unfoldable pub checked : List ℕ → Bases → Progress → List ℕ → Ran Check
-checked file b s map = checked_as file b s (record_at file s) map
+checked file b s map = applied file s.at b (last_place b s.pieces) (last_size s.pieces) (record_at file s) map
 
 -- the fields of a fixup record are the last piece's
 abbrev pub with_fields : List Field → List Piece → List Piece

@@ -12,7 +12,7 @@ ghost use Rattle.acx.specs.Walk.{records_of, opening as opening_of, opening_size
 ghost use Rattle.acx.specs.Cursor.{first_cursor, advanced};
 ghost use Rattle.acx.specs.Call.{form_of, in_range, sized, load as load_of, Loaded};
 
-use answer::{Acceptance, Fault, Outcome};
+use answer::{Acceptance, Failure, Fault, Outcome};
 use events::{Buffer, Check};
 use pieces::{Bases, Site};
 use records::{Entry, Kind, Record};
@@ -109,19 +109,22 @@ pub fn first_cursor(at: usize) -> Cursor
     }
 }
 
-// The cursor after a record that passed. (`EndsBy` is asked here: a record does not hold its file.)
+// The cursor after what was read: behind a record that passed; at the end record, or at a fault, where it was. (`EndsBy` is asked here: a record does
+// not hold its file.)
 #[tactic(auto, using(fields::proofs::Listing::item_some))]
-pub fn advance(bases: Bases, cursor: Cursor, found: Record) -> Cursor
+pub fn advance(bases: Bases, cursor: Cursor, found: Result<Record, Failure>) -> Cursor
     requires { (cursor.placed ≤ 65536) × (cursor.adjusted ≤ 65536) × EndsBy 65536 found }
     ensures { result ≡ advanced bases cursor found }
 {
     match found {
-        Record::Code {
-            kind,
-            address,
-            from,
-            size,
-        } => Cursor {
+        Ok(
+            Record::Code {
+                kind,
+                address,
+                from,
+                size,
+            },
+        ) => Cursor {
             at: from + size,
             last: Some(kind),
             place: pieces::place_of(bases, kind, address),
@@ -129,12 +132,12 @@ pub fn advance(bases: Bases, cursor: Cursor, found: Record) -> Cursor
             placed: cursor.placed + size,
             ..cursor
         },
-        Record::Fixups { fixup, from, size } => Cursor {
+        Ok(Record::Fixups { fixup, from, size }) => Cursor {
             at: from + size,
             adjusted: cursor.adjusted + size / fields::item_size(fixup),
             ..cursor
         },
-        Record::End { .. } => cursor,
+        Ok(Record::End { .. }) | Err(_) => cursor,
     }
 }
 
@@ -209,7 +212,7 @@ fn walk(
     prove!(file.len() <= events::FILE);
     let mut cursor = first_cursor(at);
     loop {
-        let found = records::read(file, cursor.at, cursor.last).map_err(answer::refusal_of)?;
+        let found = records::read(file, cursor.at, cursor.last);
         pieces::apply(
             file,
             cursor.at,
@@ -222,7 +225,7 @@ fn walk(
             map,
         )
         .map_err(answer::refusal_of)?;
-        if let Record::End { entry, .. } = found {
+        if let Ok(Record::End { entry, .. }) = found {
             return accepted(bases, entry, cursor.placed, cursor.adjusted);
         }
         cursor = advance(bases, cursor, found);

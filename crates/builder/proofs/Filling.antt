@@ -135,7 +135,7 @@ module _ {file : List ℕ} {b : Bases} {first : ℕ} where
         module _ {other : Entry} {next : ℕ} (e : found ≡ End other next) where
           -- the pieces are all there
           all_there : x.progress.pieces ≡ qs
-          all_there = tracks_to_end x.tracks yes here e
+          all_there = tracks_to_end x.tracks yes here (ap Ok e)
 
           -- there is room for the end record
           pub filling_end_room : length (index_of qs entry) ≤ 65536 → f.used + 6 ≤ length room
@@ -152,7 +152,7 @@ module _ {file : List ℕ} {b : Bases} {first : ℕ} where
               ∙ ap (λ (i : ℕ). put (put blank 0 (held (outlines x.progress))) i (with_length (end_bytes other))) used_so_far
               ∙ appended blank (held (outlines x.progress)) (with_length (end_bytes other))
               ∙ ap (λ (ps : List Piece). put blank 0 (held (map outline ps) ++ with_length (end_bytes other))) all_there
-              ∙ ap (λ (t : Entry). put blank 0 (held (map outline qs) ++ with_length (end_bytes t))) (tracks_to_entry x.tracks yes here e)
+              ∙ ap (λ (t : Entry). put blank 0 (held (map outline qs) ++ with_length (end_bytes t))) (tracks_to_entry x.tracks yes here (ap Ok e))
               ∙ ap (put blank 0) (sym k)
 
         module _ (o : Onward (Ok found)) where
@@ -166,7 +166,7 @@ module _ {file : List ℕ} {b : Bases} {first : ℕ} where
 
           -- with which it holds what that brings
           pub filling_on : {room' : List ℕ} → room' ≡ room_with file c.last f room found
-              → Filling file b first (advanced b c found) (front_after f found) room'
+              → Filling file b first (advanced b c (Ok found)) (front_after f found) room'
           filling_on {room'} w =
               let s = x.progress in
               record {

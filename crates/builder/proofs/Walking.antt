@@ -28,7 +28,7 @@ use Rattle.fields.proofs.Listing.{length_fields}
 use Rattle.fields.specs.Fields.{item_size, fields_of}
 use Rattle.fields.specs.declared.Field.{Field}
 use Rattle.fields.specs.declared.Fixup.{Fixup}
-use Rattle.pieces.specs.AtBases.{EndsBy}
+use Rattle.pieces.specs.AtBases.{EndsBy, applied}
 use Rattle.pieces.specs.Pieces.{Piece, Outline, outline}
 use Rattle.pieces.specs.declared.Bases.{Bases}
 use Rattle.records.proofs.Reading.{AfterCode, lies_as, fixups_after}
@@ -90,7 +90,7 @@ outlines s = map outline s.pieces
 pub read_some : {file : List ℕ} {b : Bases} {first : ℕ} {c : Cursor} {s : Progress} {q : Read} (x : Tracks file b first c s) → q ≡ read file c.at c.last
     → {qs : List Piece} {entry : Entry} → (records_of file b first).answer ≡ accepted qs entry
     → IsOk q
-unfolding checked
+unfolding checked applied
 read_some {file} {b} {s = s} {q} x is ok = by q refl
   where
     by : (r : Read) → q ≡ r → IsOk r
@@ -100,21 +100,21 @@ read_some {file} {b} {s = s} {q} x is ok = by q refl
 module _ {file : List ℕ} {b : Bases} {first : ℕ} {c : Cursor} {s : Progress} (x : Tracks file b first c s) {found : Record}
     (is : Ok found ≡ read file c.at c.last) where
   -- it lies in the file
-  pub read_ends_by : length file ≤ 65536 → EndsBy 65536 found
+  pub read_ends_by : length file ≤ 65536 → EndsBy 65536 (Ok found)
   read_ends_by l = tracks_ends_by x (tracks_found x is) 65536 l
 
   module _ {qs : List Piece} {entry : Entry} (yes : (records_of file b first).answer ≡ accepted qs entry) where
     -- where it is not the end, it leads on
     pub read_onward : ((other : Entry) (next : ℕ) → found ≡ End other next → ⊥) → Onward (Ok found)
-    read_onward h = tracks_onward x yes (tracks_found x is) h
+    read_onward h = tracks_onward x yes (tracks_found x is) (λ other next e. h other next cc)
 
     module _ (o : Onward (Ok found)) where
       -- the walk comes to the cursor behind it
-      pub read_next : Tracks file b first (advanced b c found) (stepped file s (Ok found))
+      pub read_next : Tracks file b first (advanced b c (Ok found)) (stepped file s (Ok found))
       read_next = tracks_on x (tracks_found x is) o (tracks_passes x yes)
 
       -- which moved on, in the file
-      pub read_further : (c.at + 2 ≤ (advanced b c found).at) × ((advanced b c found).at ≤ length file)
+      pub read_further : (c.at + 2 ≤ (advanced b c (Ok found)).at) × ((advanced b c (Ok found)).at ≤ length file)
       read_further = (tracks_further x (tracks_found x is) o, (tracks_counts read_next).0)
 
 -- ---- how long the index is behind a record
@@ -198,11 +198,11 @@ module _ {file : List ℕ} {b : Bases} {first : ℕ} where
     counting_end {other} {next} {n} {bs} e k w =
         let six : n ≡ 6 = k ∙ ap brings e in
         let all : length (held (outlines x.progress)) ≡ length (held (map outline qs)) =
-        ap (λ (ps : List Piece). length (held (map outline ps))) (tracks_to_end x.tracks yes (tracks_found x.tracks is) e) in
+        ap (λ (ps : List Piece). length (held (map outline ps))) (tracks_to_end x.tracks yes (tracks_found x.tracks is) (ap Ok e)) in
         omega (arith, six, x.counted, all, length_index (map outline qs) entry, ap length w)
 
     -- every other record leads on, with what it brings
-    pub counting_on : Onward (Ok found) → {n : ℕ} → n ≡ brings found → Counting file b first (advanced b c found) (used + n)
+    pub counting_on : Onward (Ok found) → {n : ℕ} → n ≡ brings found → Counting file b first (advanced b c (Ok found)) (used + n)
     counting_on o k =
         let s = x.progress in
         let f = tracks_found x.tracks is in

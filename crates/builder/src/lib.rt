@@ -2,7 +2,7 @@
 // and, where that fits, once to write it. Nothing is written into the room before that is known.
 #![tactic(auto)]
 
-ghost use Rattle.std.specs.Prelude.{true, [], ◌∷◌, ◌≡◌, ◌+◌, ◌*◌, ◌/◌, ◌<◌, ◌≤◌, length};
+ghost use Rattle.std.specs.Prelude.{true, Ok, [], ◌∷◌, ◌≡◌, ◌+◌, ◌*◌, ◌/◌, ◌<◌, ◌≤◌, length};
 ghost use Rattle.words.specs.Runs.{put};
 ghost use Rattle.answer.specs.Report.{IsAccepted};
 ghost use Rattle.events.specs.Events.{marks, blank};
@@ -102,13 +102,13 @@ fn index_length(form: u32, file: &File, bases: Bases) -> usize
         if let Record::End { .. } = found {
             return used;
         }
-        cursor = acx::advance(bases, cursor, found);
+        cursor = acx::advance(bases, cursor, Ok(found));
     }
 }
 
 // How many bytes of the index a record brings.
 fn entry_size(found: Record) -> usize
-    requires { EndsBy 65536 found }
+    requires { EndsBy 65536 (Ok found) }
     ensures { (result ≡ brings found) × (result ≤ 196608) }
 {
     match found {
@@ -134,7 +134,7 @@ fn write_index(form: u32, file: &File, bases: Bases, index: &mut Buffer)
         }
         write_record(file, cursor.at, cursor.last, found, front, index);
         front = next_front(front, found);
-        cursor = acx::advance(bases, cursor, found);
+        cursor = acx::advance(bases, cursor, Ok(found));
     }
 }
 
@@ -148,7 +148,7 @@ fn open_index(index: &mut Buffer)
 
 // How far the room is filled behind a record.
 fn next_front(front: Front, found: Record) -> Front
-    requires { EndsBy 65536 found × (front.used ≤ 65536) }
+    requires { EndsBy 65536 (Ok found) × (front.used ≤ 65536) }
     ensures { result ≡ front_after front found }
 {
     let used = front.used + entry_size(found);

@@ -10,7 +10,7 @@ use native.Mathlib.Omega.{arith}
 use borrow.Author.Tests.{leb-false}
 use lib.Dec.{leb}
 use lib.ListN.{length}
-use Rattle.std.proofs.Common.{Ok}
+use Rattle.std.proofs.Common.{Ok, Err}
 use Rattle.answer.proofs.Checks.{on_need}
 use Rattle.answer.specs.Checks.{need}
 use Rattle.answer.specs.declared.Fault.TheVariants.{BytesAfterEnd}
@@ -20,7 +20,7 @@ use Rattle.fields.proofs.Listing.{item_some, items_fit}
 use Rattle.fields.specs.declared.Field.{Field}
 use Rattle.records.proofs.Reading.{Where}
 use Rattle.records.specs.declared.Entry.{Entry}
-use Rattle.records.specs.declared.Record.{Record}
+use Rattle.records.specs.Records.{Read}
 use Rattle.records.specs.declared.Record.TheVariants.{Code, Fixups, End}
 use Rattle.words.proofs.Runs.{length_part}
 use Rattle.words.specs.Runs.{part}
@@ -57,13 +57,14 @@ unfolding ending
 ending_faults len at b entry next h =
     on_need failed (Faults len) _ _ _ _ (fails refl h) (λ _. nothing_after len next (leb len next) refl)
 
--- a record that lies in the file
-pub applied_faults : (file : List ℕ) (at : ℕ) (b : Bases) (a k : ℕ) (r : Record) (map : List ℕ) → Where (length file) at (Ok r)
+-- what was read: a record that lies in the file, or its fault
+pub applied_faults : (file : List ℕ) (at : ℕ) (b : Bases) (a k : ℕ) (r : Read) (map : List ℕ) → Where (length file) at r
     → Checks (length file) (applied file at b a k r map).answer
 unfolding applied
-applied_faults file at b a k (Code kind address from n) map w = placing_faults _ (at + 2) _ _ _ _ (omega (arith, w))
-applied_faults file at b a k (Fixups fixup from n) map w =
+applied_faults file at b a k (Ok (Code kind address from n)) map w = placing_faults _ (at + 2) _ _ _ _ (omega (arith, w))
+applied_faults file at b a k (Ok (Fixups fixup from n)) map w =
     let e = length_part file from n w.1 in
     let i = items_fit fixup (part file from n) in
     adjusting_faults _ from _ b a k _ map (item_some fixup) (omega (arith, w, e, i))
-applied_faults file at b a k (End entry next) map w = ending_faults _ (at + 2) b entry next (omega (arith, w))
+applied_faults file at b a k (Ok (End entry next)) map w = ending_faults _ (at + 2) b entry next (omega (arith, w))
+applied_faults file at b a k (Err e) map w = record { faults = w }

@@ -2,7 +2,7 @@
 -- Each check names its offset by document 02, wish 6: "in .. fixup lists the item, .. for 10 and 17 the address .., for 19 the first byte too many,
 -- for 20 the start's first byte".
 -- Assumes nothing.
-use Rattle.std.specs.Prelude.{not, List, [], ◌∷◌, ℕ, ◌+◌, ◌≤◌, leb, length, Option, Some, None}
+use Rattle.std.specs.Prelude.{not, List, [], ◌∷◌, ℕ, ◌+◌, ◌≤◌, leb, length, Option, Some, None, Ok, Err}
 use Rattle.answer.specs.Checks.{need}
 use Rattle.answer.specs.Report.{address as address_of}
 use Rattle.answer.specs.declared.Fault.TheVariants.{DoesNotFit, PiecesOverlap, FieldNotLoaded, AdjustedTwice, StartTooHigh, BytesAfterEnd}
@@ -12,7 +12,7 @@ use Rattle.fields.specs.Fields.{item_size, fields_of}
 use Rattle.records.specs.declared.Entry.{Entry}
 use Rattle.records.specs.declared.Entry.TheVariants.{Nowhere, Fixed, Relative}
 use Rattle.fields.specs.declared.Field.{Field}
-use Rattle.records.specs.declared.Record.{Record}
+use Rattle.records.specs.Records.{Read}
 use Rattle.records.specs.declared.Record.TheVariants.{Code, Fixups, End}
 use Rattle.words.specs.Runs.{part, all_zero, contains}
 use Rattle.pieces.specs.Pieces.{place_at, limit_of, width, adjustment}
@@ -47,14 +47,17 @@ ending at b entry next file_length =
     (need failed (leb file_length next) BytesAfterEnd next
     (passed []))
 
--- a record lies below an offset
-abbrev pub EndsBy : ℕ → Record → Type 0
-EndsBy limit (Code kind address from n) = from + n ≤ limit
-EndsBy limit (Fixups fixup from n) = from + n ≤ limit
-EndsBy limit (End entry next) = next ≤ limit
+-- what was read lies below an offset: a record does; a fault, for which there is none, lies nowhere
+abbrev pub EndsBy : ℕ → Read → Type 0
+EndsBy limit (Ok (Code kind address from n)) = from + n ≤ limit
+EndsBy limit (Ok (Fixups fixup from n)) = from + n ≤ limit
+EndsBy limit (Ok (End entry next)) = next ≤ limit
+EndsBy limit (Err e) = Unit {0}
 
--- the record at an offset of the file, where the last code record before it has k bytes at a (its address, if it has one, begins at its third byte)
-unfoldable pub applied : List ℕ → ℕ → Bases → ℕ → ℕ → Record → List ℕ → Ran Check
-applied file at b a k (Code kind address from n) map = placing (at + 2) (place_at b kind address) (limit_of kind) (part file from n) map
-applied file at b a k (Fixups fixup from n) map = adjusting from (item_size fixup) b a k (fields_of fixup (part file from n)) map
-applied file at b a k (End entry next) map = ending (at + 2) b entry next (length file)
+-- what was read at an offset of the file, where the last code record before it has k bytes at a: a record (its address, if it has one, begins at its
+-- third byte), or the fault for which it is none
+unfoldable pub applied : List ℕ → ℕ → Bases → ℕ → ℕ → Read → List ℕ → Ran Check
+applied file at b a k (Ok (Code kind address from n)) map = placing (at + 2) (place_at b kind address) (limit_of kind) (part file from n) map
+applied file at b a k (Ok (Fixups fixup from n)) map = adjusting from (item_size fixup) b a k (fields_of fixup (part file from n)) map
+applied file at b a k (Ok (End entry next)) map = ending (at + 2) b entry next (length file)
+applied file at b a k (Err e) map = failed e.fault e.offset

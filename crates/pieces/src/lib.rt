@@ -9,7 +9,7 @@ ghost use Rattle.pieces.specs.Pieces.{bases_of, place_at, limit_of, amount_of, a
 ghost use Rattle.pieces.specs.Places.{Inside};
 ghost use Rattle.pieces.specs.AtBases.{placing, adjusting, ending, start_of, EndsBy, applied};
 
-use answer::Fault;
+use answer::{Failure, Fault};
 use events::{Buffer, Check};
 use fields::{Field, Fixup};
 use records::{Entry, Kind, Record};
@@ -45,7 +45,8 @@ impl Site {
     }
 }
 
-// Checks the record at `at` of the file at the bases and carries it out, where the last code record before it has `size` bytes at `place`.
+// Checks what was read at `at` of the file at the bases and carries it out, where the last code record before it has `size` bytes at `place`: a record, or
+// the fault for which it is none, which is handed on.
 #[tactic(auto, using(words::proofs::Runs::length_part, crate::proofs::Applying::ending_none), unfolding(crate::specs::AtBases::applied, events::specs::Events::play, events::specs::Events::marks))]
 pub fn apply(
     file: &File,
@@ -53,7 +54,7 @@ pub fn apply(
     bases: Bases,
     place: usize,
     size: usize,
-    found: Record,
+    found: Result<Record, Failure>,
     write: bool,
     memory: &mut Buffer,
     map: &mut Buffer,
@@ -62,7 +63,7 @@ pub fn apply(
     ensures { Did Check (applied file.now at bases place size found map.old) write memory.old map.old result memory.new map.new }
 {
     let length = file.len();
-    match found {
+    match found? {
         Record::Code {
             kind,
             address,

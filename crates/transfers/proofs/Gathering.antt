@@ -15,9 +15,10 @@ use Rattle.acx.proofs.Walking.{opening_fits, Passes, judged_opens}
 use Rattle.acx.specs.Call.{form_of}
 use Rattle.acx.specs.Cursor.{first_cursor, advanced}
 use Rattle.acx.specs.Rules.{Onward}
+use Rattle.pieces.specs.AtBases.{applied}
 use Rattle.pieces.specs.Places.{Inside}
 use Rattle.pieces.specs.Pieces.{Piece, Outline, outline, place_at, place_of, edited, events}
-use Rattle.acx.specs.Walk.{Verdict, accepted, Progress, begun, last_of, last_place, last_size, record_at, checked_as, checked, with_fields, stepped, records_of, opening_size}
+use Rattle.acx.specs.Walk.{Verdict, accepted, Progress, begun, last_of, last_place, last_size, record_at, checked, with_fields, stepped, records_of, opening_size}
 use Rattle.pieces.specs.declared.Bases.{Bases}
 use Rattle.acx.specs.declared.Cursor.{Cursor}
 use Rattle.answer.specs.declared.Failure.{Failure}
@@ -155,7 +156,7 @@ gathered_on : (file : List ℕ) (old new : Bases) (m t₀ t : List ℕ) (source 
     → record_at file s ≡ Ok r
     → Onward (Ok r)
     → t ≡ transfer old new (map outline s.pieces) m t₀
-    → scratch_with file old new (advanced old source r) (advanced new target r) m t r ≡ transfer old new (map outline (stepped file s (Ok r)).pieces) m t₀
+    → scratch_with file old new (advanced old source (Ok r)) (advanced new target (Ok r)) m t r ≡ transfer old new (map outline (stepped file s (Ok r)).pieces) m t₀
 unfolding scratch_with
 gathered_on file old new m t₀ t source target s (Code kind address from n) lm lt i j ep es e o g =
     let h = (lies_as file s.at (last_of s.pieces) _ e).1 in
@@ -173,7 +174,7 @@ sound : (file : List ℕ) (b : Bases) (c : Cursor) (s : Progress) (r : Record) �
     → c.size ≡ last_size s.pieces
     → record_at file s ≡ Ok r
     → Passes file b s
-    → Sound file (advanced b c r).size r
+    → Sound file (advanced b c (Ok r)).size r
 sound file b c s (Code kind address from n) i es e k = tt
 sound file b c s (Fixups fixup from n) i es e k =
     ((lies_as file s.at (last_of s.pieces) _ e).1, rw es (fields_inside file b s fixup from n i e k))
@@ -255,11 +256,12 @@ module _ {file : List ℕ} {old new : Bases} {first : ℕ} {m t₀ : List ℕ} w
       (yes_new : (records_of file new first).answer ≡ accepted qs entry) where
     -- no record is at fault
     pub gathering_read : {e : Failure} → Err e ≡ read file source.at source.last → ⊥
-    unfolding checked
+    unfolding checked applied
     gathering_read {e} is =
         let p = marks (events old x.progress.pieces) blank in
         failed_passed
-        (ap (λ (r : Read). (checked_as file old x.progress r p).answer) (sym (tracks_found x.at_old is)) ∙ tracks_passes x.at_old yes_old)
+        (ap (λ (r : Read). (applied file x.progress.at old (last_place old x.progress.pieces) (last_size x.progress.pieces) r p).answer) (sym (tracks_found x.at_old is))
+        ∙ tracks_passes x.at_old yes_old)
 
     module _ {found : Record} (is : Ok found ≡ read file source.at source.last) where
       -- the record that the program reads is the definition's, at both pairs of bases
@@ -270,25 +272,25 @@ module _ {file : List ℕ} {old new : Bases} {first : ℕ} {m t₀ : List ℕ} w
       pub gathering_end : {other : Entry} {next : ℕ} {os : List Outline} → found ≡ End other next → os ≡ map outline qs → t ≡ transfer old new os m t₀
       gathering_end e o =
           x.gathered
-          ∙ ap (λ (ps : List Piece). transfer old new (map outline ps) m t₀) (tracks_to_end x.at_old yes_old found_is e)
+          ∙ ap (λ (ps : List Piece). transfer old new (map outline ps) m t₀) (tracks_to_end x.at_old yes_old found_is (ap Ok e))
           ∙ ap (λ (rs : List Outline). transfer old new rs m t₀) (sym o)
 
       -- every other record leads on
       pub gathering_onward : ((other : Entry) (next : ℕ) → found ≡ End other next → ⊥) → Onward (Ok found)
-      gathering_onward h = tracks_onward x.at_old yes_old found_is h
+      gathering_onward h = tracks_onward x.at_old yes_old found_is (λ other next e. h other next cc)
 
       module _ (o : Onward (Ok found)) where
         -- the walks at both pairs of bases come to their cursors behind it
-        pub next_old : Tracks file old first (advanced old source found) (stepped file x.progress (Ok found))
+        pub next_old : Tracks file old first (advanced old source (Ok found)) (stepped file x.progress (Ok found))
         next_old = tracks_on x.at_old found_is o (tracks_passes x.at_old yes_old)
 
-        pub next_new : Tracks file new first (advanced new target found) (stepped file x.progress (Ok found))
+        pub next_new : Tracks file new first (advanced new target (Ok found)) (stepped file x.progress (Ok found))
         next_new = tracks_on x.at_new found_is o (tracks_passes x.at_new yes_new)
 
         -- and the scratch holds what the record brings
         pub gathering_on : {t' : List ℕ} → length m ≡ 65536 → length t ≡ 65536
-            → t' ≡ scratch_with file old new (advanced old source found) (advanced new target found) m t found
-            → Gathering file old new first m t₀ (advanced old source found) (advanced new target found) t'
+            → t' ≡ scratch_with file old new (advanced old source (Ok found)) (advanced new target (Ok found)) m t found
+            → Gathering file old new first m t₀ (advanced old source (Ok found)) (advanced new target (Ok found)) t'
         gathering_on lm lt e =
             record {
               progress = stepped file x.progress (Ok found);
@@ -302,11 +304,11 @@ module _ {file : List ℕ} {old new : Bases} {first : ℕ} {m t₀ : List ℕ} w
             }
 
         -- the record may be gathered
-        pub gathering_sound : Sound file (advanced new target found).size found
+        pub gathering_sound : Sound file (advanced new target (Ok found)).size found
         gathering_sound =
             sound file new target x.progress found x.at_new.stands.inside (ap (λ (k : Cursor). k.size) x.at_new.here) found_is
             (tracks_passes x.at_new yes_new)
 
         -- the last code has one size at both cursors
-        pub gathering_sizes : (advanced old source found).size ≡ (advanced new target found).size
+        pub gathering_sizes : (advanced old source (Ok found)).size ≡ (advanced new target (Ok found)).size
         gathering_sizes = ap (λ (k : Cursor). k.size) next_old.here ∙ sym (ap (λ (k : Cursor). k.size) next_new.here)

@@ -98,8 +98,8 @@ fn gather_file(
         if let Record::End { .. } = found {
             return;
         }
-        source = acx::advance(old, source, found);
-        target = acx::advance(new, target, found);
+        source = acx::advance(old, source, Ok(found));
+        target = acx::advance(new, target, Ok(found));
         gather_record(file, found, old, new, source, target, memory, scratch);
     }
 }

@@ -5,8 +5,8 @@ use lib.ListN.{length}
 use Rattle.acx.proofs.Going.{Going}
 use Rattle.acx.proofs.walk.Given as goal
 
-abbrev pub invariant-loop-found : goal.invariant-loop-found
-invariant-loop-found l = Going l.file l.bases l.at l.write l.initial.memory l.cursor l.memory l.map
+abbrev pub invariant-loop-entry : goal.invariant-loop-entry
+invariant-loop-entry l = Going l.file l.bases l.at l.write l.initial.memory l.cursor l.memory l.map
 
-abbrev pub decreases-loop-found : goal.decreases-loop-found
-decreases-loop-found l = length l.file - l.cursor.at
+abbrev pub decreases-loop-entry : goal.decreases-loop-entry
+decreases-loop-entry l = length l.file - l.cursor.at
