@@ -21,6 +21,13 @@ item_some ZeroPageByte = omega arith
 item_some Word = omega arith
 item_some HighByte = omega arith
 
+-- an item has two bytes at most
+pub item_le : (fixup : Fixup) → item_size fixup ≤ 2
+item_le LowByte = omega arith
+item_le ZeroPageByte = omega arith
+item_le Word = omega arith
+item_le HighByte = omega arith
+
 -- a byte, and the bytes after it
 drop_next : (items : List ℕ) (i : ℕ) → i + 1 ≤ length items → drop i items ≡ get_or items i 0 ∷ drop (i + 1) items
 drop_next items i h =

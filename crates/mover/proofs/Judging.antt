@@ -22,7 +22,7 @@ use Rattle.events.specs.Events.{blank, Ran, Noted, Did}
 use Rattle.index.specs.Walk.{indexed}
 use Rattle.moves.proofs.Rulings.{both, ranges, refused_leaves}
 use Rattle.moves.proofs.Sources.{report_same, reports_accepted, counted, counted_refused}
-use Rattle.moves.specs.Call.{Call, call_of, Ruling, allows, refuses, side, sides, ruling_of, sized, ruling, Allows, pieces_of, outcome_by, memory_by, outcome_of, memory_after, map_after, scratch_after, Moved}
+use Rattle.moves.specs.Call.{Call, Ruling, allows, refuses, side, sides, ruling_of, sized, ruling, Allows, pieces_of, outcome_by, memory_by, outcome_of, memory_after, map_after, scratch_after, Moved}
 use Rattle.moves.specs.Move.{moved}
 use Rattle.moves.specs.Sources.{Source, file_in, the_index, judged_at, Counted}
 use Rattle.mover.specs.Parts.{Judged, Done}
@@ -173,30 +173,31 @@ module _ {c : Call} {m : List ℕ} where
         counts = outcome_counted c.source c.new (refuses WrongBuffer 0 0) e;
       }
 
-module _ {h : Source} {old new : Bases} {m p s : List ℕ} where
   -- so do a memory, a map and a scratch of another length
-  pub moved_memory : {r : Outcome} → (length m ≡ 65536 → ⊥) → r ≡ refusal WrongBuffer 0 0 → Moved (call_of h old new p s true) m r m p s
-  moved_memory f e = moved_wrong (rw (ne_eqb _ _ f) refl) e
+  pub moved_memory : {r : Outcome} → (length m ≡ 65536 → ⊥) → r ≡ refusal WrongBuffer 0 0 → Moved c m r m c.map c.scratch
+  moved_memory h e = moved_wrong (rw (ne_eqb _ _ h) refl) e
 
-  pub moved_map : {r : Outcome} {m' : List ℕ} → length m ≡ 65536 → (length p ≡ 65536 → ⊥) → r ≡ refusal WrongBuffer 0 0 → m' ≡ m
-      → Moved (call_of h old new p s true) m r m' p s
-  moved_map g f e em = rw em (moved_wrong (rw (eq-eqb _ _ g, ne_eqb _ _ f) refl) e)
+  pub moved_map : {r : Outcome} → length m ≡ 65536 → (length c.map ≡ 65536 → ⊥) → r ≡ refusal WrongBuffer 0 0
+      → Moved c m r m c.map c.scratch
+  moved_map g h e = moved_wrong (rw (eq-eqb _ _ g, ne_eqb _ _ h) refl) e
 
-  pub moved_scratch : {r : Outcome} {m' p' : List ℕ} → length m ≡ 65536 → length p ≡ 65536 → (length s ≡ 65536 → ⊥)
-      → r ≡ refusal WrongBuffer 0 0 → m' ≡ m → p' ≡ p → Moved (call_of h old new p s true) m r m' p' s
-  moved_scratch g i f e em ep = rw (em, ep) (moved_wrong (rw (eq-eqb _ _ g, eq-eqb _ _ i, ne_eqb _ _ f) refl) e)
+  pub moved_scratch : {r : Outcome} → length m ≡ 65536 → length c.map ≡ 65536 → (length c.scratch ≡ 65536 → ⊥)
+      → r ≡ refusal WrongBuffer 0 0 → Moved c m r m c.map c.scratch
+  moved_scratch g i h e = moved_wrong (rw (eq-eqb _ _ g, eq-eqb _ _ i, ne_eqb _ _ h) refl) e
 
   -- with the right lengths it is the call that was done
-  pub moved_sized : {r : Outcome} {m₀ m' p' s' : List ℕ} → length m ≡ 65536 → length p ≡ 65536 → length s ≡ 65536
-      → Done h old new m₀ r m' p' s' → m₀ ≡ m
-      → Moved (call_of h old new p s true) m r m' p' s'
+  pub moved_sized : {r : Outcome} {m₀ m' p' s' : List ℕ} → c.answer_sized ≡ true → length m ≡ 65536 → length c.map ≡ 65536
+      → length c.scratch ≡ 65536
+      → Done c.source c.old c.new m₀ r m' p' s'
+      → m₀ ≡ m
+      → Moved c m r m' p' s'
   unfolding ruling need pick outcome_of memory_after map_after scratch_after
-  moved_sized g i f d em =
-      let z : sized (call_of h old new p s true) m ≡ true = rw (eq-eqb _ _ g, eq-eqb _ _ i, eq-eqb _ _ f) refl in
+  moved_sized a g i h d em =
+      let z : sized c m ≡ true = rw (eq-eqb _ _ g, eq-eqb _ _ i, eq-eqb _ _ h, a) refl in
       record {
         outcome = rw z d.outcome;
-        memory = rw z (d.memory ∙ ap (memory_by old new (ruling_of h old new)) em);
+        memory = rw z (d.memory ∙ ap (memory_by c.old c.new (ruling_of c.source c.old c.new)) em);
         map = rw z d.map;
         scratch = rw z d.scratch;
-        counts = outcome_counted h new (ruling_of h old new) d.outcome;
+        counts = outcome_counted c.source c.new (ruling_of c.source c.old c.new) d.outcome;
       }

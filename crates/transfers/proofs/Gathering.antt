@@ -225,12 +225,27 @@ pub gathers_sound : (file : List ℕ) (size : ℕ) (r : Record) → Sound file s
     → (from + n ≤ length file) × Each (Inside size) (fields_of fixup (part file from n))
 gathers_sound file size r h e = rw e at h
 
--- the items, and the code that is then lent
-pub gathers_lent : (file : List ℕ) (target : Cursor) (t : List ℕ) (r : Record) → Sound file target.size r → {fixup : Fixup} {from k : ℕ} {items : List ℕ}
+-- the items and the code that are then lent
+pub gathers_lent : (file : List ℕ) (target : Cursor) (t : List ℕ) (fixup : Fixup) (from k : ℕ) → length file ≤ 65536
+    → target.place + target.size ≤ length t
+    → (from + k ≤ length file) × Each (Inside target.size) (fields_of fixup (part file from k))
+    → (length (mid_of from (from + k - from) file) ≤ 65536)
+    × Each (Inside (length (mid_of target.place (target.place + target.size - target.place) t)))
+    (fields_of fixup (mid_of from (from + k - from) file))
+gathers_lent file target t fixup from k l j h =
+    let items = lent_is from k file in
+    let code = lent_is target.place target.size t in
+    let n : length (mid_of target.place (target.place + target.size - target.place) t) ≡ target.size =
+    ap length code ∙ length_part t target.place target.size j in
+    let i : length (mid_of from (from + k - from) file) ≡ k = ap length items ∙ length_part file from k h.0 in
+    (omega (arith, i, l, h.0), rw (n, items) h.1)
+
+-- of a record that may be gathered: its fields lie in the code that is lent
+pub gathers_inside : (file : List ℕ) (target : Cursor) (t : List ℕ) (r : Record) → Sound file target.size r → {fixup : Fixup} {from k : ℕ} {items : List ℕ}
     → r ≡ Fixups fixup from k → items ≡ part file from k
     → target.place + target.size ≤ length t
     → Each (Inside (length (mid_of target.place (target.place + target.size - target.place) t))) (fields_of fixup items)
-gathers_lent file target t r h e i j =
+gathers_inside file target t r h e i j =
     let code = lent_is target.place target.size t in
     let n : length (mid_of target.place (target.place + target.size - target.place) t) ≡ target.size =
     ap length code ∙ length_part t target.place target.size j in

@@ -11,9 +11,9 @@ use Rattle.acx.proofs.WellPlaced.{fits_memory, fits_map}
 use Rattle.pieces.proofs.Loads.{Fits}
 use Rattle.pieces.proofs.Marks.{marks_outside, marks_some}
 use Rattle.pieces.specs.Places.{Placed, WellPlaced}
-use Rattle.pieces.specs.Pieces.{Outline, outline, place_of}
+use Rattle.pieces.specs.Pieces.{Outline, outline, place_of, events}
 use Rattle.pieces.specs.declared.Bases.{Bases}
-use Rattle.events.proofs.Events.{blank_at}
+use Rattle.events.proofs.Events.{length_marks, length_blank, blank_at}
 use Rattle.events.proofs.Lists.{each_zip3}
 use Rattle.events.specs.Events.{blank}
 use Rattle.events.specs.Lists.{Each}
@@ -161,6 +161,11 @@ module _ (h : Source) (old new : Bases) (a : Allows (ruling_of h old new)) (map 
   -- the map is that of the pieces
   map_is : map ≡ marks_for new ps
   map_is = e ∙ ap (map_by (judged_at h new)) (allows_is (ruling_of h old new) a) ∙ ap (λ (r : Report). r.map) (report_at_lem h ps new at_both.1)
+
+  -- it is as long as memory
+  pub length_map : length map ≡ 65536
+  unfolding marks_for
+  length_map = ap length map_is ∙ length_marks (events new (mapped hollow ps)) blank ∙ length_blank
 
   -- memory is that of the move
   pub overlaid_moved : (m s t m' : List ℕ) → length m ≡ 65536 → length s ≡ 65536 → t ≡ transfer old new ps m s → Overlaid map t m m'

@@ -105,7 +105,7 @@ fn gather_file(
 }
 
 // Gathers in the scratch what a record brings: its code from memory, or a change of the fields that it lists.
-#[tactic(auto, using(crate::proofs::Gathering::gathers_lent, crate::proofs::Gathering::gathers_code, crate::proofs::Gathering::gathers_fields, crate::proofs::Gathering::gathers_end, crate::proofs::Gathering::gathers_sound))]
+#[tactic(auto, using(crate::proofs::Gathering::gathers_inside, crate::proofs::Gathering::gathers_code, crate::proofs::Gathering::gathers_fields, crate::proofs::Gathering::gathers_end, crate::proofs::Gathering::gathers_sound))]
 fn gather_record(
     file: &File,
     found: Record,
