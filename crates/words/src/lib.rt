@@ -104,12 +104,15 @@ pub fn fill(bytes: &mut [u8], byte: u8)
     bytes.fill(byte);
 }
 
-// Puts all of `from` into a run as long.
+// Puts all of `from` into a run as long. (Not by `copy_from_slice`, which calls C's `memmove`: the library for C would need that from outside.)
+#[tactic(auto, using(crate::proofs::Turns::copy_more, crate::proofs::Turns::copy_all))]
 pub fn copy(to: &mut [u8], from: &[u8])
     requires { length from.now ≡ length to.old }
     ensures { to.new ≡ from.now }
 {
-    to.copy_from_slice(from);
+    for (i, byte) in from.iter().enumerate() {
+        to[i] = *byte;
+    }
 }
 
 // Adds the amount to the number of `width` bytes at `at`, a byte or a word: "modulo 65,536 for words, 256 for bytes".
