@@ -55,11 +55,11 @@ judge file z found es (done next) = leads (stepped file z found es next)
 abbrev pub block_at : List ℕ → Inputs → Progress → Result Block Failure
 block_at file g z = read file g.high g.names z.names z.cursor
 
--- what was read comes to
+-- what was read, carried out
 unfoldable pub applied_at : List ℕ → Inputs → Progress → Result Block Failure → List ℕ → Ran Stop
 applied_at file g z found map = applied file g.addresses z.addresses z.cursor found map
 
--- what was read carried out, and where that leads
+-- and where that leads
 abbrev pub carried : List ℕ → Inputs → Progress → Result Block Failure → List ℕ → Ran (Turn Progress Verdict)
 carried file g z (Err e) map = record { answer = ends (refused e.fault e.offset z); events = [] }
 carried file g z (Ok found) map =
