@@ -6,7 +6,8 @@ use mathlib.Core.Path.{◌≡◌, refl, ap}
 use Prim.Native.Nat.{ℕ, ◌+◌, ◌≤◌, ◌<◌}
 use native.Mathlib.Omega.{arith}
 use lib.ListN.{length}
-use Rattle.std.proofs.Common.{Ok, Err}
+use Rattle.std.proofs.Common.{Result, Ok, Err}
+use Rattle.std.specs.Prelude.{IfOk}
 use Rattle.answer.specs.Checks.{failure}
 use Rattle.answer.specs.declared.Failure.{Failure}
 use Rattle.answer.specs.declared.Fault.{Fault}
@@ -18,7 +19,7 @@ use Rattle.blocks.specs.declared.Cursor.{Cursor}
 use Rattle.events.proofs.Events.{placed_append, adjusted_append}
 use Rattle.events.specs.Events.{Event, placed_in, adjusted_in}
 use Rattle.updates.proofs.Bounds.{body_bounds, body_places_none}
-use Rattle.updates.proofs.Turning.{done_same}
+use Rattle.updates.proofs.Turning.{broken_done, done_same}
 use Rattle.updates.specs.Bodies.{Stop, broken, done, Ended, ended_at, counted}
 use Rattle.words.proofs.Runs.{length_part}
 use Rattle.effects.specs.Effects.{placed_by, applied, advanced, first_cursor}
@@ -30,41 +31,43 @@ pub record Ends (len at next : ℕ) (es : List Event) : Type 0 where
   pub behind : at + placed_in es + adjusted_in es ≤ next
 
 -- it does so whatever its kind
-pub applied_ends : (file lent own : List ℕ) (c : Cursor) (b : Block) (map : List ℕ) (n k : ℕ) → Fits (length file) c n k b → (next : ℕ)
-    → (applied file lent own c b map).answer ≡ done next → Ends (length file) c.at next (applied file lent own c b map).events
+pub applied_ends : (file lent own : List ℕ) (c : Cursor) (found : Result Block Failure) (map : List ℕ) (n k : ℕ) → IfOk found (Fits (length file) c n k)
+    → (next : ℕ) → (applied file lent own c found map).answer ≡ done next → Ends (length file) c.at next (applied file lent own c found map).events
 unfolding placed_in adjusted_in
-applied_ends file lent own c (Plain address from size) map n k f next e =
+applied_ends file lent own c (Ok (Plain address from size)) map n k f next e =
     let l = f.lies in
     let t : from + size ≡ next = done_same e in
     let s = length_part file from size l.1 in
     record { further = omega (arith, l.0); inside = omega (arith, l.1); behind = omega (arith, l.0) }
-applied_ends file lent own c (Relocatable true number offset from size) map n k f next e =
+applied_ends file lent own c (Ok (Relocatable true number offset from size)) map n k f next e =
     let l = f.lies in
     let t : from ≡ next = done_same e in
     record { further = omega (arith, l.0); inside = omega (arith, l.1); behind = omega (arith, l.0) }
-applied_ends file lent own c (Relocatable false number offset from size) map n k f next e =
+applied_ends file lent own c (Ok (Relocatable false number offset from size)) map n k f next e =
     let l = f.lies in
     let t : from + size ≡ next = done_same e in
     let s = length_part file from size l.1 in
     record { further = omega (arith, l.0); inside = omega (arith, l.1); behind = omega (arith, l.0) }
-applied_ends file lent own c (Update source from) map n k f next e =
+applied_ends file lent own c (Ok (Update source from)) map n k f next e =
     let l = f.lies in
     let amount = amount_of c.table lent own source in
     let b = body_bounds file c.table amount from map l.1 next e in
     let p = body_places_none file c.table amount from map in
     record { further = omega (arith, b.0, l.0); inside = b.1; behind = omega (arith, b.2, p, l.0) }
-applied_ends file lent own c (NewName from address) map n k f next e =
+applied_ends file lent own c (Ok (NewName from address)) map n k f next e =
     let l = f.lies in
     let t : from + 8 ≡ next = done_same e in
     record { further = omega (arith, l.0); inside = omega (arith, l.1); behind = omega (arith, l.0) }
+applied_ends file lent own c (Err fault) map n k f next e = absurd (broken_done e)
 
 -- and there the cursor stands
-pub advanced_at : (file lent own : List ℕ) (c : Cursor) (b : Block) (map : List ℕ) (next : ℕ) → (applied file lent own c b map).answer ≡ done next
-    → (advanced c b next).at ≡ next
-advanced_at file lent own c (Plain address from size) map next e = refl
-advanced_at file lent own c (Relocatable reserves number offset from size) map next e = refl
-advanced_at file lent own c (Update source from) map next e = refl
-advanced_at file lent own c (NewName from address) map next e = refl
+pub advanced_at : (file lent own : List ℕ) (c : Cursor) (found : Result Block Failure) (map : List ℕ) (next : ℕ)
+    → (applied file lent own c found map).answer ≡ done next → (advanced c found next).at ≡ next
+advanced_at file lent own c (Ok (Plain address from size)) map next e = refl
+advanced_at file lent own c (Ok (Relocatable reserves number offset from size)) map next e = refl
+advanced_at file lent own c (Ok (Update source from)) map next e = refl
+advanced_at file lent own c (Ok (NewName from address)) map next e = refl
+advanced_at file lent own c (Err fault) map next e = absurd (broken_done e)
 
 -- the events so far are no more than the bytes behind the cursor
 pub record Behind (len : ℕ) (c : Cursor) (es : List Event) : Type 0 where
@@ -82,15 +85,16 @@ behind_on len c d es fs x h =
     record { inside = x.inside; counts = omega (arith, h.counts, x.behind, placed_append es fs, adjusted_append es fs) }
 
 -- what a block carried out places is what its kind says
-pub placed_by_lem : (file lent own : List ℕ) (c : Cursor) (b : Block) (map : List ℕ) (n k : ℕ) → Fits (length file) c n k b → (next : ℕ)
-    → (applied file lent own c b map).answer ≡ done next → placed_in (applied file lent own c b map).events ≡ placed_by b
+pub placed_by_lem : (file lent own : List ℕ) (c : Cursor) (found : Result Block Failure) (map : List ℕ) (n k : ℕ) → IfOk found (Fits (length file) c n k)
+    → (next : ℕ) → (applied file lent own c found map).answer ≡ done next → placed_in (applied file lent own c found map).events ≡ placed_by found
 unfolding placed_in
-placed_by_lem file lent own c (Plain address from size) map n k f next e = let l = length_part file from size f.lies.1 in omega (arith, l)
-placed_by_lem file lent own c (Relocatable true number offset from size) map n k f next e = refl
-placed_by_lem file lent own c (Relocatable false number offset from size) map n k f next e =
+placed_by_lem file lent own c (Ok (Plain address from size)) map n k f next e = let l = length_part file from size f.lies.1 in omega (arith, l)
+placed_by_lem file lent own c (Ok (Relocatable true number offset from size)) map n k f next e = refl
+placed_by_lem file lent own c (Ok (Relocatable false number offset from size)) map n k f next e =
     let l = length_part file from size f.lies.1 in omega (arith, l)
-placed_by_lem file lent own c (Update source from) map n k f next e = body_places_none file c.table _ from map
-placed_by_lem file lent own c (NewName from address) map n k f next e = refl
+placed_by_lem file lent own c (Ok (Update source from)) map n k f next e = body_places_none file c.table _ from map
+placed_by_lem file lent own c (Ok (NewName from address)) map n k f next e = refl
+placed_by_lem file lent own c (Err fault) map n k f next e = refl
 
 -- what an end in the program's terms says
 abbrev next_in : Ended → ℕ

@@ -14,8 +14,10 @@ use Rattle.blocks.specs.Bounds.{Packed, Fits}
 use Rattle.blocks.specs.declared.Block.{Block}
 use Rattle.blocks.specs.declared.Block.TheVariants.{Plain, Relocatable, Update, NewName}
 use Rattle.blocks.specs.declared.Cursor.{Cursor}
-use Rattle.std.proofs.Common.{Option, Some, None}
+use Rattle.std.proofs.Common.{Option, Some, None, Result, Ok, Err}
 use Rattle.std.proofs.lemmas.Option.{none-some, same_Some}
+use Rattle.std.specs.Prelude.{IfOk}
+use Rattle.answer.specs.declared.Failure.{Failure}
 use Rattle.items.specs.Items.{slot_at}
 use Rattle.items.specs.declared.Slot.{Slot}
 use Rattle.words.proofs.Lent.{lent_is}
@@ -55,12 +57,13 @@ counted_same c d names addresses e h =
     }
 
 -- after a block it holds with the name that the block brings, if any
-pub counted_on : (file : List ℕ) (c : Cursor) (b : Block) (next lent own : ℕ) (names addresses : List ℕ) → Fits (length file) c lent own b
-    → Counted c names addresses → Counted (advanced c b next) (names ++ name_in file b) (addresses ++ address_in b)
-counted_on file c (Plain address from size) next lent own names addresses f h = counted_same c _ names addresses refl h
-counted_on file c (Relocatable reserves number offset from size) next lent own names addresses f h = counted_same c _ names addresses refl h
-counted_on file c (Update source from) next lent own names addresses f h = counted_same c _ names addresses refl h
-counted_on file c (NewName from address) next lent own names addresses f h =
+pub counted_on : (file : List ℕ) (c : Cursor) (found : Result Block Failure) (next lent own : ℕ) (names addresses : List ℕ)
+    → IfOk found (Fits (length file) c lent own)
+    → Counted c names addresses → Counted (advanced c found next) (names ++ name_in file found) (addresses ++ address_in found)
+counted_on file c (Ok (Plain address from size)) next lent own names addresses f h = counted_same c _ names addresses refl h
+counted_on file c (Ok (Relocatable reserves number offset from size)) next lent own names addresses f h = counted_same c _ names addresses refl h
+counted_on file c (Ok (Update source from)) next lent own names addresses f h = counted_same c _ names addresses refl h
+counted_on file c (Ok (NewName from address)) next lent own names addresses f h =
     let l = f.lies in
     let e : length (part file from 8) ≡ 8 = length_part file from 8 l.1 in
     record {
@@ -68,6 +71,7 @@ counted_on file c (NewName from address) next lent own names addresses f h =
       each = length-append addresses (address ∷ []) ∙ omega (arith, h.each);
       few = omega (arith, l.2);
     }
+counted_on file c (Err e) next lent own names addresses f h = counted_same c _ names addresses refl h
 
 -- ---- the table
 
@@ -98,14 +102,16 @@ tabled_first low = record { slots = refl; packed = record { packed = λ n s e. a
     empty (suc k) (suc n) s e = empty k n s e
 
 -- after a block it holds with the slot that the block takes, if any
-pub tabled_on : (c : Cursor) (b : Block) (next len lent own : ℕ) → Fits len c lent own b → Tabled c → Tabled (advanced c b next)
-tabled_on c (Plain address from size) next len lent own f h = record { slots = h.slots; packed = h.packed; few = h.few }
-tabled_on c (Relocatable reserves number offset from size) next len lent own f h =
+pub tabled_on : (c : Cursor) (found : Result Block Failure) (next len lent own : ℕ) → IfOk found (Fits len c lent own) → Tabled c
+    → Tabled (advanced c found next)
+tabled_on c (Ok (Plain address from size)) next len lent own f h = record { slots = h.slots; packed = h.packed; few = h.few }
+tabled_on c (Ok (Relocatable reserves number offset from size)) next len lent own f h =
     let l = f.lies in
     record {
       slots = length-set c.table number _ ∙ h.slots;
       packed = packed_set c.table number _ (rw h.slots l.3) l.2 h.packed;
       few = omega (arith, l.4);
     }
-tabled_on c (Update source from) next len lent own f h = record { slots = h.slots; packed = h.packed; few = h.few }
-tabled_on c (NewName from address) next len lent own f h = record { slots = h.slots; packed = h.packed; few = h.few }
+tabled_on c (Ok (Update source from)) next len lent own f h = record { slots = h.slots; packed = h.packed; few = h.few }
+tabled_on c (Ok (NewName from address)) next len lent own f h = record { slots = h.slots; packed = h.packed; few = h.few }
+tabled_on c (Err e) next len lent own f h = h

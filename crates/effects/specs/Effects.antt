@@ -1,13 +1,15 @@
--- One block of an SDX file carried out: what it does, where it ends, the cursor after it, and the name that it brings.
+-- What was read of an SDX file, a block or the fault for which it is none, carried out: what it does, where it ends, the cursor after it, and the name
+-- that it brings.
 -- Assumes nothing.
-use Rattle.std.specs.Prelude.{Bool, true, false, List, [], ◌∷◌, ℕ, ◌+◌, set, replicate, Some, None}
+use Rattle.std.specs.Prelude.{Bool, true, false, List, [], ◌∷◌, ℕ, ◌+◌, set, replicate, Some, None, Result, Ok, Err}
+use Rattle.answer.specs.declared.Failure.{Failure}
 use Rattle.blocks.specs.Blocks.{data_size, amount_of}
 use Rattle.blocks.specs.declared.Block.{Block}
 use Rattle.blocks.specs.declared.Block.TheVariants.{Plain, Relocatable, Update, NewName}
 use Rattle.blocks.specs.declared.Cursor.{Cursor}
 use Rattle.events.specs.Events.{Event, place, reserve, Ran}
 use Rattle.names.specs.Names.{name_size}
-use Rattle.updates.specs.Bodies.{Stop, done, body}
+use Rattle.updates.specs.Bodies.{Stop, broken, done, body}
 use Rattle.words.specs.Runs.{part}
 
 -- "Placed there."
@@ -19,12 +21,14 @@ abbrev pub placing_relocatable : Bool → List ℕ → ℕ → ℕ → ℕ → R
 placing_relocatable true file low from size = record { answer = done from; events = reserve low size ∷ [] }
 placing_relocatable false file low from size = placing file low from size
 
--- what a block does, with the lent addresses and those of the file's own names, over the map as the blocks before it left it; and where it ends
-abbrev pub applied : List ℕ → List ℕ → List ℕ → Cursor → Block → List ℕ → Ran Stop
-applied file lent own c (Plain address from size) map = placing file address from size
-applied file lent own c (Relocatable reserves number offset from size) map = placing_relocatable reserves file c.low from size
-applied file lent own c (Update source from) map = body file c.table (amount_of c.table lent own source) from map
-applied file lent own c (NewName from address) map = record { answer = done (from + name_size); events = [] }
+-- what a block does, with the lent addresses and those of the file's own names, over the map as the blocks before it left it; and where it ends. What
+-- is no block is refused with its fault.
+abbrev pub applied : List ℕ → List ℕ → List ℕ → Cursor → Result Block Failure → List ℕ → Ran Stop
+applied file lent own c (Ok (Plain address from size)) map = placing file address from size
+applied file lent own c (Ok (Relocatable reserves number offset from size)) map = placing_relocatable reserves file c.low from size
+applied file lent own c (Ok (Update source from)) map = body file c.table (amount_of c.table lent own source) from map
+applied file lent own c (Ok (NewName from address)) map = record { answer = done (from + name_size); events = [] }
+applied file lent own c (Err e) map = record { answer = broken e.fault e.offset; events = [] }
 
 -- what a block did: where it begins, what it says (a body with what its words grow by: a block, a lent name, a name of the file), its events
 pub record Effect : Type 0 where
@@ -51,30 +55,34 @@ with_block c number offset size next =
       table = set c.table number (Some (record { address = c.low; offset = offset; size = size }));
     }
 
--- the cursor after a block that ends at an offset
-abbrev pub advanced : Cursor → Block → ℕ → Cursor
-advanced c (Plain address from size) next = moved_on c next c.named
-advanced c (Relocatable reserves number offset from size) next = with_block c number offset size next
-advanced c (Update source from) next = moved_on c next c.named
-advanced c (NewName from address) next = moved_on c next (c.named + 1)
+-- the cursor after a block that ends at an offset; as it was, after what is no block
+abbrev pub advanced : Cursor → Result Block Failure → ℕ → Cursor
+advanced c (Ok (Plain address from size)) next = moved_on c next c.named
+advanced c (Ok (Relocatable reserves number offset from size)) next = with_block c number offset size next
+advanced c (Ok (Update source from)) next = moved_on c next c.named
+advanced c (Ok (NewName from address)) next = moved_on c next (c.named + 1)
+advanced c (Err e) next = c
 
 -- the name that a block brings
-abbrev pub name_in : List ℕ → Block → List ℕ
-name_in file (Plain address from size) = []
-name_in file (Relocatable reserves number offset from size) = []
-name_in file (Update source from) = []
-name_in file (NewName from address) = part file from name_size
+abbrev pub name_in : List ℕ → Result Block Failure → List ℕ
+name_in file (Ok (Plain address from size)) = []
+name_in file (Ok (Relocatable reserves number offset from size)) = []
+name_in file (Ok (Update source from)) = []
+name_in file (Ok (NewName from address)) = part file from name_size
+name_in file (Err e) = []
 
 -- and the address of that name
-abbrev pub address_in : Block → List ℕ
-address_in (Plain address from size) = []
-address_in (Relocatable reserves number offset from size) = []
-address_in (Update source from) = []
-address_in (NewName from address) = address ∷ []
+abbrev pub address_in : Result Block Failure → List ℕ
+address_in (Ok (Plain address from size)) = []
+address_in (Ok (Relocatable reserves number offset from size)) = []
+address_in (Ok (Update source from)) = []
+address_in (Ok (NewName from address)) = address ∷ []
+address_in (Err e) = []
 
 -- the bytes that a block places
-abbrev pub placed_by : Block → ℕ
-placed_by (Plain address from size) = size
-placed_by (Relocatable reserves number offset from size) = data_size reserves size
-placed_by (Update source from) = 0
-placed_by (NewName from address) = 0
+abbrev pub placed_by : Result Block Failure → ℕ
+placed_by (Ok (Plain address from size)) = size
+placed_by (Ok (Relocatable reserves number offset from size)) = data_size reserves size
+placed_by (Ok (Update source from)) = 0
+placed_by (Ok (NewName from address)) = 0
+placed_by (Err e) = 0

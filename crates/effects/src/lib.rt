@@ -1,7 +1,8 @@
-// One block of an SDX file carried out: data placed, room reserved, words adjusted, a new name stored; and the cursor after it.
+// What was read of an SDX file, a block or the fault for which it is none, carried out: data placed, room reserved, words adjusted, a new name stored;
+// and the cursor after it.
 #![tactic(auto)]
 
-ghost use Rattle.std.specs.Prelude.{◌≡◌, ◌+◌, ◌<◌, ◌≤◌, length};
+ghost use Rattle.std.specs.Prelude.{◌≡◌, ◌+◌, ◌<◌, ◌≤◌, length, IfOk};
 ghost use Rattle.blocks.specs.Blocks.{data_size};
 ghost use Rattle.blocks.specs.Bounds.{InMemory, Fits};
 ghost use Rattle.events.specs.Events.{Did};
@@ -34,11 +35,11 @@ pub fn first_cursor(low: u16) -> Cursor
     }
 }
 
-// Applies a block: carries it out in the map and, where `write` is true, in memory.
+// Applies a block: carries it out in the map and, where `write` is true, in memory. A fault is handed on.
 #[tactic(auto, unfolding(events::specs::Events::adjusted_in, events::specs::Events::play, events::specs::Events::marks))]
 pub fn apply(
     file: &File,
-    found: Block,
+    found: Result<Block, Failure>,
     cursor: Cursor,
     lent: &[u16],
     own: &[u16],
@@ -46,12 +47,12 @@ pub fn apply(
     memory: &mut Buffer,
     map: &mut Buffer,
 ) -> Result<Done, Failure>
-    requires { InMemory found × Fits (length file.now) cursor (length lent.now) (length own.now) found }
+    requires { IfOk found InMemory × IfOk found (Fits (length file.now) cursor (length lent.now) (length own.now)) }
     ensures { Did Ended (ended (applied file.now lent.now own.now cursor found map.old)) write memory.old map.old result memory.new map.new }
 {
     // The file is limited, and so is the offset behind what is read of it.
     prove!(file.len() <= events::FILE);
-    match found {
+    match found? {
         Block::Plain {
             address,
             from,
@@ -75,10 +76,10 @@ pub fn apply(
 }
 
 // Stores the name that a block brings, behind those before it.
-#[tactic(auto, using(words::proofs::Runs::length_part))]
+#[tactic(auto, using(crate::proofs::Applying::stored_name, words::proofs::Lent::lent_is), unfolding(words::specs::Runs::put))]
 pub fn store_name(
-    file: &File,
-    found: Block,
+    file: &[u8],
+    found: Result<Block, Failure>,
     named: usize,
     new_names: &mut [u8; NAMES],
     new_addresses: &mut [u16; ADDRESSES],
@@ -86,39 +87,42 @@ pub fn store_name(
     requires { NameFits (length file.now) named found }
     ensures { NameStored file.now found named new_names.old new_addresses.old new_names.new new_addresses.new }
 {
-    if let Block::NewName { from, address } = found {
+    if let Ok(Block::NewName { from, address }) = found {
         let start = names::NAME * named;
         let stop = start + names::NAME;
-        words::copy(&mut new_names[start..stop], file.part(from, names::NAME));
+        words::copy(&mut new_names[start..stop], &file[from..from + names::NAME]);
         new_addresses[named] = address;
     }
 }
 
 // The bytes that a block places.
-pub fn placed_by(found: Block) -> usize
+pub fn placed_by(found: Result<Block, Failure>) -> usize
     ensures { result ≡ placed_by found }
 {
     match found {
-        Block::Plain { size, .. } => size,
-        Block::Relocatable { reserves, size, .. } => blocks::data_size(reserves, size),
-        Block::Update { .. } | Block::NewName { .. } => 0,
+        Ok(Block::Plain { size, .. }) => size,
+        Ok(Block::Relocatable { reserves, size, .. }) => blocks::data_size(reserves, size),
+        Ok(Block::Update { .. } | Block::NewName { .. }) | Err(_) => 0,
     }
 }
 
-// The cursor after a block that ends at `next`.
-pub fn advance(cursor: Cursor, found: Block, next: usize) -> Cursor
+// The cursor after a block that ends at `next`; as it was, after what is no block.
+pub fn advance(cursor: Cursor, found: Result<Block, Failure>, next: usize) -> Cursor
     requires { (cursor.count ≤ 65536) × (cursor.named ≤ 65536) × RoomFits cursor.low found }
     ensures { result ≡ advanced cursor found next }
 {
     match found {
-        Block::Plain { .. } | Block::Update { .. } => pass(cursor, next, cursor.named),
-        Block::Relocatable {
-            number,
-            offset,
-            size,
-            ..
-        } => add_block(cursor, number, offset, size, next),
-        Block::NewName { .. } => pass(cursor, next, cursor.named + 1),
+        Ok(Block::Plain { .. } | Block::Update { .. }) => pass(cursor, next, cursor.named),
+        Ok(
+            Block::Relocatable {
+                number,
+                offset,
+                size,
+                ..
+            },
+        ) => add_block(cursor, number, offset, size, next),
+        Ok(Block::NewName { .. }) => pass(cursor, next, cursor.named + 1),
+        Err(_) => cursor,
     }
 }
 

@@ -38,7 +38,7 @@ judge_faults len file z b es (done next) h = tt
 carried_faults : (file : List ℕ) (g : Inputs) (z : Progress) (read : Result Block Failure) (map : List ℕ) → BlockFaults (length file) read
     → Ending (Verdicts (length file)) (carried file g z read map).answer
 carried_faults file g z (Err e) map h = record { faults = h }
-carried_faults file g z (Ok found) map h = judge_faults (length file) file z found _ (applied_at file g z found map).answer (block_faults file g z found map).faults
+carried_faults file g z (Ok found) map h = judge_faults (length file) file z found _ (applied_at file g z (Ok found) map).answer (block_faults file g z (Ok found) map h).faults
 
 -- so every turn, and all blocks
 turn_faults : (file : List ℕ) (g : Inputs) → g.high ≤ 65535 → (z : Progress) (map : List ℕ) → Ending (Verdicts (length file)) (turn file g z map).answer

@@ -7,11 +7,13 @@ use Prim.Native.Nat.{ℕ, ◌+◌, ◌-◌, ◌*◌, ◌/◌, ◌≤◌, ◌<◌
 use native.Mathlib.Omega.{arith}
 use borrow.Rule.Slice.PartMut.{mid_of}
 use lib.ListN.{length}
+use lib.Seq.{take-length}
 use Rattle.std.proofs.Common.{Result, Ok, Err}
-use Rattle.answer.proofs.Faults.{OfFile, of_file_located}
+use Rattle.std.proofs.lemmas.Result.{IfOk-at_ok}
+use Rattle.std.specs.Prelude.{IfOk}
 use Rattle.answer.specs.declared.Failure.{Failure}
 use Rattle.answer.specs.declared.Fault.TheVariants.{CutShort}
-use Rattle.blocks.proofs.Lying.{BlockFaults}
+use Rattle.blocks.proofs.Lying.{BlockFaults, read_lies}
 use Rattle.blocks.specs.Blocks.{read}
 use Rattle.blocks.specs.Bounds.{Fits}
 use Rattle.blocks.specs.declared.Block.{Block}
@@ -24,16 +26,21 @@ use Rattle.updates.proofs.Faults.{stop_within}
 use Rattle.updates.specs.Bodies.{Stop, broken, done, Ended, ended}
 use Rattle.updates.specs.declared.Done.{Done}
 use Rattle.words.proofs.Runs.{front_holds}
-use Rattle.words.specs.Runs.{put}
+use Rattle.words.specs.Runs.{part, put}
 use Rattle.effects.proofs.Ending.{Ends, applied_ends, advanced_at, Behind, behind_first, behind_on, placed_by_lem, stop_broken, stop_done}
 use Rattle.effects.proofs.NewNames.{front_is, behind, Counted, counted_first, counted_on, Tabled, tabled_first, tabled_on}
 use Rattle.effects.specs.Effects.{Effect, placed_by, applied, advanced, name_in, address_in, first_cursor}
 use Rattle.effects.specs.Parts.{NameFits, RoomFits, NameStored}
-use Rattle.passes.proofs.Turning.{turn_end, turn_block, block_fits, read_faulty, block_faults, turn_falls}
+use Rattle.passes.proofs.Turning.{turn_end, turn_block, carried_broken, behind_read, LeadsOn, carried_done, read_faulty, block_faults, turn_falls}
 use Rattle.passes.specs.Parts.{totals, WalkEnd, Bounded, Walked}
 use Rattle.passes.specs.Buffers.{Buffers, buffers}
-use Rattle.passes.specs.Walk.{stepped, Inputs, Progress, Verdict, finished, refused, judge, block_at, applied_at, carried, turn, blocks_from, begun, blocks_of}
+use Rattle.passes.specs.Walk.{Inputs, Progress, Verdict, finished, refused, block_at, applied_at, carried, turn, blocks_from, begun, blocks_of}
 use Rattle.passes.specs.declared.Totals.{Totals}
+
+-- a file from its front to its end
+pub whole : {file bytes : List ℕ} {end : ℕ} → bytes ≡ part file 0 end → end ≡ length file → bytes ≡ file
+unfolding part
+whole {file} e f = e ∙ ap (λ (n : ℕ). part file 0 n) f ∙ take-length file
 
 eighth : {n k : ℕ} → n ≡ 8 * k → n / 8 ≡ k
 eighth e = omega (arith, e)
@@ -195,23 +202,18 @@ module _ {file : List ℕ} {g : Inputs} {write : Bool} {b : Buffers} where
     read_is : {r : Result Block Failure} → r ≡ read file g.high g.names (mid_of 0 (8 * c.named - 0) b'.names) c → block_at file g here ≡ r
     read_is e = sym (e ∙ ap (λ (l : List ℕ). read file g.high g.names l c) own_names)
 
-    -- what is no block ends the walk with its fault
-    pub going_unread : {e : Failure} → (c.at ≡ length file → ⊥) → Err e ≡ read file g.high g.names (mid_of 0 (8 * c.named - 0) b'.names) c
-        → Walked (blocks_of file g) write b (Err e) b'
-    going_unread {e} more as_read =
-        let i = read_is as_read in
-        let w : OfFile (length file) e.fault e.offset = subst (λ (r : Result Block Failure). BlockFaults (length file) r) i (read_faulty file g x.lent.top here) in
-        let t = turn_block file g here (marks x.events blank) more
-        ∙ ap (λ (r : Result Block Failure). carried file g here r (marks x.events blank)) i in
-        let reached : Reached (x.events ++ []) write b.memory blank b'.memory b'.map = rw (append-nil x.events) x.reached in
-        stops_with t reached (of_file_located w).within
+    module _ {found : Result Block Failure} (as_read : found ≡ read file g.high g.names (mid_of 0 (8 * c.named - 0) b'.names) c) where
+      abbrev Fit : Block → Type 0
+      Fit = Fits (length file) c (length g.names / 8) (length x.names / 8)
 
-    module _ {found : Block} (as_read : Ok found ≡ read file g.high g.names (mid_of 0 (8 * c.named - 0) b'.names) c) where
-      fits : Fits (length file) c (length g.names / 8) (length x.names / 8) found
-      fits = block_fits file g x.lent.top here (read_is as_read)
+      fits : IfOk found Fit
+      fits = subst (λ (r : Result Block Failure). IfOk r Fit) (read_is as_read) (read_lies file g.high g.names x.names c x.lent.top)
+
+      faulty : BlockFaults (length file) found
+      faulty = subst (λ (r : Result Block Failure). BlockFaults (length file) r) (read_is as_read) (read_faulty file g x.lent.top here)
 
       -- a block lies where the parts of the program need it
-      pub found_fits : Fits (length file) c (length g.addresses) (length (mid_of 0 (c.named - 0) b'.addresses)) found
+      pub found_fits : IfOk found (Fits (length file) c (length g.addresses) (length (mid_of 0 (c.named - 0) b'.addresses)))
       found_fits =
           let lent : length g.names / 8 ≡ length g.addresses = omega (arith, x.lent.known) in
           let own : length x.names / 8 ≡ length (mid_of 0 (c.named - 0) b'.addresses) =
@@ -219,12 +221,12 @@ module _ {file : List ℕ} {g : Inputs} {write : Bool} {b : Buffers} where
           rw (← lent, ← own) fits
 
       pub name_fits : NameFits (length file) c.named found
-      name_fits = record { ends = λ from address e. let l = rw e at fits.lies in (l.1, l.2) }
+      name_fits = record { ends = λ from address e. let l = (IfOk-at_ok Fit e fits).lies in (l.1, l.2) }
 
       pub room_fits : RoomFits c.low found
-      room_fits = record { ends = λ reserves number offset from size e. let l = rw e at fits.lies in (l.2, l.3) }
+      room_fits = record { ends = λ reserves number offset from size e. let l = (IfOk-at_ok Fit e fits).lies in (l.2, l.3) }
 
-      -- and so is what it does
+      -- and so is what it comes to
       module _ (more : c.at ≡ length file → ⊥) {r : Ended} {m p : List ℕ}
           (did : Did Ended (ended (applied file g.addresses (mid_of 0 (c.named - 0) b'.addresses) c found b'.map)) write
           b'.memory b'.map r m p) where
@@ -240,7 +242,7 @@ module _ {file : List ℕ} {g : Inputs} {write : Bool} {b : Buffers} where
         did_is : Did Ended (ended o) write b'.memory b'.map r m p
         did_is = subst (λ (q : Ran Stop). Did Ended (ended q) write b'.memory b'.map r m p) applied_is did
 
-        turn_is : turn file g here (marks x.events blank) ≡ record { answer = judge file here found o.events o.answer; events = o.events }
+        turn_is : turn file g here (marks x.events blank) ≡ carried file g here found (marks x.events blank)
         turn_is =
             turn_block file g here (marks x.events blank) more
             ∙ ap (λ (q : Result Block Failure). carried file g here q (marks x.events blank)) (read_is as_read)
@@ -252,17 +254,19 @@ module _ {file : List ℕ} {g : Inputs} {write : Bool} {b : Buffers} where
         pub going_stops : {e : Failure} → r ≡ Err e → Walked (blocks_of file g) write b (Err e) (buffers m p b'.names b'.addresses)
         going_stops {e} i =
             let k : o.answer ≡ broken e.fault e.offset = stop_broken o.answer o.events e.fault e.offset (sym did_is.answer ∙ i) in
-            let t : turn file g here (marks x.events blank) ≡ record { answer = ends (refused e.fault e.offset here); events = o.events } =
-            turn_is ∙ ap (λ (s : Stop). record { answer = judge file here found o.events s; events = o.events }) k in
-            stops_with t reached_then (stop_within (block_faults file g here found (marks x.events blank)) k)
+            let t = turn_is ∙ carried_broken file g here (marks x.events blank) found e.fault e.offset k in
+            stops_with t reached_then (stop_within (block_faults file g here found (marks x.events blank) faulty) k)
 
         -- else the loop goes on behind the block
         module _ {d : Done} (e : r ≡ Ok d) where
-          abbrev then : Progress
-          then = stepped file here found o.events d.next
-
           stopped : (o.answer ≡ done d.next) × (adjusted_in o.events ≡ d.adjusted)
           stopped = stop_done o.answer o.events d.next d.adjusted (sym did_is.answer ∙ e)
+
+          leads_on : LeadsOn file g here (marks x.events blank) found d.next
+          leads_on = carried_done file g here (marks x.events blank) found d.next stopped.0
+
+          abbrev then : Progress
+          then = behind_read file g here (marks x.events blank) found leads_on.block d.next
 
           ends_there : Ends (length file) c.at d.next o.events
           unfolding applied_at
@@ -272,9 +276,7 @@ module _ {file : List ℕ} {g : Inputs} {write : Bool} {b : Buffers} where
               ≡ after (x.events ++ o.events) (blocks_from file g then (marks (x.events ++ o.events) blank))
           unfolding blocks_from
           so_far_then =
-              let t : turn file g here (marks x.events blank) ≡ record { answer = leads then; events = o.events } =
-              turn_is
-              ∙ ap (λ (s : Stop). record { answer = judge file here found o.events s; events = o.events }) stopped.0 in
+              let t : turn file g here (marks x.events blank) ≡ record { answer = leads then; events = o.events } = turn_is ∙ leads_on.on in
               walk_goes_on (turn file g) (λ y. refused CutShort (length file) y) (λ y. bytes_left file y.cursor.at) (turn_falls file g x.lent.top) (blocks_of file g) x.events here blank
               x.so_far then (ap (λ (q : Ran (Turn Progress Verdict)). q.answer) t)
               ∙ ap
@@ -309,7 +311,7 @@ module _ {file : List ℕ} {g : Inputs} {write : Bool} {b : Buffers} where
                 events = x.events ++ o.events;
                 names = x.names ++ name_in file found;
                 addresses = x.addresses ++ address_in found;
-                effects = record { at = c.at; block = found; events = o.events } ∷ x.effects;
+                effects = record { at = c.at; block = leads_on.block; events = o.events } ∷ x.effects;
                 so_far = so_far_then;
                 reached = reached_then;
                 placed_is = omega (arith, x.placed_is, placed_then, placed_append x.events o.events);

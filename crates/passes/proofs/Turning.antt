@@ -1,7 +1,7 @@
 -- One turn of a walk: what it comes to where it leads on or finishes, and that what every such turn keeps holds of every file that finishes.
 -- Assumes nothing.
 use mathlib.Core.Bool.{Bool, true, false}
-use mathlib.Core.List.{List, [], ◌++◌, append-nil}
+use mathlib.Core.List.{List, [], ◌∷◌, ◌++◌, append-nil}
 use mathlib.Core.Path.{◌≡◌, refl, sym, ap, ◌∙◌}
 use Prim.Native.Nat.{ℕ, ◌/◌, ◌≤◌, ◌<◌}
 use native.Mathlib.Omega.{arith}
@@ -22,8 +22,10 @@ use Rattle.events.specs.Events.{Event, marks, blank, Ran}
 use Rattle.events.specs.Walk.{Turn, ends, leads, bytes_left}
 use Rattle.updates.specs.Bodies.{Stop, broken, done}
 use Rattle.updates.proofs.Faults.{Stops}
+use Rattle.updates.proofs.Turning.{broken_done}
 use Rattle.effects.proofs.Ending.{Ends, applied_ends, advanced_at}
 use Rattle.effects.proofs.Faults.{applied_faults}
+use Rattle.effects.specs.Effects.{advanced, name_in, address_in}
 use Rattle.passes.specs.Parts.{progress_of}
 use Rattle.passes.specs.Walk.{Inputs, Progress, Verdict, finished, refused, judge, block_at, applied_at, carried, turn, blocks_from, begun, blocks_of, stepped}
 
@@ -39,9 +41,9 @@ pub record Led (file : List ℕ) (g : Inputs) (y z : Progress) (map : List ℕ) 
   pub read_as : block_at file g y ≡ Ok found
   pub next : ℕ
   pub more : y.cursor.at ≡ length file → ⊥
-  pub done_at : (applied_at file g y found map).answer ≡ done next
-  pub leads_to : stepped file y found (applied_at file g y found map).events next ≡ z
-  pub events : (turn file g y map).events ≡ (applied_at file g y found map).events
+  pub done_at : (applied_at file g y (Ok found) map).answer ≡ done next
+  pub leads_to : stepped file y found (applied_at file g y (Ok found) map).events next ≡ z
+  pub events : (turn file g y map).events ≡ (applied_at file g y (Ok found) map).events
 
 -- one that finishes a file is at its end
 pub record Finishes (file : List ℕ) (g : Inputs) (y z : Progress) (map : List ℕ) : Type 0 where
@@ -52,7 +54,7 @@ pub record Finishes (file : List ℕ) (g : Inputs) (y z : Progress) (map : List 
 -- what was read breaks a rule with this fault: it is no block, or its body does
 abbrev pub Broke : List ℕ → Inputs → Progress → List ℕ → Fault → ℕ → Result Block Failure → Type 0
 Broke file g y map fault offset (Err e) = (e.fault ≡ fault) × (e.offset ≡ offset)
-Broke file g y map fault offset (Ok found) = (applied_at file g y found map).answer ≡ broken fault offset
+Broke file g y map fault offset (Ok found) = (applied_at file g y (Ok found) map).answer ≡ broken fault offset
 
 -- and one that refuses it breaks a rule
 pub record Refuses (file : List ℕ) (g : Inputs) (y z : Progress) (map : List ℕ) (fault : Fault) (offset : ℕ) : Type 0 where
@@ -71,13 +73,47 @@ module _ (file : List ℕ) (g : Inputs) (y : Progress) (map : List ℕ) where
   unfolding turn pick
   turn_block h = rw (ne_eqb _ _ h) refl
 
+  -- what was read ends a walk where it breaks a rule
+  pub carried_broken : (found : Result Block Failure) (fault : Fault) (offset : ℕ) → (applied_at file g y found map).answer ≡ broken fault offset
+      → carried file g y found map ≡ record { answer = ends (refused fault offset y); events = (applied_at file g y found map).events }
+  unfolding applied_at
+  carried_broken (Ok found) fault offset e =
+      let o = applied_at file g y (Ok found) map in
+      ap (λ (s : Stop). record { answer = judge file y found o.events s; events = o.events }) e
+  carried_broken (Err f) fault offset e =
+      let k : f.fault ≡ fault = cc in
+      let i : f.offset ≡ offset = cc in
+      rw (k, i) refl
+
+  -- the progress behind what was read, where that is a block
+  abbrev pub behind_read : Result Block Failure → Block → ℕ → Progress
+  behind_read found block next =
+      record {
+        cursor = advanced y.cursor found next;
+        names = y.names ++ name_in file found;
+        addresses = y.addresses ++ address_in found;
+        effects = record { at = y.cursor.at; block = block; events = (applied_at file g y found map).events } ∷ y.effects;
+      }
+
+  -- it is one, and leads a walk on, where it is done
+  pub record LeadsOn (found : Result Block Failure) (next : ℕ) : Type 0 where
+    pub block : Block
+    pub on : carried file g y found map ≡ record { answer = leads (behind_read found block next); events = (applied_at file g y found map).events }
+
+  pub carried_done : (found : Result Block Failure) (next : ℕ) → (applied_at file g y found map).answer ≡ done next → LeadsOn found next
+  unfolding applied_at
+  carried_done (Ok found) next e =
+      let o = applied_at file g y (Ok found) map in
+      record { block = found; on = ap (λ (s : Stop). record { answer = judge file y found o.events s; events = o.events }) e }
+  carried_done (Err f) next e = absurd (broken_done e)
+
   -- every turn that leads on is such a block
   pub turn_led : (z : Progress) → (turn file g y map).answer ≡ leads z → Led file g y z map
   turn_led z e = by (eqb y.cursor.at (length file)) refl
     where
-      stops : (found : Block) → block_at file g y ≡ Ok found → (s : Stop) → (applied_at file g y found map).answer ≡ s
+      stops : (found : Block) → block_at file g y ≡ Ok found → (s : Stop) → (applied_at file g y (Ok found) map).answer ≡ s
           → (y.cursor.at ≡ length file → ⊥)
-          → judge file y found (applied_at file g y found map).events s ≡ leads z
+          → judge file y found (applied_at file g y (Ok found) map).events s ≡ leads z
           → Led file g y z map
       stops found i (broken fault offset) o h f = absurd (ends_leads f)
       stops found i (done next) o h f =
@@ -95,7 +131,7 @@ module _ (file : List ℕ) (g : Inputs) (y : Progress) (map : List ℕ) where
       reads : (r : Result Block Failure) → block_at file g y ≡ r → (y.cursor.at ≡ length file → ⊥) → (carried file g y r map).answer ≡ leads z
           → Led file g y z map
       reads (Err f) i h k = absurd (ends_leads k)
-      reads (Ok found) i h k = stops found i (applied_at file g y found map).answer refl h k
+      reads (Ok found) i h k = stops found i (applied_at file g y (Ok found) map).answer refl h k
 
       by : (b : Bool) → eqb y.cursor.at (length file) ≡ b → Led file g y z map
       by true h =
@@ -115,7 +151,7 @@ module _ (file : List ℕ) (g : Inputs) (y : Progress) (map : List ℕ) where
 
       reads : (r : Result Block Failure) → (carried file g y r map).answer ≡ ends (finished z) → ⊥
       reads (Err f) k = refused_finished (ends_same k)
-      reads (Ok found) k = stops found _ (applied_at file g y found map).answer k
+      reads (Ok found) k = stops found _ (applied_at file g y (Ok found) map).answer k
 
       by : (t : Bool) → eqb y.cursor.at (length file) ≡ t → Finishes file g y z map
       by true h =
@@ -140,9 +176,9 @@ module _ (file : List ℕ) (g : Inputs) (y : Progress) (map : List ℕ) where
           → Refuses file g y z map fault offset
       refuses r i h b e = record { more = h; broke = rw i b; state = e }
 
-      stops : (found : Block) → block_at file g y ≡ Ok found → (s : Stop) → (applied_at file g y found map).answer ≡ s
+      stops : (found : Block) → block_at file g y ≡ Ok found → (s : Stop) → (applied_at file g y (Ok found) map).answer ≡ s
           → (y.cursor.at ≡ length file → ⊥)
-          → judge file y found (applied_at file g y found map).events s ≡ ends (refused fault offset z)
+          → judge file y found (applied_at file g y (Ok found) map).events s ≡ ends (refused fault offset z)
           → Refuses file g y z map fault offset
       stops found j (broken f i) o h w =
           let v : refused f i y ≡ refused fault offset z = ends_same w in
@@ -158,7 +194,7 @@ module _ (file : List ℕ) (g : Inputs) (y : Progress) (map : List ℕ) where
           let k : f.fault ≡ fault = cc in
           let i : f.offset ≡ offset = cc in
           refuses (Err f) j h (k, i) cc
-      reads (Ok found) j h w = stops found j (applied_at file g y found map).answer refl h w
+      reads (Ok found) j h w = stops found j (applied_at file g y (Ok found) map).answer refl h w
 
       by : (t : Bool) → eqb y.cursor.at (length file) ≡ t → Refuses file g y z map fault offset
       by true h =
@@ -169,10 +205,11 @@ module _ (file : List ℕ) (g : Inputs) (y : Progress) (map : List ℕ) where
           reads (block_at file g y) refl more
           (sym (ap (λ (r : Ran (Turn Progress Verdict)). r.answer) (turn_block more)) ∙ e)
 
--- where a block that is carried out breaks a rule, the fault is one of the file
-pub block_faults : (file : List ℕ) (g : Inputs) (y : Progress) (found : Block) (map : List ℕ) → Stops (length file) (applied_at file g y found map).answer
+-- where what was read breaks a rule, the fault is one of the file
+pub block_faults : (file : List ℕ) (g : Inputs) (y : Progress) (found : Result Block Failure) (map : List ℕ) → BlockFaults (length file) found
+    → Stops (length file) (applied_at file g y found map).answer
 unfolding applied_at
-block_faults file g y found map = applied_faults file g.addresses y.addresses y.cursor found map
+block_faults file g y found map h = applied_faults file g.addresses y.addresses y.cursor found map h
 
 -- where blocks lie and end, with high below 65,536
 module _ (file : List ℕ) (g : Inputs) (top : g.high ≤ 65535) where
@@ -191,9 +228,9 @@ module _ (file : List ℕ) (g : Inputs) (top : g.high ≤ 65535) where
   unfolding applied_at
   led_ends y z map e =
       let l = turn_led file g y map z e in
-      let f = applied_ends file g.addresses y.addresses y.cursor l.found map _ _ (block_fits y l.read_as) l.next l.done_at in
+      let f = applied_ends file g.addresses y.addresses y.cursor (Ok l.found) map _ _ (block_fits y l.read_as) l.next l.done_at in
       let a = ap (λ (p : Progress). p.cursor.at) (sym l.leads_to)
-      ∙ advanced_at file g.addresses y.addresses y.cursor l.found map l.next l.done_at in
+      ∙ advanced_at file g.addresses y.addresses y.cursor (Ok l.found) map l.next l.done_at in
       rw (a, l.events) f
 
   -- so fewer bytes are left after it

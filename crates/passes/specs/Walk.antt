@@ -40,9 +40,9 @@ pub data Verdict : Type 0 where
 abbrev pub stepped : List ℕ → Progress → Block → List Event → ℕ → Progress
 stepped file z found es next =
     record {
-      cursor = advanced z.cursor found next;
-      names = z.names ++ name_in file found;
-      addresses = z.addresses ++ address_in found;
+      cursor = advanced z.cursor (Ok found) next;
+      names = z.names ++ name_in file (Ok found);
+      addresses = z.addresses ++ address_in (Ok found);
       effects = record { at = z.cursor.at; block = found; events = es } ∷ z.effects;
     }
 
@@ -55,15 +55,15 @@ judge file z found es (done next) = leads (stepped file z found es next)
 abbrev pub block_at : List ℕ → Inputs → Progress → Result Block Failure
 block_at file g z = read file g.high g.names z.names z.cursor
 
--- what a block comes to
-unfoldable pub applied_at : List ℕ → Inputs → Progress → Block → List ℕ → Ran Stop
+-- what was read, carried out
+unfoldable pub applied_at : List ℕ → Inputs → Progress → Result Block Failure → List ℕ → Ran Stop
 applied_at file g z found map = applied file g.addresses z.addresses z.cursor found map
 
--- what was read carried out, and where that leads
+-- and where that leads
 abbrev pub carried : List ℕ → Inputs → Progress → Result Block Failure → List ℕ → Ran (Turn Progress Verdict)
 carried file g z (Err e) map = record { answer = ends (refused e.fault e.offset z); events = [] }
 carried file g z (Ok found) map =
-    let o = applied_at file g z found map in
+    let o = applied_at file g z (Ok found) map in
     record { answer = judge file z found o.events o.answer; events = o.events }
 
 -- one turn: the file's end, or the next block

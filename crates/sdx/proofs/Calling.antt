@@ -189,7 +189,7 @@ at_once_carried file g e f clear = rw e (record { outcome = f; memory = refl; ma
 
 module _ (file : List ℕ) (g : Inputs) where
   -- some length is wrong: 1, and nothing is changed
-  loaded_wrong : (right : Bool) (b : Buffers) (r : Outcome) → right ≡ false → r ≡ refusal WrongBuffer 0 0 → Loaded file g right b r b
+  pub loaded_wrong : (right : Bool) (b : Buffers) (r : Outcome) → right ≡ false → r ≡ refusal WrongBuffer 0 0 → Loaded file g right b r b
   unfolding call need pick
   loaded_wrong right b r h e =
       record {

@@ -8,7 +8,7 @@ use Prim.Native.Nat.{ℕ, ◌/◌, ◌≤◌, ◌<◌}
 use native.Mathlib.Omega.{arith}
 use lib.ListN.{length, get_or, set, length-append, get_or-append}
 use lib.Seq.{get_or-set_same, get_or-set_other}
-use Rattle.std.proofs.Common.{Option, Some, None, is_some, is_none}
+use Rattle.std.proofs.Common.{Option, Some, None, is_some, is_none, Ok}
 use Rattle.std.proofs.lemmas.Result.{IfOk-at_ok}
 use Rattle.blocks.specs.Blocks.{amount_of}
 use Rattle.blocks.specs.Bounds.{Fits}
@@ -107,7 +107,7 @@ set_slots table number s f n h =
 
 -- so does every block
 advanced_slots : (c : Cursor) (b : Block) (next : ℕ) → Granted c b → (n : ℕ) → is_some (slot_at c.table n) ≡ true
-    → slot_at (advanced c b next).table n ≡ slot_at c.table n
+    → slot_at (advanced c (Ok b) next).table n ≡ slot_at c.table n
 advanced_slots c (Plain address from size) next p n h = refl
 advanced_slots c (Relocatable reserves number offset from size) next p n h = set_slots c.table number (slot_for c offset size) p.passes n h
 advanced_slots c (Update source from) next p n h = refl
@@ -118,8 +118,8 @@ stepped_grown : (file : List ℕ) (y : Progress) (b : Block) (es : List Event) (
 stepped_grown file y b es next p =
     record {
       slots = advanced_slots y.cursor b next p;
-      longer = omega (arith, length-append y.addresses (address_in b));
-      addresses = λ i h. get_or-append y.addresses (address_in b) 0 i h;
+      longer = omega (arith, length-append y.addresses (address_in (Ok b)));
+      addresses = λ i h. get_or-append y.addresses (address_in (Ok b)) 0 i h;
     }
 
 -- the source of a body is known before it
@@ -141,7 +141,7 @@ module _ (file : List ℕ) (g : Inputs) (y : Progress) (lent : ℕ) (tabled : Ta
     (counted : Counted y.cursor y.names y.addresses) where
   -- what it did
   abbrev did : Block → List ℕ → Ran Stop
-  did b map = applied file g.addresses y.addresses y.cursor b map
+  did b map = applied file g.addresses y.addresses y.cursor (Ok b) map
 
   module _ (map : List ℕ) (next : ℕ) where
     -- the progress after it
@@ -183,7 +183,7 @@ module _ (file : List ℕ) (g : Inputs) (y : Progress) (lent : ℕ) (tabled : Ta
 applied_lawful : (file lent own : List ℕ) (c : Cursor) (b : Block) (map : List ℕ) (n k : ℕ) → length map ≡ 65536
     → Fits (length file) c n k b
     → Granted c b
-    → Lawful map (applied file lent own c b map).events
+    → Lawful map (applied file lent own c (Ok b) map).events
 applied_lawful file lent own c (Plain address from size) map n k l f p = (omega (arith, length_part file from size f.lies.1, p.passes), tt)
 applied_lawful file lent own c (Relocatable true number offset from size) map n k l f p = (omega (arith, f.lies.2), tt)
 applied_lawful file lent own c (Relocatable false number offset from size) map n k l f p =
@@ -236,18 +236,18 @@ keeps_first file g =
 stepped_keeps : (file : List ℕ) (g : Inputs) (y : Progress) (b : Block) (es : List Event) (next : ℕ)
     → Fits (length file) y.cursor (length g.names / 8) (length y.names / 8) b
     → Granted y.cursor b
-    → (applied file g.addresses y.addresses y.cursor b (marks es blank)).answer ≡ done next
+    → (applied file g.addresses y.addresses y.cursor (Ok b) (marks es blank)).answer ≡ done next
     → Keeps file g y es
-    → Keeps file g (stepped file y b (applied file g.addresses y.addresses y.cursor b (marks es blank)).events next)
-    (es ++ (applied file g.addresses y.addresses y.cursor b (marks es blank)).events)
+    → Keeps file g (stepped file y b (applied file g.addresses y.addresses y.cursor (Ok b) (marks es blank)).events next)
+    (es ++ (applied file g.addresses y.addresses y.cursor (Ok b) (marks es blank)).events)
 unfolding events_of names_of addresses_of
 stepped_keeps file g y b es next f p e h =
     let map = marks es blank in
     let n : length map ≡ 65536 = length_marks es blank ∙ length_blank in
-    let fs = (applied file g.addresses y.addresses y.cursor b map).events in
+    let fs = (applied file g.addresses y.addresses y.cursor (Ok b) map).events in
     let z = stepped file y b fs next in
-    let x = applied_ends file g.addresses y.addresses y.cursor b map _ _ f next e in
-    let at = advanced_at file g.addresses y.addresses y.cursor b map next e in
+    let x = applied_ends file g.addresses y.addresses y.cursor (Ok b) map _ _ f next e in
+    let at = advanced_at file g.addresses y.addresses y.cursor (Ok b) map next e in
     record {
       lawful = lawful_append blank es fs h.lawful (applied_lawful file g.addresses y.addresses y.cursor b map _ _ n f p);
       effects = ap (λ (gs : List Event). gs ++ fs) h.effects;
@@ -258,10 +258,10 @@ stepped_keeps file g y b es next f p e h =
         },
         each_map (ruled_grown file g y z (stepped_grown file y b fs next p)) y.effects h.ruled,
       );
-      names = ap (λ (l : List ℕ). l ++ name_in file b) h.names;
-      addresses = ap (λ (l : List ℕ). l ++ address_in b) h.addresses;
-      counted = counted_on file y.cursor b next _ _ y.names y.addresses f h.counted;
-      tabled = tabled_on y.cursor b next _ _ _ f h.tabled;
+      names = ap (λ (l : List ℕ). l ++ name_in file (Ok b)) h.names;
+      addresses = ap (λ (l : List ℕ). l ++ address_in (Ok b)) h.addresses;
+      counted = counted_on file y.cursor (Ok b) next _ _ y.names y.addresses f h.counted;
+      tabled = tabled_on y.cursor (Ok b) next _ _ _ f h.tabled;
       passed = behind_on (length file) y.cursor z.cursor es fs (rw at x) h.passed;
     }
 
@@ -276,7 +276,7 @@ module _ (file : List ℕ) (g : Inputs) (top : g.high ≤ 65535) (bytes : Bytes 
       let l = turn_led file g y (marks es blank) z e in
       let p = IfOk-at_ok (Granted y.cursor) l.read_as (read_granted file g.high g.names y.names y.cursor bytes) in
       let kept = stepped_keeps file g y l.found es l.next (block_fits file g top y l.read_as) p l.done_at h in
-      rw l.events (subst (λ (w : Progress). Keeps file g w (es ++ (applied_at file g y l.found (marks es blank)).events)) l.leads_to kept)
+      rw l.events (subst (λ (w : Progress). Keeps file g w (es ++ (applied_at file g y (Ok l.found) (marks es blank)).events)) l.leads_to kept)
 
   -- so it holds of every file that is accepted
   pub judged_keeps : (z : Progress) → (judged file g).answer ≡ finished z → Keeps file g z (judged file g).events

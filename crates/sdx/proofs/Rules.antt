@@ -37,7 +37,7 @@ use Rattle.sdx.specs.Rules.{Does, Breaks, NextBlock, Follows, Fails, in_opening,
 module _ (file : List ℕ) (g : Inputs) (y : Progress) (map : List ℕ) where
   -- what a block comes to
   abbrev comes : Block → Ran Stop
-  comes found = applied file g.addresses y.addresses y.cursor found map
+  comes found = applied file g.addresses y.addresses y.cursor (Ok found) map
 
   -- what is done has an end and events
   done_is : (o : Ran Stop) {end : ℕ} → o.answer ≡ done end → o ≡ record { answer = done end; events = o.events }
@@ -90,19 +90,19 @@ module _ (file : List ℕ) (g : Inputs) (y : Progress) (map : List ℕ) where
 module _ (file : List ℕ) (g : Inputs) (top : g.high ≤ 65535) where
   -- a block that is done is not at the file's end
   done_more : (y : Progress) {found : Block} → block_at file g y ≡ Ok found → (map : List ℕ) (end : ℕ)
-      → (applied_at file g y found map).answer ≡ done end
+      → (applied_at file g y (Ok found) map).answer ≡ done end
       → y.cursor.at ≡ length file
       → ⊥
   unfolding applied_at
   done_more y {found} is map end e at =
-      let x = applied_ends file g.addresses y.addresses y.cursor found map _ _ (block_fits file g top y is) end e in
+      let x = applied_ends file g.addresses y.addresses y.cursor (Ok found) map _ _ (block_fits file g top y is) end e in
       omega (arith, x.further, x.inside, at)
 
   step_turn : (y z : Progress) (es fs : List Event) → NextBlock file g y es z fs → turn file g y (marks es blank) ≡ record { answer = leads z; events = fs }
   unfolding applied_at
   step_turn y z es fs x =
       let p = marks es blank in
-      let e : applied_at file g y x.found p ≡ record { answer = done x.end; events = fs } = does_applied file g y p x.found x.end fs x.does in
+      let e : applied_at file g y (Ok x.found) p ≡ record { answer = done x.end; events = fs } = does_applied file g y p x.found x.end fs x.does in
       turn_block file g y p (done_more y x.is p x.end (ap (λ (o : Ran Stop). o.answer) e))
       ∙ ap (λ (r : Result Block Failure). carried file g y r p) x.is
       ∙ ap (λ (o : Ran Stop). record { answer = judge file y x.found o.events o.answer; events = o.events }) e

@@ -2,7 +2,7 @@
 -- (Rules.antt). Proved in proofs/Demand2.antt: `demand2` of the definition, of every file, all settings and every memory; `call_demand2 : Claim` of
 -- every call that keeps the loader's contract.
 -- Assumes nothing.
-use Rattle.std.specs.Prelude.{Bool, true, false, ◌&&◌, List, [], ◌∷◌, ◌++◌, ◌≡◌, ℕ, ◌+◌, ◌*◌, ◌≤◌, ◌<◌, length, get_or, Option}
+use Rattle.std.specs.Prelude.{Bool, true, false, ◌&&◌, List, [], ◌∷◌, ◌++◌, ◌≡◌, ℕ, ◌+◌, ◌*◌, ◌≤◌, ◌<◌, length, get_or, Option, Ok}
 use Rattle.answer.specs.Report.{Outcome, acceptance}
 use Rattle.blocks.specs.Blocks.{amount_of}
 use Rattle.blocks.specs.declared.Block.{Block}
@@ -100,12 +100,12 @@ events_of (d ∷ ds) = events_of ds ++ d.events
 -- the names that they brought
 unfoldable pub names_of : List ℕ → List Effect → List ℕ
 names_of file [] = []
-names_of file (d ∷ ds) = names_of file ds ++ name_in file d.block
+names_of file (d ∷ ds) = names_of file ds ++ name_in file (Ok d.block)
 
 -- and the addresses of these
 unfoldable pub addresses_of : List Effect → List ℕ
 addresses_of [] = []
-addresses_of (d ∷ ds) = addresses_of ds ++ address_in d.block
+addresses_of (d ∷ ds) = addresses_of ds ++ address_in (Ok d.block)
 
 -- What a load leaves that accepted a file, after the events es: it found memory m, left m' and the map p', and reported the two counts.
 pub record Demand2 (file : List ℕ) (g : Inputs) (z : Progress) (es : List Event) (m m' p' : List ℕ) (placed adjusted : ℕ) : Type 0 where

@@ -24,7 +24,7 @@ use Rattle.sdx.specs.Call.{in_range, opening, load}
 -- a block that is no body does this over the map, and ends there
 abbrev pub AtOnce : List ℕ → Inputs → Progress → List ℕ → Block → ℕ → List Event → Type 0
 AtOnce file g y map found end fs =
-    applied file g.addresses y.addresses y.cursor found map ≡ record { answer = done end; events = fs }
+    applied file g.addresses y.addresses y.cursor (Ok found) map ≡ record { answer = done end; events = fs }
 
 -- any block; a body does it item by item
 abbrev pub Does : List ℕ → Inputs → Progress → List ℕ → Block → ℕ → List Event → Type 0
