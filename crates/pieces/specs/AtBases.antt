@@ -47,7 +47,7 @@ ending at b entry next file_length =
     (need failed (leb file_length next) BytesAfterEnd next
     (passed []))
 
--- what was read lies below an offset: a record does; a fault, for which there is none, lies nowhere
+-- the record that was read, if one was, lies below an offset
 abbrev pub EndsBy : ℕ → Read → Type 0
 EndsBy limit (Ok (Code kind address from n)) = from + n ≤ limit
 EndsBy limit (Ok (Fixups fixup from n)) = from + n ≤ limit

@@ -240,7 +240,7 @@ gathers_lent file target t fixup from k l j h =
     let i : length (mid_of from (from + k - from) file) ≡ k = ap length items ∙ length_part file from k h.0 in
     (omega (arith, i, l, h.0), rw (n, items) h.1)
 
--- of a record that may be gathered: its fields lie in the code that is lent
+-- the items that are lent of a record that may be gathered, and the code that is then lent
 pub gathers_inside : (file : List ℕ) (target : Cursor) (t : List ℕ) (r : Record) → Sound file target.size r → {fixup : Fixup} {from k : ℕ} {items : List ℕ}
     → r ≡ Fixups fixup from k → items ≡ part file from k
     → target.place + target.size ≤ length t
