@@ -11,6 +11,7 @@ use lib.Seq.{take-length}
 use Rattle.std.proofs.Common.{Result, Ok, Err}
 use Rattle.std.proofs.lemmas.Result.{IfOk-at_ok}
 use Rattle.std.specs.Prelude.{IfOk}
+use Rattle.answer.proofs.Faults.{OfFile, of_file_located}
 use Rattle.answer.specs.declared.Failure.{Failure}
 use Rattle.answer.specs.declared.Fault.TheVariants.{CutShort}
 use Rattle.blocks.proofs.Lying.{BlockFaults, read_lies}
@@ -201,6 +202,17 @@ module _ {file : List ℕ} {g : Inputs} {write : Bool} {b : Buffers} where
     -- what the program reads is the definition's
     read_is : {r : Result Block Failure} → r ≡ read file g.high g.names (mid_of 0 (8 * c.named - 0) b'.names) c → block_at file g here ≡ r
     read_is e = sym (e ∙ ap (λ (l : List ℕ). read file g.high g.names l c) own_names)
+
+    -- what is no block ends the walk with its fault
+    pub going_unread : {e : Failure} → (c.at ≡ length file → ⊥) → Err e ≡ read file g.high g.names (mid_of 0 (8 * c.named - 0) b'.names) c
+        → Walked (blocks_of file g) write b (Err e) b'
+    going_unread {e} more as_read =
+        let i = read_is as_read in
+        let w : OfFile (length file) e.fault e.offset = subst (λ (r : Result Block Failure). BlockFaults (length file) r) i (read_faulty file g x.lent.top here) in
+        let t = turn_block file g here (marks x.events blank) more
+        ∙ ap (λ (r : Result Block Failure). carried file g here r (marks x.events blank)) i in
+        let reached : Reached (x.events ++ []) write b.memory blank b'.memory b'.map = rw (append-nil x.events) x.reached in
+        stops_with t reached (of_file_located w).within
 
     module _ {found : Result Block Failure} (as_read : found ≡ read file g.high g.names (mid_of 0 (8 * c.named - 0) b'.names) c) where
       abbrev Fit : Block → Type 0

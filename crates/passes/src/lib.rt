@@ -103,13 +103,28 @@ pub fn walk(
         }
         let named = cursor.named;
         let size = names::NAME * named;
-        let found = blocks::read(file, lent.high, lent.names, &new_names[0..size], cursor);
+        let found = blocks::read(file, lent.high, lent.names, &new_names[0..size], cursor)?;
         let own = &new_addresses[0..named];
-        let done = effects::apply(file, found, cursor, lent.addresses, own, write, memory, map)?;
-        effects::store_name(file.part(0, end), found, named, new_names, new_addresses);
-        bytes += effects::placed_by(found);
+        let done = effects::apply(
+            file,
+            Ok(found),
+            cursor,
+            lent.addresses,
+            own,
+            write,
+            memory,
+            map,
+        )?;
+        effects::store_name(
+            file.part(0, end),
+            Ok(found),
+            named,
+            new_names,
+            new_addresses,
+        );
+        bytes += effects::placed_by(Ok(found));
         fields += done.adjusted;
-        cursor = effects::advance(cursor, found, done.next);
+        cursor = effects::advance(cursor, Ok(found), done.next);
     }
 }
 
