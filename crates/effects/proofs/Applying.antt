@@ -14,7 +14,7 @@ use Rattle.words.proofs.Runs.{length_part}
 use Rattle.words.specs.Runs.{part, put}
 use Rattle.effects.specs.Parts.{NameStored}
 
--- a block that brings no name changes no room
+-- a block that brings no name, or what is no block, changes no room
 pub stored_none : (file : List ℕ) (found : Result Block Failure) (named : ℕ) (ns ads : List ℕ)
     → ((from address : ℕ) → found ≡ Ok (NewName from address) → ⊥)
     → NameStored file found named ns ads ns ads

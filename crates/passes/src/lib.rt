@@ -115,6 +115,7 @@ pub fn walk(
             memory,
             map,
         )?;
+        // (it takes the bytes of a file of any length)
         effects::store_name(
             file.part(0, end),
             Ok(found),

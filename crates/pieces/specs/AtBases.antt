@@ -1,4 +1,5 @@
--- One record at its bases: what is left to check once it is read (`records`), against the map as the records before it left it.
+-- What was read of a file (`records`), a record or the fault for which it is none, at its bases: what is left to check, against the map as the records
+-- before it left it.
 -- Each check names its offset by document 02, wish 6: "in .. fixup lists the item, .. for 10 and 17 the address .., for 19 the first byte too many,
 -- for 20 the start's first byte".
 -- Assumes nothing.

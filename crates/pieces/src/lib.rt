@@ -1,4 +1,5 @@
-// The pieces of a handler at a pair of bases: where code goes and what is put on a field; one record checked against the map and carried out.
+// The pieces of a handler at a pair of bases: where code goes and what is put on a field; what was read of a file, a
+// record or the fault for which it is none, checked against the map and carried out.
 #![tactic(auto)]
 
 ghost use Rattle.std.specs.Prelude.{[], ◌∷◌, ◌≡◌, ◌+◌, ◌<◌, ◌≤◌, length, replicate};

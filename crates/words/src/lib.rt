@@ -104,7 +104,8 @@ pub fn fill(bytes: &mut [u8], byte: u8)
     bytes.fill(byte);
 }
 
-// Puts all of `from` into a run as long. (Not by `copy_from_slice`, which calls C's `memmove`: the library for C would need that from outside.)
+// Puts all of `from` into a run as long. (Not by `copy_from_slice`: for a run of any length it calls C's `memmove`, which the library for C would then need
+// from outside.)
 #[tactic(auto, using(crate::proofs::Turns::copy_more, crate::proofs::Turns::copy_all))]
 pub fn copy(to: &mut [u8], from: &[u8])
     requires { length from.now ≡ length to.old }
