@@ -104,28 +104,15 @@ pub fn walk(
         let named = cursor.named;
         let size = names::NAME * named;
         let found = blocks::read(file, lent.high, lent.names, &new_names[0..size], cursor)?;
+        let block = Ok(found);
         let own = &new_addresses[0..named];
-        let done = effects::apply(
-            file,
-            Ok(found),
-            cursor,
-            lent.addresses,
-            own,
-            write,
-            memory,
-            map,
-        )?;
+        let done = effects::apply(file, block, cursor, lent.addresses, own, write, memory, map)?;
         // (it takes the bytes of a file of any length)
-        effects::store_name(
-            file.part(0, end),
-            Ok(found),
-            named,
-            new_names,
-            new_addresses,
-        );
-        bytes += effects::placed_by(Ok(found));
+        let all = file.part(0, end);
+        effects::store_name(all, block, named, new_names, new_addresses);
+        bytes += effects::placed_by(block);
         fields += done.adjusted;
-        cursor = effects::advance(cursor, Ok(found), done.next);
+        cursor = effects::advance(cursor, block, done.next);
     }
 }
 

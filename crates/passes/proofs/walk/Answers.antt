@@ -44,7 +44,7 @@ returns-in_err-done c =
 
 pub store_name-requires : goal.store_name-requires
 store_name-requires c =
-    rw (whole c.part.ensures c.len-end.ensures.length) (name_fits c.loop-cursor.invariant (sym c.in_ok-found.was ∙ c.read.ensures.value))
+    rw (whole c.part-all.ensures c.len-end.ensures.length) (name_fits c.loop-cursor.invariant (sym c.in_ok-found.was ∙ c.read.ensures.value))
 
 -- both counts with the block's own stay within the file
 pub overflow_add-fields : goal.overflow_add-fields
@@ -69,4 +69,4 @@ pub loop-cursor-preserved : goal.loop-cursor-preserved
 loop-cursor-preserved c =
     rw (c.advance-cursor.ensures, c.placed_by-bytes.ensures)
     (going_on c.loop-cursor.invariant (sym c.in_ok-found.was ∙ c.read.ensures.value) (rw c.len-end.ensures.length at c.if-cursor-end.false) c.apply.ensures c.in_ok-done.was _ _
-    (rw (whole c.part.ensures c.len-end.ensures.length) at c.store_name.ensures))
+    (rw (whole c.part-all.ensures c.len-end.ensures.length) at c.store_name.ensures))
