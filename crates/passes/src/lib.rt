@@ -54,13 +54,14 @@ impl<'a> Inputs<'a> {
     }
 }
 
-// What a walk to the file's end comes to: low, the number of new names, the bytes placed and the fields adjusted.
+// What a walk to the file's end comes to: the number of new names, the bytes placed, the fields adjusted, and low. (Low is last, for speed: a fault, which comes in
+// place of these, begins where the first of them does, and would be a number of 16 bits there in the loop of a body.)
 #[derive(Clone, Copy)]
 pub struct Totals {
-    pub low: u16,
     pub named: usize,
     pub placed: usize,
     pub adjusted: usize,
+    pub low: u16,
 }
 
 // How a walk ends: at the file's end, or with a fault at an offset.
@@ -107,7 +108,7 @@ pub fn walk(
         let block = Ok(found);
         let own = &new_addresses[0..named];
         let done = effects::apply(file, block, cursor, lent.addresses, own, write, memory, map)?;
-        // (it takes the bytes of a file of any length)
+        // (`store_name` takes the bytes of a file of any length)
         let all = file.part(0, end);
         effects::store_name(all, block, named, new_names, new_addresses);
         bytes += effects::placed_by(block);
